@@ -1,0 +1,8 @@
+/// The flags of a symbol (ORC: `JITSymbolFlags`). A weak or common definition isn't strong.
+#[derive(Clone, Copy, Debug, PartialEq, Eq)]
+pub struct SymFlags {
+    pub weak: bool,
+    pub common: bool,
+    pub exported: bool,
+    pub callable: bool,
+}
