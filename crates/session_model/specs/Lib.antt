@@ -1,0 +1,13 @@
+pub mod Lists
+pub mod Meaning
+pub mod Plain
+pub mod Match
+pub mod Reach
+pub mod Query
+pub mod Change
+pub mod State
+pub mod Answer
+pub mod History
+pub mod Owed
+pub mod Seat
+pub mod Calls

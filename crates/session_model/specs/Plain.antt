@@ -1,0 +1,158 @@
+-- The plain session: lists without an index (ORC: an execution session).
+use Rattle.std.specs.Prelude.{ℕ, ◌+◌, Bool, true, false, ◌&&◌, ◌==◌, nat_lt, not, List, [], ◌∷◌, length, slice_get, count_by, Option, Some, None, is_some, option_map, map, if◌then◌else◌}
+use Rattle.std.specs.Option.{option_map_or}
+use Rattle.orc_ids.specs.declared.ids.InstId.{InstId}
+use Rattle.orc_ids.specs.declared.lookup.Level.{Level}
+use Rattle.orc_ids.specs.declared.lookup.OrderItem.{OrderItem}
+use Rattle.session_model.specs.Meaning.{Meaning, Bindings}
+use Rattle.session_model.specs.declared.rows.InstRow.{InstRow}
+use Rattle.session_model.specs.declared.rows.Job.{Job}
+use Rattle.session_model.specs.declared.rows.Phase.{Phase}
+use Rattle.session_model.specs.declared.rows.Phase.TheVariants.{Unsearched, Resolved, Emitted, Failed}
+use Rattle.session_model.specs.declared.rows.UnitPhase.{UnitPhase}
+use Rattle.session_model.specs.declared.rows.UnitPhase.TheVariants as stage
+
+-- a dylib, and where its units' externals are looked up (ORC: JITDylib, its link order)
+pub record Dylib : Type 0 where
+  pub name : ℕ
+  pub order : List OrderItem
+
+-- a tracker (ORC: ResourceTracker)
+pub record Track : Type 0 where
+  pub dylib : ℕ
+  pub gone : Bool
+
+-- a unit (ORC: MaterializationUnit, and MaterializationResponsibility for its seat)
+pub record UnitRow : Type 0 where
+  pub meaning : Meaning
+  pub tracker : ℕ
+  -- which of its offered names are its own
+  pub live : List Bool
+  pub phase : UnitPhase
+  -- the seat that holds it
+  pub seat : Option ℕ
+  -- where it is placed
+  pub base : Option ℕ
+  -- its link query
+  pub query : Option ℕ
+  -- its bindings, once its job Finish was handed out with them
+  pub bound : Option Bindings
+
+-- a generator (ORC: DefinitionGenerator)
+pub record GenRow : Type 0 where
+  pub dylib : ℕ
+  pub tracker : ℕ
+  pub meaning : Meaning
+  pub spent : Bool
+
+-- a query (ORC: AsynchronousSymbolQuery)
+pub record Query : Type 0 where
+  -- the number of its entry
+  pub asked : ℕ
+  pub matched : List (Option InstId)
+  pub level : Level
+  -- the unit that it links, if it does
+  pub unit : Option ℕ
+  -- the note of its notifier, if it has one
+  pub note : Option ℕ
+
+-- a range of code memory
+pub record Range : Type 0 where
+  pub base : ℕ
+  pub need : ℕ
+
+pub record Plain : Type 0 where
+  -- how many entries led here
+  pub entries : ℕ
+  pub dylibs : List Dylib
+  pub trackers : List Track
+  pub rows : List InstRow
+  pub units : List UnitRow
+  pub generators : List GenRow
+  pub queries : List Query
+  -- oldest first
+  pub jobs : List Job
+  -- the ranges that were ever placed
+  pub taken : List Range
+
+-- the session before its first entry
+abbrev pub empty : Plain
+empty = record { entries = 0; dylibs = []; trackers = []; rows = []; units = []; generators = []; queries = []; jobs = []; taken = [] }
+
+abbrev pub has_dylib : Plain → ℕ → Bool
+has_dylib m d = nat_lt d (length m.dylibs)
+
+-- the tracker is there, and not gone
+abbrev pub has_tracker : Plain → ℕ → Bool
+has_tracker m t = option_map_or (λ x. not x.gone) (slice_get m.trackers t) false
+
+-- the tracker is there, and of this dylib
+abbrev pub is_tracker_of : Plain → ℕ → ℕ → Bool
+is_tracker_of m d t = option_map_or (λ x. not x.gone && x.dylib == d) (slice_get m.trackers t) false
+
+-- the dylib of a tracker
+abbrev pub tracker_dylib : Plain → ℕ → ℕ
+tracker_dylib m t = option_map_or (λ x. x.dylib) (slice_get m.trackers t) 0
+
+-- the tracker of a unit
+abbrev pub unit_tracker : Plain → ℕ → Option ℕ
+unit_tracker m u = option_map (λ x. x.tracker) (slice_get m.units u)
+
+-- how many units are held
+abbrev pub kept : Plain → ℕ
+kept m = count_by (λ x. is_some x.seat) m.units
+
+abbrev pub is_unsearched : Phase → Bool
+is_unsearched Unsearched = true
+is_unsearched _ = false
+
+abbrev pub is_failed : Phase → Bool
+is_failed Failed = true
+is_failed _ = false
+
+abbrev pub is_emitted : Phase → Bool
+is_emitted (Emitted address deps) = true
+is_emitted _ = false
+
+-- an instance has an address from Resolved on
+abbrev pub phase_address : Phase → Option ℕ
+phase_address (Resolved address) = Some address
+phase_address (Emitted address deps) = Some address
+phase_address _ = None
+
+-- the dependencies recorded for an instance
+abbrev pub phase_deps : Phase → List ℕ
+phase_deps (Emitted address deps) = map (λ (i : InstId). i.0) deps
+phase_deps _ = []
+
+-- something of an instance's row, where there is one
+abbrev pub row_test : (InstRow → Bool) → List InstRow → ℕ → Bool
+row_test test rows i = option_map_or test (slice_get rows i) false
+
+abbrev pub failed_at : List InstRow → ℕ → Bool
+failed_at rows i = row_test (λ r. is_failed r.phase) rows i
+
+abbrev pub present_at : List InstRow → ℕ → Bool
+present_at rows i = row_test (λ r. r.present) rows i
+
+abbrev pub emitted_at : List InstRow → ℕ → Bool
+emitted_at rows i = row_test (λ r. is_emitted r.phase) rows i
+
+abbrev pub unsearched_at : List InstRow → ℕ → Bool
+unsearched_at rows i = row_test (λ r. is_unsearched r.phase) rows i
+
+abbrev pub address_at : List InstRow → ℕ → Option ℕ
+address_at rows i = option_map_or (λ r. phase_address r.phase) (slice_get rows i) None
+
+-- the row is of the unit, which still offers it
+abbrev pub is_owned : ℕ → InstRow → Bool
+is_owned u r = r.present && r.unit.0 == u
+
+-- the unit's instances, in order
+abbrev pub own_rows : ℕ → ℕ → List InstRow → List InstId
+own_rows u k [] = []
+own_rows u k (r ∷ rs) = if is_owned u r then record { 0 = k } ∷ own_rows u (k + 1) rs else own_rows u (k + 1) rs
+
+abbrev pub is_defunct : UnitPhase → Bool
+is_defunct stage.Defunct = true
+is_defunct _ = false
