@@ -5,6 +5,7 @@ pub mod Match
 pub mod Reach
 pub mod Query
 pub mod Change
+pub mod Memory
 pub mod State
 pub mod Answer
 pub mod History
