@@ -1,0 +1,4 @@
+pub mod Fields
+pub mod Halves
+pub mod Numbers
+pub mod Writers
