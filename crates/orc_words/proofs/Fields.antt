@@ -1,6 +1,6 @@
 -- What the parts of a word are after one part was replaced.
 use Rattle.std.proofs.Common.{◌≡◌, ℕ, ◌+◌, ◌-◌, ◌*◌, ◌/◌, ◌%◌, ◌^◌, ◌<◌, ◌≤◌, ◌⊎◌, inl, inr, bit_and, refl, sym, ap, subst, ◌∙◌, arith}
-use Rattle.std.proofs.Math.Nat.{add-mul, mul_assoc, mul_comm, mod-lt, mod-eq_of_lt}
+use Rattle.std.proofs.Math.Nat.{add-mul, mul_assoc, mul_comm, mod-lt, mod-eq_of_lt, div-one}
 use Rattle.std.proofs.lemmas.Nat.{pow_pos, pow-add, shr-shr, shr_high, mod_low, shr_split, mod-pow-add, field_of, mul-add-lt, shr_below, one_shl, and_mask}
 use Rattle.std.specs.Int.{bit_at}
 use Rattle.orc_words.specs.Bits.{bits_at, with_bits}
@@ -9,6 +9,11 @@ use Rattle.orc_words.specs.Bits.{bits_at, with_bits}
 pub bits_at-lt : (low count word : ℕ) → bits_at low count word < 2 ^ count
 unfolding bits_at
 bits_at-lt low count word = mod-lt (word / 2 ^ low) (pow_pos count)
+
+-- the lowest bits are a remainder
+pub bits_at-lowest : (n p : ℕ) → bits_at 0 n p ≡ p % 2 ^ n
+unfolding bits_at
+bits_at-lowest n p = ap (λ (x : ℕ). x % 2 ^ n) (div-one p)
 
 -- one bit is a part of one bit
 pub bit_at-part : (word i : ℕ) → bit_at word i ≡ bits_at i 1 word
@@ -32,7 +37,7 @@ unfolding with_bits
 with_form low count word part =
     let high : ℕ = word / 2 ^ (low + count) in
     let turned : high * 2 ^ (low + count) ≡ high * 2 ^ count * 2 ^ low =
-        ap (λ (x : ℕ). high * x) (pow-add 2 low count ∙ mul_comm (2 ^ low) (2 ^ count)) ∙ sym (mul_assoc high (2 ^ count) (2 ^ low)) in
+    ap (λ (x : ℕ). high * x) (pow-add 2 low count ∙ mul_comm (2 ^ low) (2 ^ count)) ∙ sym (mul_assoc high (2 ^ count) (2 ^ low)) in
     let spread = add-mul (high * 2 ^ count) part (2 ^ low) in
     omega (arith, turned, spread)
 
@@ -67,9 +72,9 @@ bits_at-with_above at n low count word part h above =
     let place : at ≡ low + count + gap = omega arith in
     let new : ℕ = with_bits low count word part in
     let shifted : new / 2 ^ at ≡ word / 2 ^ at =
-        ap (λ (x : ℕ). new / 2 ^ x) place ∙ sym (shr-shr new (low + count) gap)
-        ∙ ap (λ (x : ℕ). x / 2 ^ gap) (with_above low count word part h)
-        ∙ shr-shr word (low + count) gap ∙ ap (λ (x : ℕ). word / 2 ^ x) (sym place) in
+    ap (λ (x : ℕ). new / 2 ^ x) place ∙ sym (shr-shr new (low + count) gap)
+    ∙ ap (λ (x : ℕ). x / 2 ^ gap) (with_above low count word part h)
+    ∙ shr-shr word (low + count) gap ∙ ap (λ (x : ℕ). word / 2 ^ x) (sym place) in
     ap (λ (x : ℕ). x % 2 ^ n) shifted
 
 -- a part that lies in the low bits is a part of them
@@ -110,11 +115,11 @@ with_bits-lt width low count word part inside hw hp =
     let new : ℕ = with_bits low count word part in
     let below : word < 2 ^ (gap + (low + count)) = subst (λ (x : ℕ). word < 2 ^ x) place hw in
     let high : new / 2 ^ (low + count) < 2 ^ gap =
-        subst (λ (x : ℕ). x < 2 ^ gap) (sym (with_above low count word part hp)) (shr_below word gap (low + count) below) in
+    subst (λ (x : ℕ). x < 2 ^ gap) (sym (with_above low count word part hp)) (shr_below word gap (low + count) below) in
     let rest : new % 2 ^ (low + count) < 2 ^ (low + count) = mod-lt new (pow_pos (low + count)) in
     let whole = mul-add-lt (new / 2 ^ (low + count)) (2 ^ (low + count)) (new % 2 ^ (low + count)) (2 ^ gap) high rest in
     let power : 2 ^ width ≡ 2 ^ (low + count) * 2 ^ gap =
-        ap (λ (x : ℕ). 2 ^ x) place ∙ pow-add 2 gap (low + count) ∙ mul_comm (2 ^ gap) (2 ^ (low + count)) in
+    ap (λ (x : ℕ). 2 ^ x) place ∙ pow-add 2 gap (low + count) ∙ mul_comm (2 ^ gap) (2 ^ (low + count)) in
     let joined = shr_split new (low + count) in
     omega (arith, whole, power, joined)
 

@@ -1,4 +1,4 @@
 pub mod Fields
-pub mod Halves
+pub mod Complement
 pub mod Numbers
 pub mod Writers

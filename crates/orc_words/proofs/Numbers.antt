@@ -1,11 +1,11 @@
 -- Numbers in bytes: the crate's words and those of `byteorder`, and what a write leaves.
-use Rattle.std.proofs.Common.{◌≡◌, ℕ, zero, suc, ◌+◌, ◌-◌, ◌*◌, ◌/◌, ◌%◌, ◌^◌, ◌<◌, ◌≤◌, ◌⊎◌, inl, inr, List, [], ◌∷◌, ◌++◌, length, take, drop, set, get_or, slice_index, refl, sym, ap, subst, ◌∙◌, arith, add_assoc, add-zero, zero-add}
-use Rattle.std.proofs.Math.Nat.{mul_assoc, mul_comm, mul-add, pow-suc, add-mul, div-one}
-use Rattle.std.proofs.lemmas.Nat.{pow-add, shr-shr}
+use Rattle.std.proofs.Common.{◌≡◌, ℕ, zero, suc, ◌+◌, ◌-◌, ◌*◌, ◌/◌, ◌%◌, ◌^◌, ◌<◌, ◌≤◌, ◌⊎◌, inl, inr, List, ◌++◌, length, take, drop, set, get_or, slice_index, refl, sym, ap, subst, ◌∙◌, arith, add_assoc, add_comm, add-zero, zero-add}
+use Rattle.std.proofs.Math.Nat.{mul_assoc, mul_comm, mul-add, pow-suc, div-one}
+use Rattle.std.proofs.lemmas.Nat.{pow-add, mul-add-lt}
 use Rattle.std.proofs.lemmas.List.{get_or-drop, get_or-take, get_or_append_left, get_or-append_right, length-take-le, get_or-set_same}
 use Rattle.std.proofs.lemmas.Bool.{cases_lt}
 use Rattle.std.proofs.lemmas.Bool.Decides.{nat_tests}
-use Rattle.std.proofs.Common.{length-append, length-drop, length-set}
+use Rattle.std.proofs.Common.{length-set}
 use Rattle.std.specs.Int.{byte_at, bytes_low_first}
 use Rattle.byteorder.specs.Endian.{little_from}
 use Rattle.byteorder.specs.Numbers.{length-bytes_low_first, little_from-take}
@@ -13,7 +13,7 @@ use borrow.Rule.Slice.PartMut.{mid_of, mid_len, put_mid, post_of}
 use mathlib.Core.Path.{fun_ext}
 use Rattle.orc_words.specs.Bits.{bits_at}
 use Rattle.orc_words.specs.Numbers.{number_at, byte_of, with_number}
-use Rattle.orc_words.proofs.Fields.{bits_at-low_of}
+use Rattle.orc_words.proofs.Fields.{bits_at-lt, bits_at-lowest, bits_at-split, bits_at-low_of}
 
 -- a power of 256 is one of two
 pow_256 : (k : ℕ) → 256 ^ k ≡ 2 ^ (8 * k)
@@ -30,7 +30,7 @@ number_at-first (suc w) bytes at =
     let place : at + suc w ≡ suc at + w = omega arith in
     let power : 2 ^ (8 * suc w) ≡ 2 ^ (8 * w) * 256 = ap (λ (x : ℕ). 2 ^ x) (omega arith) ∙ pow-add 2 (8 * w) 8 in
     let turned : bytes (suc at + w) * (2 ^ (8 * w) * 256) ≡ 256 * (bytes (suc at + w) * 2 ^ (8 * w)) =
-        sym (mul_assoc (bytes (suc at + w)) (2 ^ (8 * w)) 256) ∙ mul_comm (bytes (suc at + w) * 2 ^ (8 * w)) 256 in
+    sym (mul_assoc (bytes (suc at + w)) (2 ^ (8 * w)) 256) ∙ mul_comm (bytes (suc at + w) * 2 ^ (8 * w)) 256 in
     let spread = mul-add 256 (number_at w bytes (suc at)) (bytes (suc at + w) * 2 ^ (8 * w)) in
     rw (ih, place, power, turned, spread) (add_assoc (bytes at) (256 * number_at w bytes (suc at)) (256 * (bytes (suc at + w) * 2 ^ (8 * w))))
 
@@ -80,24 +80,24 @@ with_number-outside w at n bytes place outside = grind (arith, nat_tests)
 placed_at : (xs ys : List ℕ) (at k w n place : ℕ) → at + w ≤ length xs → k ≡ w → length ys ≡ w → ((j : ℕ) → j < w → get_or ys j 0 ≡ byte_of n j) → get_or (put_mid at k xs ys) place 0 ≡ with_number w at n (slice_index xs) place
 placed_at xs ys at k w n place inside same len bytes =
     elim (cases_lt place at) [
-        inl before ↦
-            get_or_append_left (take at xs) (ys ++ post_of at k xs) 0 place (omega (arith, front))
-            ∙ get_or-take at xs place 0 before
-            ∙ sym (with_number-outside w at n (slice_index xs) place (inl before))
+      | inl before ↦
+          get_or_append_left (take at xs) (ys ++ post_of at k xs) 0 place (omega (arith, front))
+          ∙ get_or-take at xs place 0 before
+          ∙ sym (with_number-outside w at n (slice_index xs) place (inl before))
       | inr from ↦
-            get_or-append_right (take at xs) (ys ++ post_of at k xs) at place 0 front from
-            ∙ elim (cases_lt place (at + w)) [
-                inl below ↦
-                    get_or_append_left ys (post_of at k xs) 0 (place - at) (omega arith)
-                    ∙ bytes (place - at) (omega arith)
-                    ∙ sym (with_number-inside w at n (slice_index xs) place from below)
-              | inr after ↦
-                    get_or-append_right ys (post_of at k xs) w (place - at) 0 len (omega arith)
-                    ∙ get_or-drop k (drop at xs) (place - at - w) 0
-                    ∙ get_or-drop at xs (k + (place - at - w)) 0
-                    ∙ ap (λ (x : ℕ). get_or xs x 0) (omega arith)
-                    ∙ sym (with_number-outside w at n (slice_index xs) place (inr after))
-            ]
+          get_or-append_right (take at xs) (ys ++ post_of at k xs) at place 0 front from
+          ∙ elim (cases_lt place (at + w)) [
+            | inl below ↦
+                get_or_append_left ys (post_of at k xs) 0 (place - at) (omega arith)
+                ∙ bytes (place - at) (omega arith)
+                ∙ sym (with_number-inside w at n (slice_index xs) place from below)
+            | inr after ↦
+                get_or-append_right ys (post_of at k xs) w (place - at) 0 len (omega arith)
+                ∙ get_or-drop k (drop at xs) (place - at - w) 0
+                ∙ get_or-drop at xs (k + (place - at - w)) 0
+                ∙ ap (λ (x : ℕ). get_or xs x 0) (omega arith)
+                ∙ sym (with_number-outside w at n (slice_index xs) place (inr after))
+          ]
     ]
   where
     front : length (take at xs) ≡ at
@@ -121,9 +121,9 @@ placed_byte xs at width n low inside same e =
     let len : length part ≡ at + width - at = mid_len at (at + width) xs inside in
     placed xs (set part 0 low) at (at + width - at) width n inside (omega arith) (omega (arith, len, length-set part 0 low))
     (λ j h. let first : j ≡ 0 = omega arith in
-        ap (λ (x : ℕ). get_or (set part 0 low) x 0) first
-        ∙ get_or-set_same part 0 low 0 (omega (arith, len)) ∙ e ∙ byte_at-part 0 n
-        ∙ ap (λ (x : ℕ). bits_at (8 * x) 8 n) (sym first))
+    ap (λ (x : ℕ). get_or (set part 0 low) x 0) first
+    ∙ get_or-set_same part 0 low 0 (omega (arith, len)) ∙ e ∙ byte_at-part 0 n
+    ∙ ap (λ (x : ℕ). bits_at (8 * x) 8 n) (sym first))
 
 -- the number of `byteorder` in a part of a slice
 pub read_at : (width w at : ℕ) (xs : List ℕ) → width ≡ w → little_from 0 w (mid_of at (at + width - at) xs) ≡ number_at width (slice_index xs) at
@@ -131,3 +131,47 @@ read_at width w at xs e =
     little_from-take 0 w (at + width - at) (drop at xs) (omega arith)
     ∙ number_at-drop w 0 at xs ∙ ap (λ (x : ℕ). number_at w (slice_index xs) x) (add-zero at)
     ∙ ap (λ (x : ℕ). number_at x (slice_index xs) at) (sym e)
+
+-- ---- laws of the numbers
+-- bytes that agree in the range have one number there
+pub number_at-same : (w : ℕ) (a b : ℕ → ℕ) (at : ℕ) → ((k : ℕ) → k < w → a (at + k) ≡ b (at + k)) → number_at w a at ≡ number_at w b at
+unfolding number_at
+number_at-same zero a b at h = refl
+number_at-same (suc w) a b at h =
+    let ih = number_at-same w a b at (λ k below. h k (omega arith)) in
+    let last = h w (omega arith) in
+    rw (ih, last) refl
+
+-- the number whose bytes are those of n
+number_of_bytes : (w n : ℕ) (b : ℕ → ℕ) (at : ℕ) → ((k : ℕ) → k < w → b (at + k) ≡ byte_of n k) → number_at w b at ≡ bits_at 0 (8 * w) n
+unfolding number_at byte_of
+number_of_bytes zero n b at h = let below = bits_at-lt 0 0 n in omega (arith, below)
+number_of_bytes (suc w) n b at h =
+    let ih = number_of_bytes w n b at (λ k below. h k (omega arith)) in
+    let last = h w (omega arith) in
+    let width : 8 * suc w ≡ 8 + 8 * w = omega arith in
+    let whole = bits_at-split 0 (8 * w) 8 n in
+    let place : 0 + 8 * w ≡ 8 * w = omega arith in
+    rw (ih, last, width, whole, place) (add_comm (bits_at 0 (8 * w) n) (bits_at (8 * w) 8 n * 2 ^ (8 * w)))
+
+-- the number that was written is read back
+pub number_at-with_number : (w at n : ℕ) (bytes : ℕ → ℕ) → number_at w (with_number w at n bytes) at ≡ n % 2 ^ (8 * w)
+number_at-with_number w at n bytes =
+    number_of_bytes w n (with_number w at n bytes) at
+    (λ k h. with_number-inside w at n bytes (at + k) (omega arith) (omega arith) ∙ ap (byte_of n) (omega arith))
+    ∙ bits_at-lowest (8 * w) n
+
+-- bytes below 256 make a number below its range
+pub number_at-lt : (w : ℕ) (bytes : ℕ → ℕ) (at : ℕ) → ((k : ℕ) → bytes k < 256) → number_at w bytes at < 2 ^ (8 * w)
+unfolding number_at
+number_at-lt zero bytes at h = omega arith
+number_at-lt (suc w) bytes at h =
+    let ih = number_at-lt w bytes at h in
+    let top = mul-add-lt (bytes (at + w)) (2 ^ (8 * w)) (number_at w bytes at) 256 (h (at + w)) ih in
+    let power : 2 ^ (8 * suc w) ≡ 2 ^ (8 * w) * 256 = ap (λ (x : ℕ). 2 ^ x) (omega arith) ∙ pow-add 2 (8 * w) 8 in
+    omega (arith, top, power)
+
+-- a byte is below 256
+pub byte_of-lt : (n k : ℕ) → byte_of n k < 256
+unfolding byte_of
+byte_of-lt n k = bits_at-lt (8 * k) 8 n

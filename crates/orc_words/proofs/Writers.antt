@@ -1,15 +1,9 @@
 -- The laws of the formats: the immediate that was written is read back, and the other bits stay.
-use Rattle.std.proofs.Common.{◌≡◌, ℕ, ◌+◌, ◌-◌, ◌*◌, ◌/◌, ◌%◌, ◌^◌, ◌<◌, ◌≤◌, ◌⊎◌, inl, inr, refl, sym, ap, ◌∙◌, arith}
-use Rattle.std.proofs.Math.Nat.{div-one}
+use Rattle.std.proofs.Common.{◌≡◌, ℕ, ◌+◌, ◌*◌, ◌/◌, ◌%◌, ◌^◌, ◌<◌, ◌≤◌, ◌⊎◌, inl, inr, refl, ◌∙◌, arith}
 use Rattle.std.specs.Int.{bit_at}
 use Rattle.orc_words.specs.Bits.{bits_at, with_bits, signed_of}
 use Rattle.orc_words.specs.Immediates.{i_bits, s_bits, b_bits, u_bits, j_bits, i_immediate, s_immediate, b_immediate, u_immediate, j_immediate, with_i, with_s, with_b, with_u, with_j, OutsideI, OutsideS, OutsideB, OutsideU, OutsideJ}
-use Rattle.orc_words.proofs.Fields.{bits_at-lt, bits_at-split, bits_at-with_same, bits_at-with_above, bits_at-with_below, bit_at-with_other}
-
--- the lowest bits are a remainder
-pub bits_at-lowest : (n p : ℕ) → bits_at 0 n p ≡ p % 2 ^ n
-unfolding bits_at
-bits_at-lowest n p = ap (λ (x : ℕ). x % 2 ^ n) (div-one p)
+use Rattle.orc_words.proofs.Fields.{bits_at-lt, bits_at-lowest, bits_at-split, bits_at-with_same, bits_at-with_above, bits_at-with_below, bit_at-with_other}
 
 -- ---- the bits that were written
 pub i_bits-with_i : (word part : ℕ) → i_bits (with_i word part) ≡ bits_at 0 12 part
@@ -144,3 +138,46 @@ with_j-others word part i outside =
     ∙ bit_at-with_other 21 10 w2 (bits_at 1 10 part) i (bits_at-lt 1 10 part) (grind arith)
     ∙ bit_at-with_other 20 1 w1 (bits_at 11 1 part) i (bits_at-lt 11 1 part) (grind arith)
     ∙ bit_at-with_other 12 8 word (bits_at 12 8 part) i (bits_at-lt 12 8 part) (grind arith)
+
+-- ---- the parts that stay
+pub bits_at-with_i : (at n word part : ℕ) → at + n ≤ 20 → bits_at at n (with_i word part) ≡ bits_at at n word
+unfolding with_i
+bits_at-with_i at n word part below = bits_at-with_below at n 20 12 word (bits_at 0 12 part) below
+
+pub bits_at-with_u : (at n word part : ℕ) → at + n ≤ 12 → bits_at at n (with_u word part) ≡ bits_at at n word
+unfolding with_u
+bits_at-with_u at n word part below = bits_at-with_below at n 12 20 word (bits_at 0 20 part) below
+
+pub bits_at-with_j : (at n word part : ℕ) → at + n ≤ 12 → bits_at at n (with_j word part) ≡ bits_at at n word
+unfolding with_j
+bits_at-with_j at n word part below =
+    let w1 : ℕ = with_bits 12 8 word (bits_at 12 8 part) in
+    let w2 : ℕ = with_bits 20 1 w1 (bits_at 11 1 part) in
+    let w3 : ℕ = with_bits 21 10 w2 (bits_at 1 10 part) in
+    bits_at-with_below at n 31 1 w3 (bits_at 20 1 part) (omega arith)
+    ∙ bits_at-with_below at n 21 10 w2 (bits_at 1 10 part) (omega arith)
+    ∙ bits_at-with_below at n 20 1 w1 (bits_at 11 1 part) (omega arith)
+    ∙ bits_at-with_below at n 12 8 word (bits_at 12 8 part) below
+
+-- a part that lies wholly below or above the one that was written
+with_rest : (at n low count word part : ℕ) → part < 2 ^ count → (at + n ≤ low) ⊎ (low + count ≤ at) → bits_at at n (with_bits low count word part) ≡ bits_at at n word
+with_rest at n low count word part h (inl below) = bits_at-with_below at n low count word part below
+with_rest at n low count word part h (inr above) = bits_at-with_above at n low count word part h above
+
+-- of S and B the parts below bit 7, and those from bit 12 up to bit 25
+pub bits_at-with_s : (at n word part : ℕ) → (at + n ≤ 7) ⊎ ((12 ≤ at) × (at + n ≤ 25)) → bits_at at n (with_s word part) ≡ bits_at at n word
+unfolding with_s
+bits_at-with_s at n word part place =
+    bits_at-with_below at n 25 7 (with_bits 7 5 word (bits_at 0 5 part)) (bits_at 5 7 part) (grind arith)
+    ∙ with_rest at n 7 5 word (bits_at 0 5 part) (bits_at-lt 0 5 part) (grind arith)
+
+pub bits_at-with_b : (at n word part : ℕ) → (at + n ≤ 7) ⊎ ((12 ≤ at) × (at + n ≤ 25)) → bits_at at n (with_b word part) ≡ bits_at at n word
+unfolding with_b
+bits_at-with_b at n word part place =
+    let w1 : ℕ = with_bits 7 1 word (bits_at 11 1 part) in
+    let w2 : ℕ = with_bits 8 4 w1 (bits_at 1 4 part) in
+    let w3 : ℕ = with_bits 25 6 w2 (bits_at 5 6 part) in
+    bits_at-with_below at n 31 1 w3 (bits_at 12 1 part) (grind arith)
+    ∙ bits_at-with_below at n 25 6 w2 (bits_at 5 6 part) (grind arith)
+    ∙ with_rest at n 8 4 w1 (bits_at 1 4 part) (bits_at-lt 1 4 part) (grind arith)
+    ∙ with_rest at n 7 1 word (bits_at 11 1 part) (bits_at-lt 11 1 part) (grind arith)

@@ -12,11 +12,13 @@ mod field;
 mod immediate;
 mod number;
 mod signed;
+#[cfg(test)]
+mod tests;
 
 pub use field::Field;
 pub use immediate::{
-    b_immediate, i_immediate, j_immediate, s_immediate, u_immediate, with_b, with_i, with_j, with_s,
-    with_u,
+    b_immediate, i_immediate, j_immediate, s_immediate, u_immediate, with_b, with_i, with_j,
+    with_s, with_u,
 };
 pub use number::{get_le, put_le};
 pub use signed::{fits_signed, sign_extend};

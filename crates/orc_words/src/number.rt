@@ -1,4 +1,4 @@
-ghost use Rattle.std.specs.Prelude.{◌≡◌, ◌+◌, ◌≤◌, ◌⊎◌, length, slice_index};
+ghost use Rattle.std.specs.Prelude.{◌≡◌, ℕ, ◌+◌, ◌*◌, ◌%◌, ◌^◌, ◌<◌, ◌≤◌, ◌⊎◌, length, slice_index};
 ghost use Rattle.orc_words.specs.Numbers.{number_at, with_number};
 
 use byteorder::{ByteOrder, LittleEndian};
@@ -20,6 +20,16 @@ pub fn get_le(bytes: &[u8], at: usize, width: usize) -> u64
 
 /// Writes the low `width` bytes of `v` from place `at`.
 pub fn put_le(bytes: &mut [u8], at: usize, width: usize, v: u64)
+    requires width { (width ≡ 1) ⊎ (width ≡ 2) ⊎ (width ≡ 4) ⊎ (width ≡ 8) }
+    requires inside { at + width ≤ length bytes.old }
+    ensures exact { slice_index bytes.new ≡ with_number width at v (slice_index bytes.old) }
+    ensures reads_back { number_at width (slice_index bytes.new) at ≡ v % 2 ^ (8 * width) }
+    ensures others { (place : ℕ) → (place < at) ⊎ (at + width ≤ place) → slice_index bytes.new place ≡ slice_index bytes.old place }
+{
+    write_low(bytes, at, width, v);
+}
+
+fn write_low(bytes: &mut [u8], at: usize, width: usize, v: u64)
     requires width { (width ≡ 1) ⊎ (width ≡ 2) ⊎ (width ≡ 4) ⊎ (width ≡ 8) }
     requires inside { at + width ≤ length bytes.old }
     ensures { slice_index bytes.new ≡ with_number width at v (slice_index bytes.old) }

@@ -1,11 +1,13 @@
-ghost use Rattle.std.specs.Prelude.{◌≡◌, ◌≤◌, IsTrue, ◌↔◌, true};
-ghost use Rattle.orc_words.specs.Bits.{signed_of, fits_bits};
+ghost use Rattle.std.specs.Prelude.{◌≡◌, ◌≤◌, ◌%◌, ◌^◌, true};
+ghost use Rattle.orc_words.specs.Bits.{signed_of, low_of, fits_bits};
 
 /// The low `N` bits of `part`, read as two's complement.
 pub fn sign_extend<const N: u32>(part: u64) -> i64
     requires low { 1 ≤ N }
     requires high { N ≤ 64 }
-    ensures { result ≡ signed_of N part }
+    ensures exact { result ≡ signed_of N part }
+    ensures same_bits { low_of N result ≡ part % 2 ^ N }
+    ensures fits { fits_bits N result ≡ true }
 {
     let modulus: u128 = 1 << N;
     let low = part as u128 % modulus;

@@ -1,4 +1,4 @@
-use Rattle.std.proofs.Common.{◌≡◌, ℕ, ap, ◌∙◌}
+use Rattle.std.proofs.Common.{ℕ, ap, ◌∙◌}
 use Rattle.std.specs.Int.{bit_at}
 use Rattle.orc_words.specs.Immediates.{with_j, j_immediate}
 use Rattle.orc_words.proofs.Writers.{j_immediate-with_j, with_j-others}

@@ -1,4 +1,4 @@
-use Rattle.std.proofs.Common.{◌≡◌, ℕ, ap, ◌∙◌}
+use Rattle.std.proofs.Common.{ℕ, ap, ◌∙◌}
 use Rattle.std.specs.Int.{bit_at}
 use Rattle.orc_words.specs.Immediates.{with_s, s_immediate}
 use Rattle.orc_words.proofs.Writers.{s_immediate-with_s, with_s-others}
