@@ -1,0 +1,4 @@
+pub mod Fields
+pub mod Complement
+pub mod Numbers
+pub mod Writers
