@@ -1,9 +1,9 @@
 -- What a graph offers and what it needs from others (JITLink: defined and external symbols).
-use Rattle.std.specs.Prelude.{◌≡◌, ℕ, ◌+◌, Bool, true, false, ◌&&◌, ◌==◌, not, List, [], ◌∷◌, length, filter, Option, Some, None, if◌then◌else◌, filter_map}
+use Rattle.std.specs.Prelude.{ℕ, ◌+◌, Bool, true, false, ◌&&◌, ◌==◌, not, List, [], ◌∷◌, if◌then◌else◌}
 use Rattle.std.specs.List.{list_any}
 use Rattle.link_model.specs.declared.graph.Edge.{Edge}
 use Rattle.link_model.specs.declared.graph.GPlace.{GPlace}
-use Rattle.link_model.specs.declared.graph.GPlace.TheVariants.{In, Abs, External}
+use Rattle.link_model.specs.declared.graph.GPlace.TheVariants.{External}
 use Rattle.link_model.specs.declared.graph.GSym.{GSym}
 use Rattle.link_model.specs.declared.graph.LinkGraph.{LinkGraph}
 

@@ -1,9 +1,7 @@
 -- Where the parts of a unit lie: its blocks in order, then the GOT cells, then the stubs of calls to
 -- other units (RISC-V ELF psABI, "Global Offset Table" and "Procedure Linkage Table").
-use Rattle.std.specs.Prelude.{◌≡◌, ℕ, ◌+◌, ◌-◌, ◌*◌, ◌/◌, max, Bool, true, false, ◌&&◌, ◌||◌, ◌==◌, not, List, [], ◌∷◌, length, map, fold, slice_get, Option, Some, None, if◌then◌else◌}
+use Rattle.std.specs.Prelude.{ℕ, ◌+◌, ◌-◌, ◌*◌, ◌/◌, max, Bool, ◌&&◌, ◌||◌, ◌==◌, not, List, [], ◌∷◌, length, fold}
 use Rattle.std.specs.List.{list_any}
-use Rattle.std.specs.Option.{option_map_or}
-use Rattle.orc_ids.specs.declared.place.Shape.{Shape}
 use Rattle.link_model.specs.Graph.{own_symbols, external_symbols, numbers_where}
 use Rattle.link_model.specs.declared.graph.Block.{Block}
 use Rattle.link_model.specs.declared.graph.Edge.{Edge}
@@ -69,10 +67,10 @@ unit_align g = fold (λ align (b : Block). max align b.align) 16 g.blocks
 -- the layout of a graph with these live names
 abbrev pub layout_of : LinkGraph → List Bool → Layout
 layout_of g live = record {
-    blocks = block_offsets 0 g.blocks;
-    cells = in_turn (cells_start g) CELL_SIZE (cell_symbols g live);
-    stubs = in_turn (stubs_start g live) STUB_SIZE (stub_symbols g live);
-    shape = record { need = unit_need g live; align = unit_align g };
-    externals = external_symbols g live;
-    live = live;
-  }
+  blocks = block_offsets 0 g.blocks;
+  cells = in_turn (cells_start g) CELL_SIZE (cell_symbols g live);
+  stubs = in_turn (stubs_start g live) STUB_SIZE (stub_symbols g live);
+  shape = record { need = unit_need g live; align = unit_align g };
+  externals = external_symbols g live;
+  live = live;
+}
