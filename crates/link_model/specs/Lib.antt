@@ -1,2 +1,5 @@
+pub mod Kinds
 pub mod Graph
 pub mod Layout
+pub mod Image
+pub mod Groups

@@ -1,0 +1,64 @@
+/// What the value of a relocation is, from the symbol's address S, the addend A and the address P of
+/// the patched place (RISC-V ELF psABI, "Calculation Symbols").
+#[derive(Clone, Copy, Debug, PartialEq, Eq)]
+pub enum Formula {
+    /// The marks have no value; 0 stands for it.
+    Zero,
+    /// S + A
+    Absolute,
+    /// S + A - P
+    Relative,
+    /// The value of the edge that stands at the label S. By itself it is 0.
+    Paired,
+}
+
+/// Which values a relocation takes.
+#[derive(Clone, Copy, Debug, PartialEq, Eq)]
+pub enum Span {
+    Any,
+    /// A word of 32 bits, signed or unsigned: -2^31 to 2^32 - 1.
+    Word,
+    /// -2^31 to 2^31 - 1
+    SignedWord,
+    /// The reach of a branch: an even number from -2^12 to 2^12 - 2.
+    Branch,
+    /// The reach of a jump: an even number from -2^20 to 2^20 - 2.
+    Jump,
+    /// The reach of an upper part with a signed low part: -2^31 to 2^31 - 1 once 2^11 is added.
+    Split,
+}
+
+/// What a relocation writes.
+#[derive(Clone, Copy, Debug, PartialEq, Eq)]
+pub enum Form {
+    Unwritten,
+    /// The low bits of the value.
+    Number,
+    /// What stood there and the value.
+    Sum,
+    /// What stood there less the value.
+    Difference,
+    /// The low six bits; the two above them stay.
+    LowSix,
+    /// The low six bits less the value; the two above them stay.
+    LowSixDifference,
+    FormatB,
+    FormatJ,
+    /// The upper part, in the immediate of format U.
+    FormatU,
+    /// The low twelve bits, in the immediate of format I.
+    FormatI,
+    /// The low twelve bits, in the immediate of format S.
+    FormatS,
+    /// The upper part in format U of the first word, the low twelve bits in format I of the second.
+    Call,
+}
+
+/// The row of a relocation kind. The width is in bytes.
+#[derive(Clone, Copy, Debug, PartialEq, Eq)]
+pub struct Rule {
+    pub formula: Formula,
+    pub span: Span,
+    pub form: Form,
+    pub width: usize,
+}
