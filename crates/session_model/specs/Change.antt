@@ -31,6 +31,8 @@ use Rattle.session_model.specs.declared.rows.Job.TheVariants as job
 use Rattle.session_model.specs.declared.rows.Phase.TheVariants as phase
 use Rattle.session_model.specs.declared.rows.Row.{Row}
 use Rattle.session_model.specs.declared.rows.UnitPhase.{UnitPhase}
+pub use Rattle.session_model.specs.declared.rows.Verdict.{Verdict}
+pub use Rattle.session_model.specs.declared.rows.Verdict.TheVariants.{Kept, Replaces, Discarded, Clashes}
 use Rattle.session_model.specs.declared.rows.UnitPhase.TheVariants as stage
 
 -- Definitions (ORC: JITDylib::define and its linkage rules)
@@ -38,17 +40,6 @@ use Rattle.session_model.specs.declared.rows.UnitPhase.TheVariants as stage
 -- a weak or common definition isn't strong
 abbrev pub is_strong : SymFlags → Bool
 is_strong flags = not (flags.weak || flags.common)
-
--- what becomes of one offered name
-pub data Verdict : Type 0 where
-  -- it gets an instance
-  Kept : Verdict
-  -- it gets an instance in the place of this weak one
-  Replaces : InstId → Verdict
-  -- there is another definition already, and this one is weak
-  Discarded : Verdict
-  -- it is a duplicate of this instance
-  Clashes : InstId → Verdict
 
 abbrev pub verdict_on : Plain → SymFlags → Row → Verdict
 verdict_on m flags old =

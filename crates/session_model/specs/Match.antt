@@ -13,6 +13,8 @@ use Rattle.session_model.specs.Meaning.{Meaning}
 use Rattle.session_model.specs.Plain.{Plain}
 use Rattle.session_model.specs.declared.rows.InstRow.{InstRow}
 use Rattle.session_model.specs.declared.rows.Row.{Row}
+pub use Rattle.session_model.specs.declared.rows.Match.{Match}
+pub use Rattle.session_model.specs.declared.rows.Match.TheVariants.{Instance, Offered}
 
 -- an exported scope sees exported names only
 abbrev pub sees : Scope → SymFlags → Bool
@@ -35,11 +37,6 @@ offers_name u name scope = list_any (λ o. o.0.0 == name && sees scope o.1) u.of
 -- the first unspent generator of a dylib that offers a visible definition of the name
 abbrev pub offered_by : Plain → ℕ → ℕ → Scope → Option GenId
 offered_by m d name scope = option_map (λ g. record { 0 = g }) (position_from (λ g. not g.spent && g.dylib == d && offers_name g.meaning name scope) 0 m.generators)
-
--- a match: an instance, or a generator that offers one
-pub data Match : Type 0 where
-  Instance : InstId → Match
-  Offered : GenId → Match
 
 -- in one dylib: its present visible row of the name, else the first generator that offers one
 abbrev pub match_in : Plain → ℕ → OrderItem → Option Match

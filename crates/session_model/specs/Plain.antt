@@ -11,16 +11,10 @@ use Rattle.session_model.specs.declared.rows.Phase.{Phase}
 use Rattle.session_model.specs.declared.rows.Phase.TheVariants.{Unsearched, Resolved, Emitted, Failed}
 use Rattle.session_model.specs.declared.rows.UnitPhase.{UnitPhase}
 use Rattle.session_model.specs.declared.rows.UnitPhase.TheVariants as stage
-
--- a dylib, and where its units' externals are looked up (ORC: JITDylib, its link order)
-pub record Dylib : Type 0 where
-  pub name : ℕ
-  pub order : List OrderItem
-
--- a tracker (ORC: ResourceTracker)
-pub record Track : Type 0 where
-  pub dylib : ℕ
-  pub gone : Bool
+pub use Rattle.session_model.specs.declared.rows.Dylib.{Dylib}
+pub use Rattle.session_model.specs.declared.rows.Query.{Query}
+pub use Rattle.session_model.specs.declared.rows.Range.{Range}
+pub use Rattle.session_model.specs.declared.rows.Track.{Track}
 
 -- a unit (ORC: MaterializationUnit, and MaterializationResponsibility for its seat)
 pub record UnitRow : Type 0 where
@@ -44,22 +38,6 @@ pub record GenRow : Type 0 where
   pub tracker : ℕ
   pub meaning : Meaning
   pub spent : Bool
-
--- a query (ORC: AsynchronousSymbolQuery)
-pub record Query : Type 0 where
-  -- the number of its entry
-  pub asked : ℕ
-  pub matched : List (Option InstId)
-  pub level : Level
-  -- the unit that it links, if it does
-  pub unit : Option ℕ
-  -- the note of its notifier, if it has one
-  pub note : Option ℕ
-
--- a range of code memory
-pub record Range : Type 0 where
-  pub base : ℕ
-  pub need : ℕ
 
 pub record Plain : Type 0 where
   -- how many entries led here

@@ -10,6 +10,8 @@ use Rattle.session_model.specs.Meaning.{Bindings}
 use Rattle.session_model.specs.Plain.{Query, failed_at, present_at, address_at}
 use Rattle.session_model.specs.Reach.{is_ready}
 use Rattle.session_model.specs.declared.rows.InstRow.{InstRow}
+pub use Rattle.session_model.specs.declared.rows.Ending.{Ending}
+pub use Rattle.session_model.specs.declared.rows.Ending.TheVariants.{Found, Lost}
 
 -- how an instance stands
 pub record Stand : Type 0 where
@@ -45,11 +47,6 @@ is_met rows q = all_at rows q.level q.matched || is_some (first_lost rows q.matc
 -- each matched instance with its address
 abbrev pub addresses : List InstRow → List (Option InstId) → Bindings
 addresses rows matched = map (λ o. option_map (λ i. (i, unwrap_or (address_at rows i.0) 0)) o) matched
-
--- how a query ends: all found, or one lost
-pub data Ending : Type 0 where
-  Found : Bindings → Ending
-  Lost : InstId → Ending
 
 -- the end that these rows decide
 abbrev pub ending : List InstRow → Query → Ending

@@ -17,5 +17,7 @@ mod rows;
 mod traits;
 
 pub use entry::{Entry, Event, Finishing, Matches, Order, Reply, WantedList, Why};
-pub use rows::{InstRow, Job, Phase, Row, UnitPhase};
+pub use rows::{
+    Dylib, Ending, InstRow, Job, Match, Matched, Phase, Query, Range, Row, Track, UnitPhase, Verdict,
+};
 pub use traits::{RowSource, Standing, UnitKind};

@@ -1,4 +1,5 @@
-use orc_ids::{DylibId, InstId, InstList, NameId, SymFlags, UnitId};
+use crate::entry::{Matches, Order};
+use orc_ids::{DylibId, GenId, InstId, InstList, Items, Level, NameId, SymFlags, UnitId};
 
 /// How far an instance has come (ORC: `SymbolState`). Whether it is ready isn't stored: that
 /// follows from the recorded dependencies.
@@ -71,4 +72,68 @@ pub enum UnitPhase {
     Failed,
     /// It was removed.
     Defunct,
+}
+
+/// A dylib, and where its units' externals are looked up (ORC: `JITDylib` and its link order).
+#[derive(Debug, Drop)]
+pub struct Dylib {
+    pub name: u32,
+    pub order: Order,
+}
+
+/// A tracker (ORC: `ResourceTracker`).
+#[derive(Clone, Copy, Debug, PartialEq, Eq)]
+pub struct Track {
+    pub dylib: u32,
+    pub gone: bool,
+}
+
+/// For each wanted name the instance that it matched, or none.
+pub type Matched = Items<Option<InstId>>;
+
+/// A query (ORC: `AsynchronousSymbolQuery`).
+#[derive(Debug, Drop)]
+pub struct Query {
+    /// The number of its entry.
+    pub asked: u64,
+    pub matched: Matched,
+    pub level: Level,
+    /// The unit that it links, if it does.
+    pub unit: Option<u32>,
+    /// The note of its notifier, if it has one.
+    pub note: Option<u32>,
+}
+
+/// A range of code memory, in bytes.
+#[derive(Clone, Copy, Debug, PartialEq, Eq)]
+pub struct Range {
+    pub base: u64,
+    pub need: u64,
+}
+
+/// What a name matches in a search order: an instance, or a generator that offers a definition.
+#[derive(Clone, Copy, Debug, PartialEq, Eq)]
+pub enum Match {
+    Instance(InstId),
+    Offered(GenId),
+}
+
+/// What becomes of one offered name.
+#[derive(Clone, Copy, Debug, PartialEq, Eq)]
+pub enum Verdict {
+    /// It gets an instance.
+    Kept,
+    /// It gets an instance in the place of this weak one.
+    Replaces(InstId),
+    /// There is another definition already, and this one is weak.
+    Discarded,
+    /// It is a duplicate of this instance.
+    Clashes(InstId),
+}
+
+/// How a query ends: each matched instance with its address, or the first one that is lost.
+#[derive(Debug, Drop)]
+pub enum Ending {
+    Found(Matches),
+    Lost(InstId),
 }
