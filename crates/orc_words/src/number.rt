@@ -7,6 +7,15 @@ use byteorder::{ByteOrder, LittleEndian};
 pub fn get_le(bytes: &[u8], at: usize, width: usize) -> u64
     requires width { (width ≡ 1) ⊎ (width ≡ 2) ⊎ (width ≡ 4) ⊎ (width ≡ 8) }
     requires inside { at + width ≤ length bytes.now }
+    ensures exact { result ≡ number_at width (slice_index bytes.now) at }
+    ensures bound { result < 2 ^ (8 * width) }
+{
+    read(bytes, at, width)
+}
+
+fn read(bytes: &[u8], at: usize, width: usize) -> u64
+    requires width { (width ≡ 1) ⊎ (width ≡ 2) ⊎ (width ≡ 4) ⊎ (width ≡ 8) }
+    requires inside { at + width ≤ length bytes.now }
     ensures { result ≡ number_at width (slice_index bytes.now) at }
 {
     let place = &bytes[at..at + width];
@@ -26,10 +35,10 @@ pub fn put_le(bytes: &mut [u8], at: usize, width: usize, v: u64)
     ensures reads_back { number_at width (slice_index bytes.new) at ≡ v % 2 ^ (8 * width) }
     ensures others { (place : ℕ) → (place < at) ⊎ (at + width ≤ place) → slice_index bytes.new place ≡ slice_index bytes.old place }
 {
-    write_low(bytes, at, width, v);
+    write(bytes, at, width, v);
 }
 
-fn write_low(bytes: &mut [u8], at: usize, width: usize, v: u64)
+fn write(bytes: &mut [u8], at: usize, width: usize, v: u64)
     requires width { (width ≡ 1) ⊎ (width ≡ 2) ⊎ (width ≡ 4) ⊎ (width ≡ 8) }
     requires inside { at + width ≤ length bytes.old }
     ensures { slice_index bytes.new ≡ with_number width at v (slice_index bytes.old) }

@@ -1,7 +1,7 @@
 use Rattle.std.proofs.Common.{◌≡◌, arith}
 use Rattle.std.proofs.lemmas.Nat.{and_mask}
 use Rattle.orc_words.proofs.Numbers.{placed_bytes, placed_byte}
-use Rattle.orc_words.proofs.number.write_low.Goals as goal
+use Rattle.orc_words.proofs.number.write.Goals as goal
 
 pub returns-in-1 : goal.returns-in-1
 returns-in-1 c = placed_byte _ c.args.at c.args.width c.args.v _ c.requires.inside c.in-1.is (and_mask c.args.v 8)

@@ -1,0 +1,4 @@
+pub mod Inside
+pub mod Pairs
+pub mod Pieces
+pub mod Whole

@@ -1,0 +1,16 @@
+//! The fixups of a unit: the raw bytes of a link graph with every edge applied, in file order.
+//!
+//! It states the RISC-V ELF psABI's "Relocations" by the definitions of `link_model`: the result of
+//! `fix` is the image of the unit, and its refusal names the first edge whose value is out of its
+//! range. Contracts see an image as the list of its bytes. The unit has no externals, cells or stubs.
+//! Read `reloc_table` for a single edge.
+#![tactic(auto)]
+
+mod apply;
+mod image;
+mod place;
+mod raw;
+mod upper;
+
+pub use apply::FixError;
+pub use image::fix;
