@@ -1,0 +1,5 @@
+pub mod Arithmetic
+pub mod Classes
+pub mod Map
+pub mod Registers
+pub mod Step

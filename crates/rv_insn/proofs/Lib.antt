@@ -1,0 +1,5 @@
+pub mod OneInsn
+pub mod OneWord
+pub mod Parts
+pub mod Ranges
+pub mod Written
