@@ -1,0 +1,5 @@
+use Rattle.std.proofs.Common.{◌≡◌, ℕ, ◌<◌, ◌≤◌, false, get_or}
+use Rattle.elf_read.proofs.overlaps.is_free.Given as goal
+
+abbrev pub invariant-loop-k : goal.invariant-loop-k
+invariant-loop-k l = (j : ℕ) → l.start ≤ j → j < l.k → get_or l.taken j false ≡ false

@@ -1,0 +1,9 @@
+pub mod Choice
+pub mod Errors
+pub mod File
+pub mod Gabi
+pub mod Sections
+pub mod Symbols
+pub mod Index
+pub mod Names
+pub mod Object
