@@ -1,0 +1,5 @@
+pub mod Apart
+pub mod Laws
+pub mod Mapped
+pub mod Places
+pub mod Slots

@@ -1,0 +1,7 @@
+pub mod Bytes
+pub mod Host
+pub mod Larger
+pub mod Machine
+pub mod Regions
+pub mod Run
+pub mod Start

@@ -1,0 +1,26 @@
+-- What a machine is as the state of a run, and how its calls end.
+use Rattle.std.specs.Prelude.{◌≡◌, Option, Some, None}
+use Rattle.code_memory.specs.Mapped.{byte_at}
+use Rattle.exec_run.specs.declared.machine.Machine.{Machine}
+use Rattle.exec_run.specs.declared.ran.RunEnd.{RunEnd}
+use Rattle.exec_run.specs.Host.{State, goes, ends, called, write_call}
+use Rattle.exec_run.specs.Run.{IsTurn}
+
+-- the state of a run that a machine is in
+abbrev pub state_of : Machine → State
+state_of m = record { hart = m.hart; map = byte_at m.memory; output = m.output.items }
+
+-- a call to the host from one state: the run goes on in another, or it has ended with what was written
+abbrev pub IsCalled : State → Option RunEnd → State → Type 0
+IsCalled old None new = called old ≡ goes new
+IsCalled old (Some e) new = (called old ≡ ends e) × (new.output ≡ old.output)
+
+-- the same of a write
+abbrev pub IsWritten : State → Option RunEnd → State → Type 0
+IsWritten old None new = write_call old ≡ goes new
+IsWritten old (Some e) new = (write_call old ≡ ends e) × (new.output ≡ old.output)
+
+-- a turn from one state: the run goes on in another, or it has ended with what was written
+abbrev pub IsTaken : State → Option RunEnd → State → Type 0
+IsTaken old None new = IsTurn old (goes new)
+IsTaken old (Some e) new = IsTurn old (ends e) × (new.output ≡ old.output)

@@ -1,0 +1,33 @@
+//! Runs of linked code: the code at an address is run on a copy of an image and a stack of its own,
+//! one instruction for one fuel, until it exits, traps, is out of fuel or has written too much
+//! (RISC-V ELF psABI, "Integer Register Convention"; the calls `write` and `exit` are Linux's).
+//!
+//! `specs/Run.antt` says what a run is: the relation `RunsTo` between a memory, where it starts, and
+//! its end and output. It is a recursion on the fuel over single turns, each of them a step of
+//! `rv_hart` and the call to the host of `specs/Host.antt` where the step asks for one. The contract
+//! of `run` is that relation, and `runs_have_one_end` says that it is a function. `larger_memory`
+//! says that a run which stays within what is mapped (`Stays` of `specs/Larger.antt`) has the same
+//! end and output on every larger memory.
+//!
+//! The memory of a run is the list of its ranges; the range of the last access is looked at first,
+//! and any other is found by halves. Read `rv_hart` for the step, and `code_memory` for the image.
+#![tactic(auto)]
+
+mod access;
+mod copy;
+mod host;
+mod laws;
+mod machine;
+mod memory;
+mod number;
+mod pieces;
+mod ran;
+mod region;
+mod runner;
+#[cfg(test)]
+mod tests;
+
+pub use host::{HOME, OUTPUT_MAX, STACK_END, STACK_START};
+pub use laws::{larger_memory, runs_have_one_end};
+pub use ran::{Ran, RunEnd};
+pub use runner::run;

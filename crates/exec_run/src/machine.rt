@@ -1,0 +1,138 @@
+ghost use Rattle.std.specs.Prelude.{◌≡◌, ◌≤◌, length, IfOk};
+ghost use Rattle.code_memory.specs.Mapped.{byte_at};
+ghost use Rattle.exec_run.specs.Host.{State, answered, write_call, called};
+ghost use Rattle.exec_run.specs.Run.{start, RunsFrom};
+ghost use Rattle.exec_run.specs.Start.{started};
+
+use crate::host::{
+    BAD_ADDRESS, BAD_DESCRIPTOR, EXIT, HOME, NO_CALL, OUTPUT_MAX, STACK_END, STDOUT, WRITE,
+};
+use crate::memory::RunMemory;
+use crate::ran::RunEnd;
+use code_memory::Image;
+use rv_hart::{Hart, Step};
+use std::alloc::{AllocError, Global};
+
+/// A hart with its memory, and what it wrote.
+#[derive(Drop)]
+pub(crate) struct Machine {
+    pub(crate) hart: Hart,
+    pub(crate) memory: RunMemory,
+    pub(crate) output: Vec<u8>,
+}
+
+impl Machine {
+    ghost use Rattle.exec_run.specs.Machine.{state_of, IsCalled, IsWritten, IsTaken};
+
+    /// A machine at the start of a run.
+    pub(crate) fn new(
+        alloc: Global,
+        image: &Image,
+        pc: u64,
+        args: &[u64],
+    ) -> Result<Machine, AllocError>
+        requires { length args.now ≤ 8 }
+        ensures { IfOk result (λ machine. state_of machine ≡ start (byte_at image.now) pc args.now) }
+    {
+        Ok(Machine {
+            hart: first_hart(pc, args),
+            memory: RunMemory::of_image(alloc, image)?,
+            output: Vec::new(alloc),
+        })
+    }
+
+    /// What the run wrote.
+    pub(crate) fn into_output(self) -> Vec<u8>
+        ensures { result.items ≡ self.output.items }
+    {
+        let Machine { output, .. } = self;
+        output
+    }
+
+    /// Runs up to the end, or until the fuel is spent.
+    pub(crate) fn run(&mut self, fuel: u64) -> Result<RunEnd, AllocError>
+        ensures { IfOk result (λ end. RunsFrom fuel (state_of self.old) end self.new.output.items) }
+    {
+        for _turn in 0..fuel {
+            if self.hart.pc == HOME {
+                return Ok(RunEnd::Exited(self.hart.register(10)));
+            }
+            if let Some(end) = self.turn()? {
+                return Ok(end);
+            }
+        }
+        if self.hart.pc != HOME {
+            return Ok(RunEnd::OutOfFuel);
+        }
+        Ok(RunEnd::Exited(self.hart.register(10)))
+    }
+
+    /// Does one instruction, and the call to the host where it is one.
+    #[inline(always)]
+    fn turn(&mut self) -> Result<Option<RunEnd>, AllocError>
+        ensures { IfOk result (λ end. IsTaken (state_of self.old) end (state_of self.new)) }
+    {
+        match self.hart.step(&mut self.memory) {
+            Step::Next => Ok(None),
+            Step::Trap(pc, cause) => Ok(Some(RunEnd::Trap(pc, cause))),
+            Step::Ecall => self.call(),
+        }
+    }
+
+    /// The call to the host that the registers ask for.
+    fn call(&mut self) -> Result<Option<RunEnd>, AllocError>
+        ensures { IfOk result (λ end. IsCalled (state_of self.old) end (state_of self.new)) }
+    {
+        let number = self.hart.register(17);
+        if number == EXIT {
+            return Ok(Some(RunEnd::Exited(self.hart.register(10))));
+        }
+        if number == WRITE {
+            return self.write();
+        }
+        self.answer(NO_CALL);
+        Ok(None)
+    }
+
+    /// The write that the registers ask for.
+    fn write(&mut self) -> Result<Option<RunEnd>, AllocError>
+        ensures { IfOk result (λ end. IsWritten (state_of self.old) end (state_of self.new)) }
+    {
+        if self.hart.register(10) != STDOUT {
+            self.answer(BAD_DESCRIPTOR);
+            return Ok(None);
+        }
+        let from = self.hart.register(11);
+        let count = self.hart.register(12);
+        if !self.memory.has_bytes(from, count) {
+            self.answer(BAD_ADDRESS);
+            return Ok(None);
+        }
+        if (self.output.len() as u64).saturating_add(count) > OUTPUT_MAX {
+            return Ok(Some(RunEnd::OutputFull));
+        }
+        self.memory.append(from, count, &mut self.output)?;
+        self.answer(count);
+        Ok(None)
+    }
+
+    /// The result of a call, and on to the next instruction.
+    fn answer(&mut self, value: u64)
+        ensures { state_of self.new ≡ answered (state_of self.old) value }
+    {
+        self.hart.set_register(10, value);
+        self.hart.pc = self.hart.pc.wrapping_add(4);
+    }
+}
+
+/// The hart that a run starts with.
+fn first_hart(pc: u64, args: &[u64]) -> Hart
+    requires { length args.now ≤ 8 }
+    ensures { result ≡ started pc args.now }
+{
+    let mut x = [0; 32];
+    x[1] = HOME;
+    x[2] = STACK_END;
+    x[10..10 + args.len()].copy_from_slice(args);
+    Hart { pc, x }
+}
