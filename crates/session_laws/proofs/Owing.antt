@@ -1,0 +1,254 @@
+-- Where a query is open, work is owed.
+use Rattle.std.proofs.Common.{◌≡◌, ℕ, zero, suc, ◌+◌, Bool, true, false, not, ◌&&◌, ◌==◌, nat_eq, cond, List, [], ◌∷◌, length, slice_get, ◌⊎◌, inl, inr, subst, sym, refl, ap, ◌∙◌, Option, Some, None, is_some}
+use Rattle.std.specs.Bool.{if◌then◌else◌}
+use Rattle.std.specs.List.{list_any}
+use Rattle.std.specs.Option.{option_map_or}
+use Rattle.std.proofs.lemmas.Bool.{both_ways, cases_Bool, eq-eqb, and_parts, and_from, or_left, or_right, not-true, not-false, not_from_false, false_from_ne_true}
+use Rattle.std.proofs.lemmas.Option.{none-some, same_Some}
+use Rattle.orc_ids.specs.declared.ids.InstId.{InstId}
+use Rattle.session_model.specs.Plain.{Plain, UnitRow, Query, is_unsearched, is_failed, is_emitted, is_defunct, emitted_at}
+use Rattle.session_model.specs.Reach.{is_ready}
+use Rattle.session_model.specs.Change.{job_unit}
+use Rattle.session_model.specs.declared.rows.InstRow.{InstRow}
+use Rattle.session_model.specs.declared.rows.Job.{Job}
+use Rattle.session_model.specs.declared.rows.Job.TheVariants as job
+use Rattle.session_model.specs.declared.rows.Phase.{Phase}
+use Rattle.session_model.specs.declared.rows.Phase.TheVariants as phase
+use Rattle.session_model.specs.declared.rows.UnitPhase.{UnitPhase}
+use Rattle.session_model.specs.declared.rows.UnitPhase.TheVariants as stage
+use Rattle.orc_ids.specs.declared.lookup.Level.TheVariants as level
+use Rattle.std.proofs.Common.{arith, ◌<◌}
+use Rattle.session_model.specs.Plain.{phase_address}
+use Rattle.session_model.specs.Change.{settled, finish_listed, waits_for}
+use Rattle.session_laws.proofs.Elements.{changed_cases, changed_some, same_element}
+use Rattle.session_laws.proofs.Facts.{test_parts, test_from, test_is, due_some}
+use Rattle.session_laws.proofs.Settling.{chosen}
+use Rattle.session_laws.specs.Sound.{IsSound, is_sure, sure_at, searched_at, is_underway, fits, is_held_phase, due_at, its_jobs, AllMatched}
+use Rattle.std.proofs.lemmas.Bool.{or_parts, and_cases}
+use Rattle.orc_ids.specs.declared.lookup.Level.{Level}
+use Rattle.session_model.specs.Meaning.{Meaning}
+use Rattle.session_model.specs.Query.{is_met}
+use Rattle.session_model.specs.Change.{settled_from}
+use Rattle.session_laws.proofs.Settling.{settling_keeps}
+use Rattle.session_model.specs.Query.{all_at}
+use Rattle.session_model.specs.Change.{change_of, changed}
+use Rattle.session_model.specs.declared.entry.Entry.{Entry}
+use Rattle.session_model.specs.Plain.{empty}
+use Rattle.session_model.specs.State.{after, state, state_from}
+use Rattle.session_model.specs.Reach.{Reaches}
+use Rattle.session_laws.proofs.Paths.{closed_reached}
+use Rattle.session_laws.proofs.Invariant.{legal_is_sound}
+use Rattle.session_laws.proofs.Settling.{settled_rows, settled_queries}
+use Rattle.std.proofs.Common.{le_refl}
+use Rattle.std.proofs.lemmas.List.{take_all}
+use Rattle.session_model.specs.Plain.{phase_address}
+use Rattle.session_model.specs.Query.{at_level, is_lost, first_lost}
+use Rattle.session_laws.proofs.Ending.{query_was_asked}
+use Rattle.std.proofs.Common.{sum_by}
+use Rattle.std.proofs.lemmas.List.Sums.{sum_by-cons}
+use Rattle.session_model.specs.Change.{settled_one}
+use Rattle.session_model.specs.Owed.{IsOwed}
+use Rattle.session_laws.proofs.Defining.{waiting_parts}
+use Rattle.session_laws.proofs.Settling.{settled_one_keeps}
+use Rattle.session_laws.proofs.Paths.{walks_suffice}
+use Rattle.session_laws.proofs.Meeting.{NoneLost, none_lost, none_some, unlost_parts}
+use Rattle.session_laws.specs.Work.{WorkIsOwed, IdleHasNoOpenQuery, NoneWaitsForMet}
+
+-- No unit waits for a query that is met
+
+waiting_from : (m : Plain) (u k : ℕ) (x : UnitRow) → slice_get m.units u ≡ Some x → x.phase ≡ stage.Waiting → x.query ≡ Some k → waits_for m u k ≡ true
+waiting_from m u k x e p q = subst (λ o. option_map_or (λ (y : UnitRow). option_map_or (nat_eq k) y.query false && is_waiting y.phase) o false ≡ true) (sym e)
+    (and_from (option_map_or (nat_eq k) x.query false) (is_waiting x.phase) (ap (λ o. option_map_or (nat_eq k) o false) q ∙ eq-eqb k k refl) (ap is_waiting p))
+  where
+    is_waiting : UnitPhase → Bool
+    is_waiting stage.Waiting = true
+    is_waiting _ = false
+
+listing_keeps : (u k v : ℕ) (m : Plain) → waits_for m u k ≡ false → waits_for (finish_listed v m) u k ≡ false
+listing_keeps u k v m n = false_from_ne_true (waits_for (finish_listed v m) u k) (λ w. clash (waiting_parts (finish_listed v m) u k w))
+  where
+    clash : (x : UnitRow) × (slice_get (finish_listed v m).units u ≡ Some x) × (x.phase ≡ stage.Waiting) × (x.query ≡ Some k) → ⊥
+    clash p = split (changed_cases v (λ y. record y { phase = stage.Linked }) m.units u p.0 p.1)
+      where
+        split : ((u ≡ v) × ((x : UnitRow) × (slice_get m.units u ≡ Some x) × (p.0 ≡ record x { phase = stage.Linked }))) ⊎ ((u ≡ v → ⊥) × (slice_get m.units u ≡ Some p.0)) → ⊥
+        split (inl a) = let e : stage.Linked ≡ stage.Waiting = sym (ap (λ (y : UnitRow). y.phase) a.1.2) ∙ p.2 in cc
+        split (inr a) = both_ways (waits_for m u k) n (waiting_from m u k p.0 a.1 p.2 p.3)
+
+listing_ends : (u k : ℕ) (m : Plain) → waits_for m u k ≡ true → waits_for (finish_listed u m) u k ≡ false
+listing_ends u k m w = false_from_ne_true (waits_for (finish_listed u m) u k) (λ v. clash (waiting_parts m u k w) (waiting_parts (finish_listed u m) u k v))
+  where
+    clash : (x : UnitRow) × (slice_get m.units u ≡ Some x) × (x.phase ≡ stage.Waiting) × (x.query ≡ Some k) → (x : UnitRow) × (slice_get (finish_listed u m).units u ≡ Some x) × (x.phase ≡ stage.Waiting) × (x.query ≡ Some k) → ⊥
+    clash p q = let is = same_element (slice_get (finish_listed u m).units u) (record (p.0) { phase = stage.Linked }) q.0 (changed_some u (λ y. record y { phase = stage.Linked }) m.units p.0 p.1) q.1 in
+        let e : stage.Linked ≡ stage.Waiting = ap (λ (y : UnitRow). y.phase) is ∙ q.2 in cc
+
+settling_leaves : (u k j : ℕ) (qs : List Query) (m : Plain) → waits_for m u k ≡ false → waits_for (settled_from j qs m) u k ≡ false
+settling_leaves u k j qs m n = settling_keeps (λ a. waits_for a u k ≡ false) (λ v l q a p w b e. listing_keeps u k v a p) j qs m n
+
+one_ends : (u k : ℕ) (q : Query) (m : Plain) → q.unit ≡ Some u → is_met m.rows q ≡ true → waits_for (settled_one k q m) u k ≡ false
+one_ends u k q m e met = subst (λ o. waits_for (option_map_or (λ v. if is_met m.rows q && waits_for m v k then finish_listed v m else m) o m) u k ≡ false) (sym e)
+    (chosen (λ n. waits_for n u k ≡ false) (is_met m.rows q && waits_for m u k) (finish_listed u m) m
+    (λ b. listing_ends u k m (and_parts (is_met m.rows q) (waits_for m u k) b).1)
+    (λ b. false_from_ne_true (waits_for m u k) (λ w. both_ways (is_met m.rows q && waits_for m u k) b (and_from (is_met m.rows q) (waits_for m u k) met w))))
+
+one_rows : (k : ℕ) (q : Query) (m : Plain) → (settled_one k q m).rows ≡ m.rows
+one_rows k q m = settled_one_keeps (λ n. n.rows ≡ m.rows) (λ u l p n r w b e. r) k q m refl
+
+settling_ends : (u j i n : ℕ) (qs : List Query) (q : Query) (m : Plain) → n ≡ j + i → slice_get qs i ≡ Some q → q.unit ≡ Some u → is_met m.rows q ≡ true → waits_for (settled_from j qs m) u n ≡ false
+settling_ends u j i n [] q m is t e met = absurd (none-some q t)
+settling_ends u j zero n (p ∷ ps) q m is t e met = settling_leaves u n (j + 1) ps (settled_one j p m)
+    (subst (λ k. waits_for (settled_one j p m) u k ≡ false) at (one_ends u j p m (ap (λ (r : Query). r.unit) same ∙ e) (ap (is_met m.rows) same ∙ met)))
+  where
+    at : j ≡ n
+    at = omega (arith, is)
+
+    same : p ≡ q
+    same = same_Some p q t
+settling_ends u j (suc i) n (p ∷ ps) q m is t e met = settling_ends u (j + 1) i n ps q (settled_one j p m) (omega (arith, is)) t e (ap (λ rows. is_met rows q) (one_rows j p m) ∙ met)
+
+abbrev pub NoMetWaits : Plain → Type 0
+NoMetWaits m = (u k : ℕ) (q : Query) → slice_get m.queries k ≡ Some q → q.unit ≡ Some u → is_met m.rows q ≡ true → waits_for m u k ≡ false
+
+settled_waits : (m : Plain) → NoMetWaits (settled m)
+settled_waits m u k q t e met = settling_ends u 0 k k m.queries q m (omega arith) (ap (λ l. slice_get l k) (sym (settled_queries m)) ∙ t) e (ap (λ rows. is_met rows q) (sym (settled_rows m)) ∙ met)
+
+waits_from : (m : Plain) (h : List (Entry Meaning)) → NoMetWaits m → NoMetWaits (state_from m h)
+waits_from m [] w = w
+waits_from m (e ∷ es) w = waits_from (after m e) es (settled_waits (changed (change_of e.seat.0 e.event e.reply) m))
+
+pub no_met_waits : (h : List (Entry Meaning)) → NoMetWaits (state h)
+no_met_waits h = waits_from empty h (λ u k q t. absurd (none-some q t))
+
+-- Work by a unit's phase
+
+listed_job : (u : ℕ) (js : List Job) (j : Job) (rest : List Job) → its_jobs u js ≡ j ∷ rest → list_any (λ (i : Job). job_unit i == u) js ≡ true
+listed_job u [] j rest e = absurd (cc)
+listed_job u (i ∷ is) j rest e = split (cases_Bool (job_unit i == u)) (listed_job u is j rest)
+  where
+    split : (job_unit i == u ≡ true) ⊎ (job_unit i == u ≡ false) → (its_jobs u is ≡ j ∷ rest → list_any (λ (k : Job). job_unit k == u) is ≡ true) → list_any (λ (k : Job). job_unit k == u) (i ∷ is) ≡ true
+    split (inl t) later = or_left (job_unit i == u) (list_any (λ (k : Job). job_unit k == u) is) t
+    split (inr f) later = or_right (job_unit i == u) (list_any (λ (k : Job). job_unit k == u) is) (later (subst (λ b. cond b (i ∷ its_jobs u is) (its_jobs u is) ≡ j ∷ rest) f e))
+
+owed_job : (m : Plain) (u : ℕ) (x : UnitRow) (j : Job) → IsSound m → slice_get m.units u ≡ Some x → due_at u x.phase ≡ j ∷ [] → IsOwed m
+owed_job m u x j s t d = record { number = u; unit = x; there = t; work = inl (listed_job u m.jobs j [] (s.jobs_due u ∙ (due_some u m.units x t ∙ d))) }
+
+owed_held : (m : Plain) (u : ℕ) (x : UnitRow) → IsSound m → slice_get m.units u ≡ Some x → is_defunct x.phase ≡ false → is_held_phase x.phase ≡ true → IsOwed m
+owed_held m u x s t d h = record { number = u; unit = x; there = t; work = inr ((s.units_fit u x t).seat d ∙ h) }
+
+-- a claimed instance's unit is listed or held
+claimed_owed : (m : Plain) (u : ℕ) (x : UnitRow) → IsSound m → slice_get m.units u ≡ Some x → fits x.phase phase.Claimed ≡ true → IsOwed m
+claimed_owed m u x s t f = by_phase x.phase refl f
+  where
+    by_phase : (p : UnitPhase) → x.phase ≡ p → fits p phase.Claimed ≡ true → IsOwed m
+    by_phase stage.Listed e f = owed_job m u x (job.Start (record { 0 = u })) s t (ap (due_at u) e)
+    by_phase stage.Started e f = owed_held m u x s t (ap is_defunct e) (ap is_held_phase e)
+    by_phase stage.Placed e f = owed_held m u x s t (ap is_defunct e) (ap is_held_phase e)
+    by_phase _ e f = absurd (both_ways false refl f)
+
+underway_here : (m : Plain) (i : ℕ) (r : InstRow) → IsSound m → slice_get m.rows i ≡ Some r → is_underway r.phase ≡ true → (x : UnitRow) × (slice_get m.units r.unit.0 ≡ Some x) × (fits x.phase r.phase ≡ true)
+underway_here m i r s e w = split (cases_Bool r.present)
+  where
+    split : (r.present ≡ true) ⊎ (r.present ≡ false) → (x : UnitRow) × (slice_get m.units r.unit.0 ≡ Some x) × (fits x.phase r.phase ≡ true)
+    split (inl p) = (s.rows_fit i r e).here p
+    split (inr n) = absurd (both_ways (is_underway r.phase) ((s.rows_fit i r e).gone n) w)
+
+row_claimed_owed : (m : Plain) (i : ℕ) (r : InstRow) → IsSound m → slice_get m.rows i ≡ Some r → r.phase ≡ phase.Claimed → IsOwed m
+row_claimed_owed m i r s e p = let x = underway_here m i r s e (ap is_underway p) in claimed_owed m r.unit.0 x.0 s x.1 (subst (λ f. fits x.0.phase f ≡ true) p x.2)
+
+-- an unmet query
+
+not_all : (rows : List InstRow) (lev : Level) (os : List (Option InstId)) → all_at rows lev os ≡ false → NoneLost rows os → AllMatched (λ i. searched_at rows i ≡ true) os → (i : ℕ) × (at_level rows lev i ≡ false) × (is_lost rows i ≡ false) × (searched_at rows i ≡ true)
+not_all rows lev [] e n s = absurd (both_ways true e refl)
+not_all rows lev (None ∷ os) e n s = not_all rows lev os e n s
+not_all rows lev (Some i ∷ os) e n s = split (and_cases (at_level rows lev i.0) (all_at rows lev os) e) (not_all rows lev os)
+  where
+    split : (at_level rows lev i.0 ≡ false) ⊎ (all_at rows lev os ≡ false) → (all_at rows lev os ≡ false → NoneLost rows os → AllMatched (λ j. searched_at rows j ≡ true) os → (j : ℕ) × (at_level rows lev j ≡ false) × (is_lost rows j ≡ false) × (searched_at rows j ≡ true)) → (j : ℕ) × (at_level rows lev j ≡ false) × (is_lost rows j ≡ false) × (searched_at rows j ≡ true)
+    split (inl a) later = (i.0, a, n.0, s.0)
+    split (inr b) later = later b n.1 s.1
+
+-- a searched instance that isn't lost
+live_row : (rows : List InstRow) (i : ℕ) → is_lost rows i ≡ false → searched_at rows i ≡ true → (r : InstRow) × (slice_get rows i ≡ Some r) × (is_failed r.phase ≡ false) × (is_unsearched r.phase ≡ false)
+live_row rows i l s = let p = unlost_parts rows i l in let q = test_parts (λ (r : InstRow). not (is_unsearched r.phase)) rows i s in
+    (p.0, p.1, p.3, not-true (is_unsearched p.0.phase) (subst (λ (r : InstRow). not (is_unsearched r.phase) ≡ true) (same_element (slice_get rows i) q.0 p.0 q.1 p.1) q.2))
+
+unaddressed_claimed : (p : Phase) → is_failed p ≡ false → is_unsearched p ≡ false → is_some (phase_address p) ≡ false → p ≡ phase.Claimed
+unaddressed_claimed phase.Claimed f u a = refl
+unaddressed_claimed phase.Unsearched f u a = absurd (both_ways true u refl)
+unaddressed_claimed phase.Failed f u a = absurd (both_ways true f refl)
+unaddressed_claimed (phase.Resolved n) f u a = absurd (both_ways true a refl)
+unaddressed_claimed (phase.Emitted n ds) f u a = absurd (both_ways true a refl)
+
+unemitted_underway : (p : Phase) → is_failed p ≡ false → is_unsearched p ≡ false → is_emitted p ≡ false → (p ≡ phase.Claimed) ⊎ ((a : ℕ) × (p ≡ phase.Resolved a))
+unemitted_underway phase.Claimed f u e = inl refl
+unemitted_underway (phase.Resolved a) f u e = inr (a, refl)
+unemitted_underway phase.Unsearched f u e = absurd (both_ways true u refl)
+unemitted_underway phase.Failed f u e = absurd (both_ways true f refl)
+unemitted_underway (phase.Emitted n ds) f u e = absurd (both_ways true e refl)
+
+unmet_parts : (m : Plain) (k : ℕ) (q : Query) → IsSound m → slice_get m.queries k ≡ Some q → is_met m.rows q ≡ false → (i : ℕ) × (at_level m.rows q.level i ≡ false) × (is_lost m.rows i ≡ false) × (searched_at m.rows i ≡ true)
+unmet_parts m k q s t u = let p = or_parts (all_at m.rows q.level q.matched) (is_some (first_lost m.rows q.matched)) u in
+    not_all m.rows q.level q.matched p.0 (none_lost m.rows q.matched (none_some (first_lost m.rows q.matched) p.1)) (s.searched k q t)
+
+-- a live instance without an address is claimed
+resolved_owed : (m : Plain) (i : ℕ) → IsSound m → at_level m.rows level.Resolved i ≡ false → is_lost m.rows i ≡ false → searched_at m.rows i ≡ true → IsOwed m
+resolved_owed m i s a l d = let r = live_row m.rows i l d in
+    row_claimed_owed m i r.0 s r.1 (unaddressed_claimed r.0.phase r.2 r.3 (ap (λ o. is_some (option_map_or (λ (y : InstRow). phase_address y.phase) o None)) (sym r.1) ∙ a))
+
+-- a resolved instance's unit is held, or it is linked, or it waits for an unmet link query
+resolved_unit_owed : (m : Plain) (u a : ℕ) (x : UnitRow) → IsSound m → NoMetWaits m → slice_get m.units u ≡ Some x → fits x.phase (phase.Resolved a) ≡ true → IsOwed m
+resolved_unit_owed m u a x s w t f = by_phase x.phase refl f
+  where
+    waiting : x.phase ≡ stage.Waiting → IsOwed m
+    waiting e = let l = (s.units_fit u x t).waits e in
+        let unmet = false_from_ne_true (is_met m.rows l.query) (λ met. both_ways (waits_for m u l.number) (w u l.number l.query l.there l.links met) (waiting_from m u l.number x t e l.its)) in
+        let p = unmet_parts m l.number l.query s l.there unmet in
+        resolved_owed m p.0 s (subst (λ lev. at_level m.rows lev p.0 ≡ false) l.level p.1) p.2 p.3
+
+    by_phase : (p : UnitPhase) → x.phase ≡ p → fits p (phase.Resolved a) ≡ true → IsOwed m
+    by_phase stage.Linking e f = owed_held m u x s t (ap is_defunct e) (ap is_held_phase e)
+    by_phase stage.Finishing e f = owed_held m u x s t (ap is_defunct e) (ap is_held_phase e)
+    by_phase stage.Linked e f = owed_job m u x (job.Finish (record { 0 = u })) s t (ap (due_at u) e)
+    by_phase stage.Waiting e f = waiting e
+    by_phase _ e f = absurd (both_ways false refl f)
+
+underway_owed : (m : Plain) (i : ℕ) (r : InstRow) → IsSound m → NoMetWaits m → slice_get m.rows i ≡ Some r → (r.phase ≡ phase.Claimed) ⊎ ((a : ℕ) × (r.phase ≡ phase.Resolved a)) → IsOwed m
+underway_owed m i r s w e (inl p) = row_claimed_owed m i r s e p
+underway_owed m i r s w e (inr p) = let x = underway_here m i r s e (ap is_underway p.1) in resolved_unit_owed m r.unit.0 p.0 x.0 s w x.1 (subst (λ f. fits x.0.phase f ≡ true) p.1 x.2)
+
+-- a live instance that isn't ready reaches one whose work is under way
+unready_owed : (m : Plain) (i : ℕ) → IsSound m → NoMetWaits m → is_ready m.rows i ≡ false → is_lost m.rows i ≡ false → searched_at m.rows i ≡ true → IsOwed m
+unready_owed m i s w n l d = found ((walks_suffice m.rows (λ j. not (emitted_at m.rows j)) i).0 (not-false _ n))
+  where
+    sure : sure_at m.rows i ≡ true
+    sure = let r = live_row m.rows i l d in test_from is_sure m.rows i r.0 r.1 (and_from (not (is_unsearched r.0.phase)) (not (is_failed r.0.phase)) (not_from_false (is_unsearched r.0.phase) r.3) (not_from_false (is_failed r.0.phase) r.2))
+
+    found : (j : ℕ) × Reaches m.rows i j × (not (emitted_at m.rows j) ≡ true) → IsOwed m
+    found p = let r = test_parts is_sure m.rows p.0 (closed_reached m.rows (λ k. sure_at m.rows k ≡ true) (λ k j a c. s.deps k j c) i p.0 sure p.1) in
+        let q = and_parts (not (is_unsearched r.0.phase)) (not (is_failed r.0.phase)) r.2 in
+        underway_owed m p.0 r.0 s w r.1 (unemitted_underway r.0.phase (not-true (is_failed r.0.phase) q.1) (not-true (is_unsearched r.0.phase) q.0)
+        (sym (test_is (λ (y : InstRow). is_emitted y.phase) m.rows p.0 r.0 r.1) ∙ not-true (emitted_at m.rows p.0) p.2))
+
+pub unmet_owed : (m : Plain) (k : ℕ) (q : Query) → IsSound m → NoMetWaits m → slice_get m.queries k ≡ Some q → is_met m.rows q ≡ false → IsOwed m
+unmet_owed m k q s w t u = let p = unmet_parts m k q s t u in by_level q.level refl p.0 p.1 p.2 p.3
+  where
+    by_level : (lev : Level) → q.level ≡ lev → (i : ℕ) → at_level m.rows q.level i ≡ false → is_lost m.rows i ≡ false → searched_at m.rows i ≡ true → IsOwed m
+    by_level level.Resolved e i a l d = resolved_owed m i s (subst (λ lev. at_level m.rows lev i ≡ false) e a) l d
+    by_level level.Ready e i a l d = unready_owed m i s w (subst (λ lev. at_level m.rows lev i ≡ false) e a) l d
+
+pub work_is_owed : WorkIsOwed
+work_is_owed jmax h number q l t o = unmet_owed (state h) number q (legal_is_sound jmax h l) (no_met_waits h) t
+    (ap (λ g. is_met (state g).rows q) (sym (take_all (length h) h (le_refl (length h)))) ∙ o.unmet (length h) (query_was_asked h number q t).1 (le_refl (length h)))
+
+counted : {X : Type 0} (test : X → Bool) (xs : List X) (k : ℕ) (x : X) → slice_get xs k ≡ Some x → test x ≡ true → 0 < sum_by (λ y. cond (test y) 1 0) xs
+counted test [] k x e t = absurd (none-some x e)
+counted test (y ∷ ys) zero x e t = let one : ◌≡◌ {A = ℕ} (cond (test y) 1 0) 1 = ap (λ b. cond b 1 0) (ap test (same_Some y x e) ∙ t) in omega (arith, sum_by-cons (λ z. cond (test z) 1 0) y ys, one)
+counted test (y ∷ ys) (suc k) x e t = omega (arith, sum_by-cons (λ z. cond (test z) 1 0) y ys, counted test ys k x e t)
+
+pub idle_has_none : IdleHasNoOpenQuery
+idle_has_none jmax h number q l j k t o = let w = work_is_owed jmax h number q l t o in clash w w.work
+  where
+    clash : (w : IsOwed (state h)) → (list_any (λ (i : Job). job_unit i == w.number) (state h).jobs ≡ true) ⊎ (is_some w.unit.seat ≡ true) → ⊥
+    clash w (inl a) = both_ways false refl (ap (λ js. list_any (λ (i : Job). job_unit i == w.number) js) (sym j) ∙ a)
+    clash w (inr a) = omega (arith, counted (λ (x : UnitRow). is_some x.seat) (state h).units w.number w.unit w.there a, k)
+
+pub none_waits_for_met : NoneWaitsForMet
+none_waits_for_met h u number q t e met = no_met_waits h u number q t e met

@@ -1,0 +1,10 @@
+pub mod Failures
+pub mod Hello
+pub mod Histories
+pub mod Holding
+pub mod Journal
+pub mod Queries
+pub mod Readiness
+pub mod Sound
+pub mod Walks
+pub mod Work
