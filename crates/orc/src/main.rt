@@ -1,0 +1,86 @@
+//! The program `orc`: it calls the top call of `orc_cli` with the real outside, and ends with its
+//! status. The source is standard input, files are those of the current folder, the output is
+//! standard output and the log standard error. Nothing is proved of what these hold; what the top
+//! call does with them is stated in `orc_cli`, which to read next.
+#![tactic(auto)]
+
+ghost use Rattle.std.specs.Prelude.{◌≡◌, All, None, IfOk};
+
+use orc_cli::{Answer, UsageKind, end_line, orc};
+use orc_io::{FolderFiles, Note, OpenGate, Sink, StdSink, StdSource, write_all};
+use std::alloc::{AllocError, Global};
+use std::env;
+use std::process::ExitCode;
+use std::rc::RcStr;
+use std::rt::Env;
+
+/// How many notifiers a call is handed.
+const NOTES: usize = 16;
+
+fn main(rt: HostRuntime) -> ExitCode {
+    let alloc = rt.alloc();
+    let mut log = StdSink::new(rt.stderr());
+    let words = match words_of(&rt) {
+        Ok(words) => words,
+        Err(answer) => return refuse(alloc, &mut log, answer),
+    };
+    let runtime: Result<_, _> = rt.clone();
+    let Ok(runtime) = runtime else {
+        return refuse(alloc, &mut log, Answer::NoMemory);
+    };
+    let Ok(notes) = fresh_notes(alloc) else {
+        return refuse(alloc, &mut log, Answer::NoMemory);
+    };
+    let ended = orc(
+        &rt,
+        alloc,
+        words.as_slice(),
+        &mut StdSource::new(rt.stdin()),
+        &mut FolderFiles::new(runtime),
+        &mut StdSink::new(rt.stdout()),
+        &mut log,
+        &OpenGate,
+        notes,
+    );
+    ExitCode::from(ended.status)
+}
+
+/// The words of the command line. Where one of them is no text, they don't fit.
+fn words_of<R: Env + AllocGlobal>(rt: &R) -> Result<Vec<RcStr>, Answer> {
+    let Ok(args) = env::args(rt) else {
+        return Err(Answer::Usage(UsageKind::BadWords));
+    };
+    let mut words = Vec::new(rt.alloc());
+    for arg in args {
+        let Ok(word) = RcStr::from_string(arg) else {
+            return Err(Answer::NoMemory);
+        };
+        if words.push(word).is_err() {
+            return Err(Answer::NoMemory);
+        }
+    }
+    Ok(words)
+}
+
+/// Notifiers that nothing was told.
+fn fresh_notes(alloc: Global) -> Result<Vec<Note>, AllocError>
+    ensures { IfOk result (λ notes. All (λ n. n.outcome ≡ None) notes.items) }
+{
+    let mut notes = Vec::new(alloc);
+    for _ in 0..NOTES {
+        notes.push(Note::new())?;
+    }
+    Ok(notes)
+}
+
+/// Ends with an answer that was found before the call.
+fn refuse<L: Sink>(alloc: Global, log: &mut L, answer: Answer) -> ExitCode {
+    let written = match end_line(alloc, &answer) {
+        Ok(line) => write_all(log, line.as_slice()),
+        Err(_) => Ok(()),
+    };
+    match written {
+        Ok(()) => ExitCode::from(answer.status()),
+        Err(_) => ExitCode::from(Answer::WriteFault.status()),
+    }
+}

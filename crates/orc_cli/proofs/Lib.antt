@@ -1,0 +1,4 @@
+pub mod Words32
+pub mod Blocks
+pub mod AllTaken
+pub mod Clauses

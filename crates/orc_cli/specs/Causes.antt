@@ -1,0 +1,100 @@
+-- When each answer comes: what the clauses of the top call say.
+use Rattle.std.specs.Prelude.{◌≡◌, ◌≢◌, ◌≤◌, ◌<◌, ℕ, ◌⊎◌, List, [], take, length, Option, Some, Result, Ok, Err}
+use Rattle.orc_io.specs.declared.limits.TheConstants.{FILE_LIMIT}
+use Rattle.orc_io.specs.Contents.{HasContent, IsLongerThan}
+use Rattle.exec_run.specs.declared.ran.RunEnd.{RunEnd}
+use Rattle.orc_cli.specs.declared.words.UsageKind.{UsageKind}
+use Rattle.orc_cli.specs.declared.answer.ObjectWhy.{ObjectWhy}
+use Rattle.orc_cli.specs.declared.answer.ObjectWhy.TheVariants.{Elf}
+use Rattle.orc_cli.specs.declared.answer.Answer.{Answer}
+use Rattle.orc_cli.specs.declared.answer.Answer.TheVariants.{Exited, Usage, ReadFault, FileFault, WriteFault, ObjectRefused, TooLong, Missing, Trap, OutOfFuel, OutputFull, NoMemory}
+use Rattle.orc_cli.specs.EndLine.{end_line_of}
+use Rattle.orc_cli.specs.Outcomes.{Outcome, refused, missing, starts, outcome_of, Runs, EndsIn}
+use Rattle.orc_cli.specs.Answered.{Told, Held, HoldsWhole, HoldsPart, HoldsAsBefore, IsFound}
+use Rattle.orc_cli.specs.Words.{Request}
+
+-- a write failed, or memory ran out
+abbrev pub HasStopped : Answer → Type 0
+HasStopped answer = (answer ≡ WriteFault) ⊎ (answer ≡ NoMemory)
+
+-- the file couldn't be read, a write failed, or memory ran out
+abbrev pub HasFault : Answer → Type 0
+HasFault answer = (answer ≡ FileFault 0) ⊎ HasStopped answer
+
+-- the words ask to run a file from the entry, and the files tell that it has these bytes
+pub record IsTold (asked : Result Request UsageKind) (told : Told) (bytes entry : List ℕ) : Type 0 where
+  pub file : List ℕ
+  pub asks : asked ≡ Ok (record { file = file; entry = entry })
+  pub contents : List ℕ → Option (List ℕ)
+  pub tells : told ≡ Some contents
+  pub has : contents file ≡ Some bytes
+
+-- the words ask to run a file, and it is longer than 16 MiB where the files tell its bytes
+pub record IsLongFile (asked : Result Request UsageKind) (told : Told) : Type 0 where
+  pub run : Request
+  pub asks : asked ≡ Ok run
+  pub longer : IsLongerThan FILE_LIMIT told run.file
+
+-- the words ask to run a file from an entry, and the fact holds of some bytes of at most 16 MiB: those of the file,
+-- where the files tell them
+pub record OfFile (asked : Result Request UsageKind) (told : Told) (Fact : List ℕ → List ℕ → Type 0) : Type 0 where
+  pub run : Request
+  pub asks : asked ≡ Ok run
+  pub bytes : List ℕ
+  pub short : length bytes ≤ FILE_LIMIT
+  pub content : HasContent told run.file bytes
+  pub fact : Fact bytes run.entry
+
+-- the bytes are refused as an object
+abbrev pub IsRefused : ObjectWhy → List ℕ → List ℕ → Type 0
+IsRefused (Elf e) bytes entry = outcome_of bytes entry ≡ refused e
+
+-- the object has no symbol of the entry's name that is not local
+abbrev pub IsMissing : List ℕ → List ℕ → List ℕ → Type 0
+IsMissing name bytes entry = (name ≡ entry) × (outcome_of bytes entry ≡ missing)
+
+-- the run of the image from the entry has this end and output
+pub record HasRun (end : RunEnd) (output bytes entry : List ℕ) : Type 0 where
+  pub image : List ℕ
+  pub pc : ℕ
+  pub linked : outcome_of bytes entry ≡ starts image pc
+  pub runs : Runs image pc end output
+
+-- the run has this end, and its output is what out gained
+pub record HasRunOn (out out' : Held) (end : RunEnd) (bytes entry : List ℕ) : Type 0 where
+  pub output : List ℕ
+  pub ran : HasRun end output bytes entry
+  pub written : HoldsWhole out out' output
+
+-- a run of the image from the address ends so
+abbrev pub IsEndOf : List ℕ → ℕ → Answer → Type 0
+IsEndOf image pc answer = (output : List ℕ) × EndsIn image pc answer output
+
+-- nothing ran, and no write failed
+abbrev pub IsQuiet : Answer → Type 0
+IsQuiet (Exited _) = ⊥
+IsQuiet (Usage _) = Unit {0}
+IsQuiet ReadFault = Unit {0}
+IsQuiet (FileFault _) = Unit {0}
+IsQuiet WriteFault = ⊥
+IsQuiet (ObjectRefused _ _) = Unit {0}
+IsQuiet (TooLong _) = Unit {0}
+IsQuiet (Missing _) = Unit {0}
+IsQuiet (Trap _ _) = ⊥
+IsQuiet OutOfFuel = ⊥
+IsQuiet OutputFull = ⊥
+IsQuiet NoMemory = Unit {0}
+
+-- after a write that failed: what was found stands on the sinks in part, and log has none of it unless out has all
+pub record IsCut (asked : Result Request UsageKind) (told : Told) (before after : ℕ) (out out' log log' : Held) : Type 0 where
+  pub found : Answer
+  pub output : List ℕ
+  pub is_found : IsFound asked told before after found output
+  pub out_part : HoldsPart out out' output
+  pub log_part : HoldsPart log log' (end_line_of found)
+  pub out_first : HoldsAsBefore log log' ⊎ HoldsWhole out out' output
+
+-- where memory ran out: out is as before, and log has gained a first part of the end line
+pub record IsWanting (out out' log log' : Held) : Type 0 where
+  pub out_same : HoldsAsBefore out out'
+  pub log_part : HoldsPart log log' (end_line_of NoMemory)

@@ -1,0 +1,11 @@
+pub mod Words
+pub mod Answers
+pub mod EndLine
+pub mod Image
+pub mod Edges
+pub mod Relocations
+pub mod Values
+pub mod Link
+pub mod Outcomes
+pub mod Answered
+pub mod Causes

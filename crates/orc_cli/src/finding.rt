@@ -1,0 +1,52 @@
+ghost use Rattle.std.specs.Prelude.{◌≡◌, ◌≤◌, map, Ok};
+ghost use Rattle.std.specs.Rc.{rc_str_bytes};
+ghost use Rattle.orc_cli.specs.Words.{command_of};
+ghost use Rattle.orc_cli.specs.Answered.{IsFound};
+ghost use Rattle.orc_cli.specs.Outcomes.{IsSilent};
+
+use crate::answer::Answer;
+use crate::running::{Found, run_object};
+use crate::words::read_command;
+use orc_ids::Bytes;
+use orc_io::{FileError, Files};
+use std::alloc::Global;
+use std::rc::RcStr;
+
+/// What the words answer, before anything is written.
+pub fn find_answer<F: Files>(alloc: Global, words: &[RcStr], files: &mut F) -> Found
+    ensures found { IsFound (command_of (map rc_str_bytes words.now)) (F.holds files.old) (F.faults files.old) (F.faults files.new) result.answer result.output }
+    ensures counted { F.faults files.old ≤ F.faults files.new }
+    ensures same { F.holds files.new ≡ F.holds files.old }
+{
+    match read_command(words) {
+        Ok(run) => run_file(alloc, run.file, run.entry, files),
+        Err(kind) => silent(alloc, Answer::Usage(kind)),
+    }
+}
+
+/// What a run of a file answers.
+fn run_file<F: Files>(alloc: Global, file: &str, entry: &str, files: &mut F) -> Found
+    ensures found { IsFound (Ok (record { file = file.now; entry = entry.now })) (F.holds files.old) (F.faults files.old) (F.faults files.new) result.answer result.output }
+    ensures counted { F.faults files.old ≤ F.faults files.new }
+    ensures same { F.holds files.new ≡ F.holds files.old }
+{
+    match files.read_file(alloc, file) {
+        Ok(bytes) => match run_object(alloc, bytes.as_slice(), entry) {
+            Ok(found) => found,
+            Err(_) => silent(alloc, Answer::NoMemory),
+        },
+        Err(FileError::TooLong) => silent(alloc, Answer::TooLong(0)),
+        Err(FileError::Failed) => silent(alloc, Answer::FileFault(0)),
+        Err(FileError::NoMemory) => silent(alloc, Answer::NoMemory),
+    }
+}
+
+/// An answer without output.
+fn silent(alloc: Global, answer: Answer) -> Found
+    ensures { IsSilent answer result.answer result.output }
+{
+    Found {
+        answer,
+        output: Bytes::new(alloc),
+    }
+}

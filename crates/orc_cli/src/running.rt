@@ -1,0 +1,102 @@
+ghost use Rattle.std.specs.Prelude.{◌≡◌, ◌<◌, length, IfOk};
+ghost use Rattle.orc_cli.specs.Outcomes.{Runs, AnswersAs, IsSilent, outcome_of, entered, answer_of_lem};
+
+use crate::answer::{Answer, ObjectWhy};
+use crate::link::{LinkError, Linked, link};
+use code_memory::Space;
+use elf_read::{ElfError, NotBuiltKind, read_object};
+use exec_run::{Ran, RunEnd, run};
+use orc_ids::{Bytes, Shape, UnitId};
+use std::alloc::{AllocError, Global};
+
+/// How many instructions a run may do.
+pub const FUEL: u64 = 1_000_000;
+
+/// What was found, before anything is written: the answer, and the output of a run.
+#[derive(Drop)]
+pub struct Found {
+    pub answer: Answer,
+    pub output: Bytes,
+}
+
+/// What a run of a file answers: its object is read, linked and run from the entry.
+pub fn run_object(alloc: Global, bytes: &[u8], entry: &str) -> Result<Found, AllocError>
+    ensures { IfOk result (λ f. AnswersAs (outcome_of bytes.now entry.now) entry.now f.answer f.output) }
+{
+    let object = match read_object(alloc, bytes) {
+        Ok(object) => object,
+        Err(ElfError::NoMemory) => return Err(AllocError),
+        Err(why) => return Ok(refused(alloc, why)),
+    };
+    match link(alloc, &object, entry) {
+        Ok(linked) => run_linked(alloc, linked, entry),
+        Err(LinkError::Form) => Ok(refused(alloc, ElfError::NotBuilt(NotBuiltKind::Form))),
+        Err(LinkError::NoMemory) => Err(AllocError),
+    }
+}
+
+/// Runs a linked object from its entry.
+fn run_linked(alloc: Global, linked: Linked, entry: &str) -> Result<Found, AllocError>
+    requires { 0 < length linked.image }
+    ensures { IfOk result (λ f. AnswersAs (entered linked.image linked.entry) entry.now f.answer f.output) }
+{
+    let Linked {
+        image,
+        entry: start,
+    } = linked;
+    match start {
+        Some(pc) => {
+            let Ran { end, output } = run_image(alloc, image, pc)?;
+            Ok(Found {
+                answer: answer_of(end),
+                output,
+            })
+        }
+        None => Ok(Found {
+            answer: Answer::Missing(Bytes::copy_of(alloc, entry.as_bytes())?),
+            output: Bytes::new(alloc),
+        }),
+    }
+}
+
+/// Runs an image, placed at the start of code memory, without arguments.
+fn run_image(alloc: Global, image: Bytes, pc: u64) -> Result<Ran, AllocError>
+    requires { 0 < length image }
+    ensures { IfOk result (λ ran. Runs image pc ran.end ran.output) }
+{
+    let unit = UnitId(0);
+    let shape = Shape {
+        need: image.len() as u64,
+        align: 16,
+    };
+    let mut space = Space::new(alloc);
+    // Nothing else is placed, and a unit fits code memory, so that want of memory alone refuses it.
+    if space.place(unit, shape).is_err() {
+        return Err(AllocError);
+    }
+    space.deposit(unit, image);
+    let memory = space.image()?;
+    run(alloc, &memory, pc, &[], FUEL)
+}
+
+/// The answer that a run's end is.
+fn answer_of(end: RunEnd) -> Answer
+    ensures { result ≡ answer_of_lem end }
+{
+    match end {
+        RunEnd::Exited(code) => Answer::Exited(code),
+        RunEnd::Trap(pc, cause) => Answer::Trap(pc, cause),
+        RunEnd::OutOfFuel => Answer::OutOfFuel,
+        RunEnd::OutputFull => Answer::OutputFull,
+    }
+}
+
+/// The answer that the object of file 0 is refused.
+fn refused(alloc: Global, why: ElfError) -> Found
+    ensures { IsSilent (Answer.ObjectRefused 0 (ObjectWhy.Elf why)) result.answer result.output }
+{
+    Found {
+        answer: Answer::ObjectRefused(0, ObjectWhy::Elf(why)),
+        output: Bytes::new(alloc),
+    }
+}

@@ -1,0 +1,239 @@
+ghost use Rattle.std.specs.Prelude.{◌≡◌, ◌≢◌, ◌≤◌, ◌<◌, ◌⊎◌, ℕ, List, [], map, take, length, All, None, Err, IsOk};
+ghost use Rattle.std.specs.Rc.{rc_str_bytes};
+ghost use Rattle.std.specs.Io.KnownBytes.{Appends};
+ghost use Rattle.orc_io.specs.Causes.{Rose};
+ghost use Rattle.elf_read.specs.declared.error.ElfError.{ElfError};
+ghost use Rattle.exec_run.specs.declared.ran.RunEnd.{RunEnd};
+ghost use Rattle.orc_cli.specs.declared.words.UsageKind.{UsageKind};
+ghost use Rattle.orc_cli.specs.declared.answer.ObjectWhy.{ObjectWhy};
+ghost use Rattle.orc_cli.specs.Answers.{status_of};
+ghost use Rattle.orc_cli.specs.EndLine.{end_line_of};
+ghost use Rattle.orc_cli.specs.Words.{command_of};
+ghost use Rattle.orc_cli.specs.Outcomes.{refused, missing, starts, outcome_of, answer_of_lem};
+ghost use Rattle.orc_cli.specs.Answered.{IsAnswered, held_by};
+ghost use Rattle.orc_cli.specs.Causes.{HasStopped, HasFault, IsTold, IsLongFile, OfFile, IsRefused, IsMissing, HasRunOn, IsEndOf, IsQuiet, IsCut, IsWanting};
+
+use crate::answer::{Answer, ObjectWhy};
+use crate::finding::find_answer;
+use crate::notes::{Noted, Notes};
+use crate::words::UsageKind;
+use crate::writing::write_found;
+use elf_read::ElfError;
+use exec_run::RunEnd;
+use orc_io::{FILE_LIMIT, Files, Gate, Notify, Sink, Source};
+use std::alloc::Global;
+use std::rc::RcStr;
+use std::sync::Wait;
+use std::thread::Threads;
+
+/// The most entries that a session's journal has in `orc`.
+pub const JOURNAL_LIMIT: usize = 1_048_576;
+
+/// How a call of `orc` ended.
+#[derive(Drop)]
+pub struct Ended<N: Notify> {
+    pub answer: Answer,
+    /// The exit status of the program.
+    pub status: u8,
+    /// The notifiers that were handed in.
+    pub notes: Notes<N>,
+}
+
+/// Does what the words ask: reads the file, links its object at the start of code memory, runs it from
+/// the entry, writes the run's output on `out` and the end line on `log`, and answers.
+///
+/// Word 0 is the program's name, word 1 the command. The source, the gate and the notifiers are for
+/// commands that are not built yet.
+pub fn orc<
+    S: Source,
+    F: Files,
+    O: Sink,
+    L: Sink,
+    G: Gate + Sync,
+    N: Notify + Send,
+    R: Threads + Wait,
+>(
+    rt: &R,
+    alloc: Global,
+    words: &[RcStr],
+    source: &mut S,
+    files: &mut F,
+    out: &mut O,
+    log: &mut L,
+    gate: &G,
+    notes: Vec<N>,
+) -> Ended<N>
+    requires { All (λ n. N.heard n ≡ None) notes.items }
+
+    ensures status { result.status ≡ status_of result.answer }
+
+    // The words.
+    ensures usage_only { (kind : UsageKind) → result.answer ≡ Answer.Usage kind → command_of (map rc_str_bytes words.now) ≡ Err kind }
+    ensures usage_told { (kind : UsageKind) → command_of (map rc_str_bytes words.now) ≡ Err kind → (result.answer ≡ Answer.Usage kind) ⊎ HasStopped result.answer }
+
+    // The source is not read.
+    ensures source_left { S.left source.new ≡ S.left source.old }
+    ensures source_faults { S.faults source.new ≡ S.faults source.old }
+    ensures no_read_fault { result.answer ≢ Answer.ReadFault }
+
+    // A fault comes only where its count rose, and no count falls.
+    ensures file_fault { (k : ℕ) → result.answer ≡ Answer.FileFault k → (k ≡ 0) × IsOk (command_of (map rc_str_bytes words.now)) × Rose (F.faults files.old) (F.faults files.new) }
+    ensures write_fault { result.answer ≡ Answer.WriteFault → Rose (O.faults out.old) (O.faults out.new) ⊎ Rose (L.faults log.old) (L.faults log.new) }
+    ensures files_counted { F.faults files.old ≤ F.faults files.new }
+    ensures out_counted { O.faults out.old ≤ O.faults out.new }
+    ensures log_counted { L.faults log.old ≤ L.faults log.new }
+    ensures files_same { F.holds files.new ≡ F.holds files.old }
+
+    // Where the files tell the bytes of the file, they decide the answer.
+    ensures too_long_told { (bytes entry : List ℕ) → IsTold (command_of (map rc_str_bytes words.now)) (F.holds files.old) bytes entry
+        → FILE_LIMIT < length bytes → (result.answer ≡ Answer.TooLong 0) ⊎ HasFault result.answer }
+    ensures refused_told { (bytes entry : List ℕ) (e : ElfError) → IsTold (command_of (map rc_str_bytes words.now)) (F.holds files.old) bytes entry
+        → length bytes ≤ FILE_LIMIT → outcome_of bytes entry ≡ refused e → (result.answer ≡ Answer.ObjectRefused 0 (ObjectWhy.Elf e)) ⊎ HasFault result.answer }
+    ensures missing_told { (bytes entry : List ℕ) → IsTold (command_of (map rc_str_bytes words.now)) (F.holds files.old) bytes entry
+        → length bytes ≤ FILE_LIMIT → outcome_of bytes entry ≡ missing → (result.answer ≡ Answer.Missing entry) ⊎ HasFault result.answer }
+    ensures ran_told { (bytes entry image : List ℕ) (pc : ℕ) → IsTold (command_of (map rc_str_bytes words.now)) (F.holds files.old) bytes entry
+        → length bytes ≤ FILE_LIMIT → outcome_of bytes entry ≡ starts image pc → IsEndOf image pc result.answer ⊎ HasFault result.answer }
+
+    // Each answer comes only where the bytes of the file say so.
+    ensures too_long_only { (k : ℕ) → result.answer ≡ Answer.TooLong k
+        → (k ≡ 0) × IsLongFile (command_of (map rc_str_bytes words.now)) (F.holds files.old) }
+    ensures refused_only { (k : ℕ) (why : ObjectWhy) → result.answer ≡ Answer.ObjectRefused k why
+        → (k ≡ 0) × OfFile (command_of (map rc_str_bytes words.now)) (F.holds files.old) (IsRefused why) }
+    ensures missing_only { (name : List ℕ) → result.answer ≡ Answer.Missing name
+        → OfFile (command_of (map rc_str_bytes words.now)) (F.holds files.old) (IsMissing name) }
+
+    // A run's end is answered only where a run of the image ends so, and out has gained its output.
+    ensures ran_only { (end : RunEnd) → result.answer ≡ answer_of_lem end
+        → OfFile (command_of (map rc_str_bytes words.now)) (F.holds files.old) (HasRunOn (held_by (O.held out.old) (O.faults out.old)) (held_by (O.held out.new) (O.faults out.new)) end) }
+    ensures out_quiet { IsQuiet result.answer → Appends (O.held out.old) (O.held out.new) [] }
+
+    // Log has gained the end line. Where a write failed or memory ran out, each sink has a part of its text.
+    ensures log_line { result.answer ≢ Answer.WriteFault → result.answer ≢ Answer.NoMemory → Appends (L.held log.old) (L.held log.new) (end_line_of result.answer) }
+    ensures cut { result.answer ≡ Answer.WriteFault → IsCut (command_of (map rc_str_bytes words.now)) (F.holds files.old) (F.faults files.old) (F.faults files.new)
+        (held_by (O.held out.old) (O.faults out.old)) (held_by (O.held out.new) (O.faults out.new)) (held_by (L.held log.old) (L.faults log.old)) (held_by (L.held log.new) (L.faults log.new)) }
+    ensures wanting { result.answer ≡ Answer.NoMemory
+        → IsWanting (held_by (O.held out.old) (O.faults out.old)) (held_by (O.held out.new) (O.faults out.new)) (held_by (L.held log.old) (L.faults log.old)) (held_by (L.held log.new) (L.faults log.new)) }
+
+    // The notifiers come back in their order, and nothing was told them.
+    ensures notes { result.answer ≢ Answer.NoMemory → result.notes ≡ map Noted.Unfired notes.items }
+    ensures fewer_notes { (n : ℕ) × (result.notes ≡ take n (map Noted.Unfired notes.items)) }
+{
+    orc_sized::<S, F, O, L, G, N, R, JOURNAL_LIMIT>(
+        rt, alloc, words, source, files, out, log, gate, notes,
+    )
+}
+
+/// `orc` with a journal of at most `JMAX` entries.
+pub fn orc_sized<
+    S: Source,
+    F: Files,
+    O: Sink,
+    L: Sink,
+    G: Gate + Sync,
+    N: Notify + Send,
+    R: Threads + Wait,
+    const JMAX: usize,
+>(
+    _rt: &R,
+    alloc: Global,
+    words: &[RcStr],
+    source: &mut S,
+    files: &mut F,
+    out: &mut O,
+    log: &mut L,
+    _gate: &G,
+    notes: Vec<N>,
+) -> Ended<N>
+    requires unheard { All (λ n. N.heard n ≡ None) notes.items }
+    requires journal { JMAX ≤ JOURNAL_LIMIT }
+
+    ensures status { result.status ≡ status_of result.answer }
+
+    // The words.
+    ensures usage_only { (kind : UsageKind) → result.answer ≡ Answer.Usage kind → command_of (map rc_str_bytes words.now) ≡ Err kind }
+    ensures usage_told { (kind : UsageKind) → command_of (map rc_str_bytes words.now) ≡ Err kind → (result.answer ≡ Answer.Usage kind) ⊎ HasStopped result.answer }
+
+    // The source is not read.
+    ensures source_left { S.left source.new ≡ S.left source.old }
+    ensures source_faults { S.faults source.new ≡ S.faults source.old }
+    ensures no_read_fault { result.answer ≢ Answer.ReadFault }
+
+    // A fault comes only where its count rose, and no count falls.
+    ensures file_fault { (k : ℕ) → result.answer ≡ Answer.FileFault k → (k ≡ 0) × IsOk (command_of (map rc_str_bytes words.now)) × Rose (F.faults files.old) (F.faults files.new) }
+    ensures write_fault { result.answer ≡ Answer.WriteFault → Rose (O.faults out.old) (O.faults out.new) ⊎ Rose (L.faults log.old) (L.faults log.new) }
+    ensures files_counted { F.faults files.old ≤ F.faults files.new }
+    ensures out_counted { O.faults out.old ≤ O.faults out.new }
+    ensures log_counted { L.faults log.old ≤ L.faults log.new }
+    ensures files_same { F.holds files.new ≡ F.holds files.old }
+
+    // Where the files tell the bytes of the file, they decide the answer.
+    ensures too_long_told { (bytes entry : List ℕ) → IsTold (command_of (map rc_str_bytes words.now)) (F.holds files.old) bytes entry
+        → FILE_LIMIT < length bytes → (result.answer ≡ Answer.TooLong 0) ⊎ HasFault result.answer }
+    ensures refused_told { (bytes entry : List ℕ) (e : ElfError) → IsTold (command_of (map rc_str_bytes words.now)) (F.holds files.old) bytes entry
+        → length bytes ≤ FILE_LIMIT → outcome_of bytes entry ≡ refused e → (result.answer ≡ Answer.ObjectRefused 0 (ObjectWhy.Elf e)) ⊎ HasFault result.answer }
+    ensures missing_told { (bytes entry : List ℕ) → IsTold (command_of (map rc_str_bytes words.now)) (F.holds files.old) bytes entry
+        → length bytes ≤ FILE_LIMIT → outcome_of bytes entry ≡ missing → (result.answer ≡ Answer.Missing entry) ⊎ HasFault result.answer }
+    ensures ran_told { (bytes entry image : List ℕ) (pc : ℕ) → IsTold (command_of (map rc_str_bytes words.now)) (F.holds files.old) bytes entry
+        → length bytes ≤ FILE_LIMIT → outcome_of bytes entry ≡ starts image pc → IsEndOf image pc result.answer ⊎ HasFault result.answer }
+
+    // Each answer comes only where the bytes of the file say so.
+    ensures too_long_only { (k : ℕ) → result.answer ≡ Answer.TooLong k
+        → (k ≡ 0) × IsLongFile (command_of (map rc_str_bytes words.now)) (F.holds files.old) }
+    ensures refused_only { (k : ℕ) (why : ObjectWhy) → result.answer ≡ Answer.ObjectRefused k why
+        → (k ≡ 0) × OfFile (command_of (map rc_str_bytes words.now)) (F.holds files.old) (IsRefused why) }
+    ensures missing_only { (name : List ℕ) → result.answer ≡ Answer.Missing name
+        → OfFile (command_of (map rc_str_bytes words.now)) (F.holds files.old) (IsMissing name) }
+
+    // A run's end is answered only where a run of the image ends so, and out has gained its output.
+    ensures ran_only { (end : RunEnd) → result.answer ≡ answer_of_lem end
+        → OfFile (command_of (map rc_str_bytes words.now)) (F.holds files.old) (HasRunOn (held_by (O.held out.old) (O.faults out.old)) (held_by (O.held out.new) (O.faults out.new)) end) }
+    ensures out_quiet { IsQuiet result.answer → Appends (O.held out.old) (O.held out.new) [] }
+
+    // Log has gained the end line. Where a write failed or memory ran out, each sink has a part of its text.
+    ensures log_line { result.answer ≢ Answer.WriteFault → result.answer ≢ Answer.NoMemory → Appends (L.held log.old) (L.held log.new) (end_line_of result.answer) }
+    ensures cut { result.answer ≡ Answer.WriteFault → IsCut (command_of (map rc_str_bytes words.now)) (F.holds files.old) (F.faults files.old) (F.faults files.new)
+        (held_by (O.held out.old) (O.faults out.old)) (held_by (O.held out.new) (O.faults out.new)) (held_by (L.held log.old) (L.faults log.old)) (held_by (L.held log.new) (L.faults log.new)) }
+    ensures wanting { result.answer ≡ Answer.NoMemory
+        → IsWanting (held_by (O.held out.old) (O.faults out.old)) (held_by (O.held out.new) (O.faults out.new)) (held_by (L.held log.old) (L.faults log.old)) (held_by (L.held log.new) (L.faults log.new)) }
+
+    // The notifiers come back in their order, and nothing was told them.
+    ensures notes { result.answer ≢ Answer.NoMemory → result.notes ≡ map Noted.Unfired notes.items }
+    ensures fewer_notes { (n : ℕ) × (result.notes ≡ take n (map Noted.Unfired notes.items)) }
+{
+    let _ = source;
+    perform(alloc, words, files, out, log, notes)
+}
+
+/// What the words ask, done without waiting for anybody.
+fn perform<F: Files, O: Sink, L: Sink, N: Notify>(
+    alloc: Global,
+    words: &[RcStr],
+    files: &mut F,
+    out: &mut O,
+    log: &mut L,
+    notes: Vec<N>,
+) -> Ended<N>
+    ensures answered { IsAnswered (command_of (map rc_str_bytes words.now)) (F.holds files.old) (F.faults files.old) (F.faults files.new) (held_by (O.held out.old) (O.faults out.old)) (held_by (O.held out.new) (O.faults out.new)) (held_by (L.held log.old) (L.faults log.old)) (held_by (L.held log.new) (L.faults log.new)) result.answer }
+    ensures status { result.status ≡ status_of result.answer }
+    ensures files_counted { F.faults files.old ≤ F.faults files.new }
+    ensures files_same { F.holds files.new ≡ F.holds files.old }
+    ensures out_counted { O.faults out.old ≤ O.faults out.new }
+    ensures log_counted { L.faults log.old ≤ L.faults log.new }
+    ensures notes { result.answer ≢ Answer.NoMemory → result.notes ≡ map Noted.Unfired notes.items }
+    ensures fewer_notes { (n : ℕ) × (result.notes ≡ take n (map Noted.Unfired notes.items)) }
+{
+    let Ok(notes) = Notes::unfired(alloc, notes) else {
+        return Ended {
+            status: Answer::NoMemory.status(),
+            answer: Answer::NoMemory,
+            notes: Notes::new(alloc),
+        };
+    };
+    let found = find_answer(alloc, words, files);
+    let answer = write_found(alloc, found, out, log);
+    Ended {
+        status: answer.status(),
+        answer,
+        notes,
+    }
+}
