@@ -21,7 +21,10 @@ KINDS = {
 BINDS = {"LOCAL": 0, "GLOBAL": 1, "WEAK": 2}
 TYPES = {"NOTYPE": 0, "OBJECT": 1, "FUNC": 2, "SECTION": 3, "FILE": 4, "COMMON": 5, "TLS": 6}
 VISIBILITIES = {"DEFAULT": 0, "INTERNAL": 1, "HIDDEN": 2, "PROTECTED": 3}
-FLAGS = {"W": 1, "A": 2, "X": 4, "M": 0x10, "S": 0x20, "I": 0x40, "L": 0x80, "G": 0x200, "T": 0x400}
+FLAGS = {
+    "W": 1, "A": 2, "X": 4, "M": 0x10, "S": 0x20, "I": 0x40, "L": 0x80, "O": 0x100, "G": 0x200,
+    "T": 0x400, "C": 0x800, "E": 1 << 31,
+}
 RELOCATION = re.compile(r"^R_RISCV_(\w+)$")
 
 

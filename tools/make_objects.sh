@@ -9,6 +9,7 @@ for source in "$here"/../examples/*.s "$here"/objects/*.s; do
     [ -e "$source" ] || continue
     $as -o "$out/as-$(basename "$source" .s).o" "$source"
     $as -g -o "$out/as-$(basename "$source" .s)-g.o" "$source"
+    $as -mrelax -o "$out/as-$(basename "$source" .s)-relax.o" "$source"
 done
 for source in "$here"/objects/*.c; do
     name=$(basename "$source" .c)

@@ -17,6 +17,24 @@ use crate::table::Table;
 use orc_ids::Bytes;
 use std::alloc::{AllocError, Global};
 
+/// The most bytes that the names of an object's sections, or of its symbols, take in memory. Names may
+/// lie over each other in a string table, so that a small file names far more bytes than it has: one
+/// that names more is answered as if memory had run out.
+const NAMES_ROOM: u64 = 1 << 29;
+
+/// Copies a name, as long as there is room for it.
+fn copy_name(alloc: Global, name: &[u8], room: &mut u64) -> Result<Bytes, AllocError>
+    ensures { IfOk result (λ copy. copy ≡ name.now) }
+{
+    match room.checked_sub(name.len() as u64) {
+        None => Err(AllocError),
+        Some(left) => {
+            *room = left;
+            Bytes::copy_of(alloc, name)
+        }
+    }
+}
+
 /// The name of a section; empty where it is not in the name table.
 #[tactic(auto, unfolding(crate::specs::Sections::section_name))]
 fn section_name<'a>(table: &Table<'a>, i: u32) -> &'a [u8]
@@ -47,7 +65,12 @@ fn align_of(section: &SectionHeader) -> u64
 }
 
 #[tactic(auto, unfolding(crate::specs::Object::section_in))]
-fn build_section(alloc: Global, table: &Table, i: u32) -> Result<Section, AllocError>
+fn build_section(
+    alloc: Global,
+    table: &Table,
+    i: u32,
+    room: &mut u64,
+) -> Result<Section, AllocError>
     requires sections { first_below table.now.count (section_refusal table.now) ≡ None }
     requires number { i < table.now.count }
     requires kept { IsTrue (is_kept (section table.now i)) }
@@ -55,7 +78,7 @@ fn build_section(alloc: Global, table: &Table, i: u32) -> Result<Section, AllocE
 {
     let section = table.section(i);
     Ok(Section {
-        name: Bytes::copy_of(alloc, section_name(table, i))?,
+        name: copy_name(alloc, section_name(table, i), room)?,
         kind: section.kind,
         flags: section.flags,
         align: align_of(&section),
@@ -70,9 +93,10 @@ fn build_sections(alloc: Global, table: &Table) -> Result<Sections, AllocError>
     ensures { IfOk result (λ sections. sections ≡ map (section_in table.now) (kept_below table.now table.now.count)) }
 {
     let mut items = Vec::new(alloc);
+    let mut room = NAMES_ROOM;
     for i in 0..table.count() {
         if table.section(i).is_kept() {
-            items.push(build_section(alloc, table, i)?)?;
+            items.push(build_section(alloc, table, i, &mut room)?)?;
         }
     }
     Ok(Sections::from_vec(items))
@@ -116,7 +140,7 @@ fn build_zero(alloc: Global) -> Symbol
 }
 
 #[tactic(auto, unfolding(crate::specs::Symbols::symbol_in))]
-fn build_symbol(alloc: Global, table: &Table, j: u32) -> Result<Symbol, AllocError>
+fn build_symbol(alloc: Global, table: &Table, j: u32, room: &mut u64) -> Result<Symbol, AllocError>
     requires inside { IsTrue (lies_in table.now.bytes (symtab table.now).offset (symtab table.now).size) }
     requires number { j < symbol_count table.now }
     ensures { IfOk result (λ s. s ≡ symbol_in table.now j) }
@@ -126,7 +150,7 @@ fn build_symbol(alloc: Global, table: &Table, j: u32) -> Result<Symbol, AllocErr
     }
     let entry = symbol_entry(table, j);
     Ok(Symbol {
-        name: Bytes::copy_of(alloc, symbol_name(table, j))?,
+        name: copy_name(alloc, symbol_name(table, j), room)?,
         bind: entry.bind,
         kind: entry.kind,
         vis: entry.vis,
@@ -142,8 +166,9 @@ fn build_symbols(alloc: Global, table: &Table) -> Result<Symbols, AllocError>
 {
     let total = symbol_total(table)?;
     let mut items = Vec::with_capacity(alloc, total as usize)?;
+    let mut room = NAMES_ROOM;
     for j in 0..total {
-        items.push(build_symbol(alloc, table, j)?)?;
+        items.push(build_symbol(alloc, table, j, &mut room)?)?;
     }
     Ok(Symbols::from_vec(items))
 }

@@ -10,6 +10,8 @@ mod apply;
 mod image;
 mod place;
 mod raw;
+#[cfg(test)]
+mod tests;
 mod upper;
 
 pub use apply::FixError;

@@ -1,0 +1,120 @@
+#!/usr/bin/env python3
+"""Writes large objects and measures how long the reader takes for each.
+
+    large_objects.py DUMP
+
+Each has 16 MiB: many symbols and relocations, many sections, and names and ranges that are made to
+cost much.
+"""
+import random
+import struct
+import subprocess
+import sys
+import tempfile
+import time
+from pathlib import Path
+
+MIB = 1 << 20
+
+
+def build(sections):
+    """An object of these sections: (type, flags, data, link, info, align, entsize, name, size)."""
+    data = bytearray(64)
+    rows = [bytes(64)]
+    for kind, flags, content, link, info, align, entsize, name, size in sections:
+        data += bytes(-len(data) % 8)
+        rows.append(struct.pack("<IIQQQQIIQQ", name, kind, flags, 0, len(data), size, link, info, align, entsize))
+        data += content
+    data += bytes(-len(data) % 8)
+    header = struct.pack(
+        "<4sBBB9xHHIQQQIHHHHHH", b"\x7fELF", 2, 1, 1, 1, 243, 1, 0, 0, len(data), 0, 64, 0, 0, 64, len(rows), 1
+    )
+    data[:64] = header
+    return bytes(data + b"".join(rows))
+
+
+def section(kind, content, flags=0, link=0, info=0, align=1, entsize=0, name=0, size=None):
+    return (kind, flags, content, link, info, align, entsize, name, len(content) if size is None else size)
+
+
+def symbol(name, bind, shndx, value=0):
+    return struct.pack("<IBBHQQ", name, bind << 4, 0, shndx, value, 0)
+
+
+def many_relocations(symbols=65536, relocations=262144):
+    """As many symbols and relocations as an object may have, the last relocation of a symbol that isn't there."""
+    names = b"\0" + b"".join(b"s%d\0" % j for j in range(symbols))
+    places, at = [], 1
+    for j in range(symbols):
+        places.append(at)
+        at += len(b"s%d\0" % j)
+    table = bytes(24) + b"".join(symbol(places[j], 1, 2, 4 * j) for j in range(1, symbols))
+    relocs = b"".join(struct.pack("<QQq", 4 * k, (k % symbols) << 32 | 1, 0) for k in range(relocations))
+    text = bytes(max(0, 16 * MIB - len(names) - len(table) - len(relocs) - 64 * 8))
+    fine = [
+        section(3, b"\0.text\0"), section(1, text, flags=6, name=1), section(4, relocs, link=4, info=2, entsize=24),
+        section(2, table, link=5, info=1, entsize=24), section(3, names),
+    ]
+    bad = relocs[:-12] + struct.pack("<Iq", symbols, 0)
+    return build(fine), build([*fine[:2], section(4, bad, link=4, info=2, entsize=24), *fine[3:]])
+
+
+def many_sections():
+    """65,534 kept sections, each with the same long name, the last of which overlaps the first."""
+    count = 65500
+    names = b"\0" + b"n" * (8 * MIB) + b"\0"
+    rows = [section(3, names)] + [section(1, bytes(8), flags=2, name=8 * MIB - 8) for _ in range(count)]
+    data = bytearray(build(rows))
+    shoff = struct.unpack_from("<Q", data, 40)[0]
+    last = shoff + 64 * (count + 1)
+    data[last + 24 : last + 32] = data[shoff + 64 * 2 + 24 : shoff + 64 * 2 + 32]
+    return bytes(data)
+
+
+def long_names():
+    """65,535 non-local symbols with different names of up to 4,096 bytes that lie over each other."""
+    chance = random.Random(1)
+    body = b"".join(bytes(chance.randrange(0x21, 0x7F) for _ in range(4096)) + b"\0" for _ in range(17))
+    places = [4097 * (k // 4096) + k % 4096 for k in range(65535)]
+    table = bytes(24) + b"".join(symbol(at, 1, 2) for at in places) + symbol(0, 3, 2)
+    return build([
+        section(3, b"\0"), section(1, bytes(8), flags=6), section(2, table, link=4, entsize=24), section(3, body),
+    ])
+
+
+def no_zero_byte():
+    """65,535 local symbols whose names have no end."""
+    table = bytes(24) + b"".join(symbol(0, 0, 2) for _ in range(65535))
+    return build([
+        section(3, b"\0"), section(1, bytes(8), flags=6), section(2, table, link=4, entsize=24),
+        section(3, b"n" * (14 * MIB)),
+    ])
+
+
+def measure(dump, name, data):
+    with tempfile.TemporaryDirectory() as place:
+        path = Path(place, "large.o")
+        path.write_bytes(data)
+        best, line = 1e9, ""
+        for _ in range(3):
+            began = time.monotonic()
+            out = subprocess.run([dump, str(path)], capture_output=True, check=True).stdout
+            best = min(best, time.monotonic() - began)
+            line = out.split(b"\n", 2)[1][:40].decode()
+    print(f"{name:34} {len(data) / MIB:5.1f} MiB  {best:6.3f} s  {line}")
+
+
+def main():
+    dump = sys.argv[1]
+    fine, bad = many_relocations()
+    measure(dump, "an empty file", b"")
+    measure(dump, "bytes that are no object", bytes(16 * MIB))
+    measure(dump, "symbols, relocations, last is bad", bad)
+    measure(dump, "symbols, relocations, printed", fine)
+    measure(dump, "sections, the last overlaps", many_sections())
+    measure(dump, "long names, the last symbol is bad", long_names())
+    measure(dump, "names without end", no_zero_byte())
+
+
+if __name__ == "__main__":
+    main()
