@@ -3,7 +3,7 @@ use Rattle.std.proofs.Common.{◌≡◌, ℕ, Bool, true, false, not, ◌&&◌, 
 use Rattle.std.specs.Bool.{if◌then◌else◌}
 use Rattle.std.proofs.lemmas.Bool.{both_ways, eq-eqb, eqb-true, and_parts, and_from}
 use Rattle.session_model.specs.Lists.{changed_at}
-use Rattle.session_model.specs.Plain.{UnitRow, Query, is_unsearched, is_defunct, is_owned, phase_deps}
+use Rattle.session_model.specs.Plain.{UnitRow, is_unsearched, is_defunct, is_owned, phase_deps}
 use Rattle.session_model.specs.Reach.{deps_at}
 use Rattle.session_model.specs.declared.rows.InstRow.{InstRow}
 use Rattle.session_model.specs.declared.rows.Job.{Job}
@@ -17,6 +17,7 @@ use Rattle.session_laws.proofs.Facts.{no_dep, jobs_pushed_same, jobs_pushed_othe
 use Rattle.session_laws.proofs.Settling.{chosen}
 use Rattle.session_laws.proofs.Steps.{IsStep, stepped, deps_kept, unit_stepped}
 use Rattle.session_laws.specs.Sound.{Sound, UnitFits, is_sure, sure_at, is_underway, fits, is_held_phase, due_at, its_jobs}
+use Rattle.session_model.specs.declared.rows.Query.{Query}
 
 -- Work on a unit
 

@@ -7,7 +7,7 @@ use Rattle.std.proofs.lemmas.Bool.{both_ways, eqb-true, and_parts, and_from, or_
 use Rattle.std.proofs.lemmas.Option.{none-some, same_Some}
 use Rattle.orc_ids.specs.declared.ids.InstId.{InstId}
 use Rattle.session_model.specs.Lists.{numbered}
-use Rattle.session_model.specs.Plain.{Plain, UnitRow, Query, is_unsearched, is_owned, present_at, unsearched_at, phase_deps}
+use Rattle.session_model.specs.Plain.{Plain, UnitRow, is_unsearched, is_owned, present_at, unsearched_at, phase_deps}
 use Rattle.session_model.specs.Reach.{deps_at}
 use Rattle.session_model.specs.declared.rows.InstRow.{InstRow}
 use Rattle.session_model.specs.declared.rows.Job.{Job}
@@ -26,10 +26,12 @@ use Rattle.orc_ids.specs.declared.flags.SymFlags.{SymFlags}
 use Rattle.session_model.specs.Meaning.{Meaning}
 use Rattle.session_model.specs.declared.rows.Row.{Row}
 use Rattle.session_model.specs.Match.{row_of}
-use Rattle.session_model.specs.Change.{Kept, Replaces, Discarded, Clashes, verdict, verdict_on, is_kept, replaced_by, is_replaced, is_strong, kept_names, new_rows, without_replaced, defined, all_claimed, claimed_for}
+use Rattle.session_model.specs.Change.{verdict, verdict_on, is_kept, replaced_by, is_replaced, is_strong, kept_names, new_rows, without_replaced, defined, all_claimed, claimed_for}
 use Rattle.session_laws.proofs.Changes.{sound_claimed, sound_linked}
 use Rattle.session_laws.proofs.Elements.{appended_cases, pushed_cases, pushed_last, front_some, numbered_length, numbered_some}
 use Rattle.session_laws.proofs.Settling.{settling_keeps}
+use Rattle.session_model.specs.declared.rows.Query.{Query}
+use Rattle.session_model.specs.declared.rows.Verdict.TheVariants.{Kept, Replaces, Discarded, Clashes}
 
 -- Defining
 

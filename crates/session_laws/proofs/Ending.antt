@@ -6,7 +6,7 @@ use Rattle.std.proofs.lemmas.Bool.{both_ways, cases_Bool}
 use Rattle.std.proofs.lemmas.Option.{none-some}
 use Rattle.orc_ids.specs.declared.ids.InstId.{InstId}
 use Rattle.session_model.specs.Lists.{changed_at}
-use Rattle.session_model.specs.Plain.{Plain, UnitRow, GenRow, Query, is_unsearched, is_owned}
+use Rattle.session_model.specs.Plain.{Plain, UnitRow, GenRow, is_unsearched, is_owned}
 use Rattle.session_model.specs.declared.rows.InstRow.{InstRow}
 use Rattle.session_model.specs.declared.rows.Phase.TheVariants as phase
 use Rattle.session_model.specs.declared.rows.UnitPhase.TheVariants as stage
@@ -23,7 +23,6 @@ use Rattle.session_model.specs.Meaning.{Meaning}
 use Rattle.session_model.specs.Query.{is_met}
 use Rattle.session_model.specs.Change.{defined, all_claimed, claimed_for, lodged, matched}
 use Rattle.session_laws.proofs.Elements.{pushed_cases, front_some}
-use Rattle.session_model.specs.Query.{Ending}
 use Rattle.session_model.specs.Change.{Change, Nothing, MakeDylib, MakeTracker, SetOrder, Attach, Define, Generate, Spend, Ask, Start, Finish, Place, Resolve, Link, Emit, Fail, Move, Remove, LetGo, change_of, changed, link_order}
 use Rattle.session_model.specs.Answer.{Answers}
 use Rattle.session_model.specs.declared.entry.Entry.{Entry}
@@ -41,6 +40,8 @@ use Rattle.session_model.specs.Query.{ending}
 use Rattle.session_model.specs.State.{SettlesAt, IsOpen, IsEnd}
 use Rattle.session_laws.proofs.Readying.{state_from_joined}
 use Rattle.session_laws.specs.Queries.{EndIsUnique, EndStays, OpenOrEnded, OpenHasNoEnd, QueryWasAsked}
+use Rattle.session_model.specs.declared.rows.Ending.{Ending}
+use Rattle.session_model.specs.declared.rows.Query.{Query}
 
 -- Entries and queries
 

@@ -1,11 +1,12 @@
 -- The history of one lookup is legal, step by step.
 use Rattle.std.proofs.Common.{◌≡◌, ℕ, zero, suc, ◌+◌, ◌-◌, ◌<◌, ◌≤◌, false, [], ◌∷◌, take, Some, None, arith, refl, subst, sym}
 use Rattle.orc_ids.specs.declared.lookup.Level.TheVariants.{Resolved, Ready}
-use Rattle.session_model.specs.Plain.{Query}
-use Rattle.session_model.specs.Query.{is_met, Found}
+use Rattle.session_model.specs.Query.{is_met}
 use Rattle.session_model.specs.Reach.{within}
 use Rattle.session_model.specs.State.{state, IsEnd}
 use Rattle.session_laws.specs.Hello.{hello_history, HelloIsLegal}
+use Rattle.session_model.specs.declared.rows.Ending.TheVariants.{Found}
+use Rattle.session_model.specs.declared.rows.Query.{Query}
 
 abbrev asked_query : Query
 asked_query = record { asked = 4; matched = Some (record { 0 = 0 }) ∷ []; level = Ready; unit = None; note = None }

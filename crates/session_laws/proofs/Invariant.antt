@@ -5,7 +5,7 @@ use Rattle.std.specs.Option.{option_map_or}
 use Rattle.std.proofs.lemmas.Option.{none-some}
 use Rattle.orc_ids.specs.declared.ids.InstId.{InstId}
 use Rattle.session_model.specs.Lists.{changed_at}
-use Rattle.session_model.specs.Plain.{Plain, UnitRow, GenRow, Query, is_unsearched, is_owned, failed_at}
+use Rattle.session_model.specs.Plain.{Plain, UnitRow, GenRow, is_unsearched, is_owned, failed_at}
 use Rattle.session_model.specs.declared.rows.InstRow.{InstRow}
 use Rattle.session_model.specs.declared.rows.Phase.TheVariants as phase
 use Rattle.session_model.specs.declared.rows.UnitPhase.TheVariants as stage
@@ -37,6 +37,7 @@ use Rattle.session_laws.proofs.Changes.{sound_started, sound_finishing, sound_pl
 use Rattle.session_laws.proofs.Losing.{sound_emitted, sound_failed, sound_removed}
 use Rattle.session_laws.proofs.Defining.{sound_defined, sound_lodged, sound_moved, claims_keep, claim_sound, all_searched, sound_settled}
 use Rattle.session_laws.specs.Sound.{LegalIsSound}
+use Rattle.session_model.specs.declared.rows.Query.{Query}
 
 -- where the matches are good, they are there
 pub good_here : (m : Plain) (os : List (Option InstId)) → GoodMatches m os → AllMatched (IsHere m.rows) os

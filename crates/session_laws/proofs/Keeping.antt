@@ -7,7 +7,7 @@ use Rattle.std.proofs.lemmas.Bool.{both_ways, cases_Bool, cases_eq, ne_eqb, eqb-
 use Rattle.std.proofs.lemmas.Option.{same_Some}
 use Rattle.orc_ids.specs.declared.ids.InstId.{InstId}
 use Rattle.session_model.specs.Lists.{changed_at, numbered}
-use Rattle.session_model.specs.Plain.{Plain, UnitRow, GenRow, Query, is_unsearched, is_emitted, is_defunct, is_owned, unsearched_at}
+use Rattle.session_model.specs.Plain.{Plain, UnitRow, GenRow, is_unsearched, is_emitted, is_defunct, is_owned, unsearched_at}
 use Rattle.session_model.specs.Reach.{is_hit, is_ready}
 use Rattle.session_model.specs.declared.rows.InstRow.{InstRow}
 use Rattle.session_model.specs.declared.rows.Phase.{Phase}
@@ -26,7 +26,7 @@ use Rattle.session_model.specs.Meaning.{Meaning}
 use Rattle.session_model.specs.declared.rows.Row.{Row}
 use Rattle.session_model.specs.Match.{row_of}
 use Rattle.session_model.specs.Query.{is_met}
-use Rattle.session_model.specs.Change.{Kept, Replaces, Discarded, Clashes, verdict, verdict_on, replaced_by, is_replaced, is_strong, kept_names, new_rows, without_replaced, loses_name, defined, all_claimed, matched}
+use Rattle.session_model.specs.Change.{verdict, verdict_on, replaced_by, is_replaced, is_strong, kept_names, new_rows, without_replaced, loses_name, defined, all_claimed, matched}
 use Rattle.session_laws.proofs.Changes.{sound_linked}
 use Rattle.session_laws.proofs.Elements.{appended_cases, front_some, numbered_some}
 use Rattle.session_laws.proofs.Settling.{settling_keeps}
@@ -57,6 +57,8 @@ use Rattle.session_laws.proofs.Replies.{row_here}
 use Rattle.session_laws.proofs.Rising.{start_listed, finish_linked}
 use Rattle.session_laws.proofs.Losing.{unit_of_is}
 use Rattle.session_laws.specs.Holding.{OwnSame, IsKept, AllOthers, HeldStays, GoneStaysHeld}
+use Rattle.session_model.specs.declared.rows.Query.{Query}
+use Rattle.session_model.specs.declared.rows.Verdict.TheVariants.{Kept, Replaces, Discarded, Clashes}
 
 -- A definition
 

@@ -1,5 +1,7 @@
 pub mod Along
+pub mod Answering
 pub mod Changes
+pub mod Choosing
 pub mod Defining
 pub mod Elements
 pub mod Ending

@@ -7,7 +7,7 @@ use Rattle.std.proofs.lemmas.Bool.{both_ways, cases_Bool, and_parts, and_from, a
 use Rattle.std.proofs.lemmas.Option.{none-some}
 use Rattle.orc_ids.specs.declared.ids.InstId.{InstId}
 use Rattle.session_model.specs.Lists.{changed_at, numbered}
-use Rattle.session_model.specs.Plain.{Plain, UnitRow, Query, is_unsearched, is_failed, is_emitted, is_defunct, is_owned, failed_at, present_at, unsearched_at, phase_deps}
+use Rattle.session_model.specs.Plain.{Plain, UnitRow, is_unsearched, is_failed, is_emitted, is_defunct, is_owned, failed_at, present_at, unsearched_at, phase_deps}
 use Rattle.session_model.specs.Reach.{is_hit, is_ready, deps_at}
 use Rattle.session_model.specs.Change.{job_unit}
 use Rattle.session_model.specs.declared.entry.Reply.TheVariants as reply
@@ -32,6 +32,7 @@ use Rattle.session_laws.proofs.Steps.{stepped}
 use Rattle.session_laws.specs.Sound.{Sound, IsSound, RowFits, UnitFits, LinkQuery, is_sure, sure_at, searched_at, is_underway, fits, is_held_phase, due_at, due, its_jobs}
 use Rattle.std.proofs.lemmas.Bool.{or_parts, and_cases}
 use Rattle.session_laws.proofs.Changes.{own_jobs, rephased, rephased_step, owned_parts, owned_from}
+use Rattle.session_model.specs.declared.rows.Query.{Query}
 
 -- Emitting
 

@@ -6,7 +6,7 @@ use Rattle.std.proofs.lemmas.Bool.{both_ways, and_parts, and_from, not-true, not
 use Rattle.std.proofs.lemmas.Option.{none-some, same_Some}
 use Rattle.orc_ids.specs.declared.ids.InstId.{InstId}
 use Rattle.session_model.specs.Lists.{changed_at, numbered}
-use Rattle.session_model.specs.Plain.{Plain, UnitRow, GenRow, Query, is_unsearched, is_failed, is_emitted, is_owned, failed_at, present_at}
+use Rattle.session_model.specs.Plain.{Plain, UnitRow, GenRow, is_unsearched, is_failed, is_emitted, is_owned, failed_at, present_at}
 use Rattle.session_model.specs.Reach.{is_hit}
 use Rattle.session_model.specs.declared.rows.InstRow.{InstRow}
 use Rattle.session_model.specs.declared.rows.Phase.TheVariants as phase
@@ -51,6 +51,7 @@ use Rattle.session_model.specs.Query.{at_level, is_lost, first_lost}
 use Rattle.session_laws.proofs.Readying.{KeepsReady, stays_ready, keeps_row}
 use Rattle.session_laws.specs.Queries.{OneEndAtATime}
 use Rattle.session_laws.proofs.Ending.{after_query, query_cases, query_was_asked, entries_are, StepAt, step_at, front_legal, all_claimed_queries}
+use Rattle.session_model.specs.declared.rows.Query.{Query}
 
 -- No instance that was searched is lost anew; or no instance comes to a level.
 

@@ -6,7 +6,7 @@ use Rattle.std.specs.Option.{option_map_or}
 use Rattle.std.proofs.lemmas.Bool.{both_ways, cases_Bool, eq-eqb, and_parts, and_from, or_left, or_right, not-true, not-false, not_from_false, false_from_ne_true}
 use Rattle.std.proofs.lemmas.Option.{none-some, same_Some}
 use Rattle.orc_ids.specs.declared.ids.InstId.{InstId}
-use Rattle.session_model.specs.Plain.{Plain, UnitRow, Query, is_unsearched, is_failed, is_emitted, is_defunct, emitted_at}
+use Rattle.session_model.specs.Plain.{Plain, UnitRow, is_unsearched, is_failed, is_emitted, is_defunct, emitted_at}
 use Rattle.session_model.specs.Reach.{is_ready}
 use Rattle.session_model.specs.Change.{job_unit}
 use Rattle.session_model.specs.declared.rows.InstRow.{InstRow}
@@ -53,6 +53,7 @@ use Rattle.session_laws.proofs.Settling.{settled_one_keeps}
 use Rattle.session_laws.proofs.Paths.{walks_suffice}
 use Rattle.session_laws.proofs.Meeting.{NoneLost, none_lost, none_some, unlost_parts}
 use Rattle.session_laws.specs.Work.{WorkIsOwed, IdleHasNoOpenQuery, NoneWaitsForMet}
+use Rattle.session_model.specs.declared.rows.Query.{Query}
 
 -- No unit waits for a query that is met
 

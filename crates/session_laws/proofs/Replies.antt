@@ -25,8 +25,8 @@ use Rattle.orc_ids.specs.declared.lookup.Wanted.{Wanted}
 use Rattle.orc_ids.specs.declared.lookup.Level.{Level}
 use Rattle.session_model.specs.Meaning.{Meaning}
 use Rattle.session_model.specs.declared.rows.Row.{Row}
-use Rattle.session_model.specs.Match.{Match, Instance, Offered, row_of, first_row, match_in, match_of, sees, offered_by}
-use Rattle.session_model.specs.Change.{Verdict, Kept, Replaces, Discarded, Clashes, verdict, matched, instance_of}
+use Rattle.session_model.specs.Match.{row_of, first_row, match_in, match_of, sees, offered_by}
+use Rattle.session_model.specs.Change.{verdict, matched, instance_of}
 use Rattle.orc_ids.specs.declared.ids.DylibId.{DylibId}
 use Rattle.orc_ids.specs.declared.ids.GenId.{GenId}
 use Rattle.orc_ids.specs.declared.ids.TrackId.{TrackId}
@@ -40,6 +40,10 @@ use Rattle.session_model.specs.declared.entry.Reply.{Reply}
 use Rattle.session_model.specs.Plain.{has_dylib, has_tracker, is_tracker_of, tracker_dylib}
 use Rattle.session_laws.proofs.Defining.{IsHere}
 use Rattle.session_laws.proofs.Losing.{none_of_first}
+use Rattle.session_model.specs.declared.rows.Match.{Match}
+use Rattle.session_model.specs.declared.rows.Match.TheVariants.{Instance, Offered}
+use Rattle.session_model.specs.declared.rows.Verdict.{Verdict}
+use Rattle.session_model.specs.declared.rows.Verdict.TheVariants.{Kept, Replaces, Discarded, Clashes}
 
 -- each matched instance is present, and not Failed
 abbrev pub GoodMatches : Plain → List (Option InstId) → Type 0

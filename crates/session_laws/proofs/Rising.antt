@@ -7,7 +7,7 @@ use Rattle.std.proofs.lemmas.Option.{none-some, same_Some}
 use Rattle.orc_ids.specs.declared.ids.InstId.{InstId}
 use Rattle.orc_ids.specs.declared.ids.UnitId.{UnitId}
 use Rattle.session_model.specs.Lists.{changed_at, numbered}
-use Rattle.session_model.specs.Plain.{Plain, UnitRow, GenRow, Query, is_unsearched, is_defunct, is_owned}
+use Rattle.session_model.specs.Plain.{Plain, UnitRow, GenRow, is_unsearched, is_defunct, is_owned}
 use Rattle.session_model.specs.declared.entry.Reply.TheVariants as reply
 use Rattle.session_model.specs.declared.rows.InstRow.{InstRow}
 use Rattle.session_model.specs.declared.rows.Job.{Job}
@@ -51,6 +51,7 @@ use Rattle.session_laws.proofs.Invariant.{claims_leave}
 use Rattle.session_model.specs.declared.entry.Finishing.{Finishing}
 use Rattle.session_laws.specs.Work.{rank, PhasesRise, StartedOnce, FinishedOnce}
 use Rattle.session_laws.specs.Holding.{DefunctStays}
+use Rattle.session_model.specs.declared.rows.Query.{Query}
 
 -- each unit stays, at a phase no lower
 abbrev pub Rises : List UnitRow → List UnitRow → Type 0

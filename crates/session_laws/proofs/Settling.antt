@@ -3,9 +3,10 @@ use Rattle.std.proofs.Common.{◌≡◌, ℕ, ◌+◌, Bool, true, false, ◌&&�
 use Rattle.std.specs.Bool.{if◌then◌else◌}
 use Rattle.std.specs.Option.{option_map_or}
 use Rattle.std.proofs.lemmas.Bool.{and_parts}
-use Rattle.session_model.specs.Plain.{Plain, Query}
+use Rattle.session_model.specs.Plain.{Plain}
 use Rattle.session_model.specs.Query.{is_met}
 use Rattle.session_model.specs.Change.{settled, settled_from, settled_one, finish_listed, waits_for}
+use Rattle.session_model.specs.declared.rows.Query.{Query}
 
 -- a choice by a test
 pub chosen : {X : Type 0} (P : X → Type 0) (b : Bool) (x y : X) → (b ≡ true → P x) → (b ≡ false → P y) → P (if b then x else y)

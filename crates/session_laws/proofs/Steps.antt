@@ -4,7 +4,7 @@ use Rattle.std.specs.Option.{option_map_or}
 use Rattle.std.proofs.lemmas.Bool.{cases_eq}
 use Rattle.orc_ids.specs.declared.ids.UnitId.{UnitId}
 use Rattle.session_model.specs.Lists.{changed_at}
-use Rattle.session_model.specs.Plain.{UnitRow, Query, is_unsearched, phase_deps}
+use Rattle.session_model.specs.Plain.{UnitRow, is_unsearched, phase_deps}
 use Rattle.session_model.specs.Reach.{deps_at}
 use Rattle.session_model.specs.declared.rows.InstRow.{InstRow}
 use Rattle.session_model.specs.declared.rows.Job.{Job}
@@ -13,6 +13,7 @@ use Rattle.session_model.specs.declared.rows.UnitPhase.{UnitPhase}
 use Rattle.session_laws.proofs.Elements.{map_parts, changed_cases, changed_some, changed_elsewhere, same_element}
 use Rattle.session_laws.proofs.Facts.{test_parts, test_from, deps_parts, deps_from, matched_more, due_some}
 use Rattle.session_laws.specs.Sound.{Sound, RowFits, UnitFits, is_sure, sure_at, searched_at, is_underway, fits, due_at, due, its_jobs}
+use Rattle.session_model.specs.declared.rows.Query.{Query}
 
 -- A change of unit u, which was x, and of instances that stay where they are.
 pub record IsStep (rows : List InstRow) (units : List UnitRow) (queries : List Query) (jobs : List Job) (new : List InstRow) (g : ℕ → InstRow → InstRow) (listed : List Job) (u : ℕ) (x y : UnitRow) : Type 0 where

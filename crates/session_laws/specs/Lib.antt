@@ -5,6 +5,8 @@ pub mod Holding
 pub mod Journal
 pub mod Queries
 pub mod Readiness
+pub mod Replies
 pub mod Sound
+pub mod Taking
 pub mod Walks
 pub mod Work

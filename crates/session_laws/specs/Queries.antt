@@ -1,11 +1,12 @@
 -- Open and ended queries.
 use Rattle.std.specs.Prelude.{◌≡◌, ℕ, ◌<◌, ◌≤◌, true, ◌⊎◌, List, ◌++◌, length, take, slice_get, Some, None}
 use Rattle.session_model.specs.Meaning.{Meaning}
-use Rattle.session_model.specs.Plain.{Query}
-use Rattle.session_model.specs.Query.{Ending, all_at, first_lost}
+use Rattle.session_model.specs.Query.{all_at, first_lost}
 use Rattle.session_model.specs.State.{state, SettlesAt, IsOpen, IsEnd}
 use Rattle.session_model.specs.History.{IsLegal}
 use Rattle.session_model.specs.declared.entry.Entry.{Entry}
+use Rattle.session_model.specs.declared.rows.Ending.{Ending}
+use Rattle.session_model.specs.declared.rows.Query.{Query}
 
 -- a query settles at most once, and with one end
 abbrev pub EndIsUnique : Type 0

@@ -5,7 +5,7 @@ use Rattle.std.specs.Option.{option_map_or}
 use Rattle.orc_ids.specs.declared.ids.InstId.{InstId}
 use Rattle.orc_ids.specs.declared.lookup.Level.TheVariants as level
 use Rattle.session_model.specs.Meaning.{Meaning}
-use Rattle.session_model.specs.Plain.{Plain, UnitRow, Query, is_unsearched, is_failed, is_emitted, is_defunct, row_test}
+use Rattle.session_model.specs.Plain.{Plain, UnitRow, is_unsearched, is_failed, is_emitted, is_defunct, row_test}
 use Rattle.session_model.specs.Reach.{deps_at}
 use Rattle.session_model.specs.Change.{job_unit}
 use Rattle.session_model.specs.State.{state}
@@ -18,6 +18,7 @@ use Rattle.session_model.specs.declared.rows.Phase.{Phase}
 use Rattle.session_model.specs.declared.rows.Phase.TheVariants as phase
 use Rattle.session_model.specs.declared.rows.UnitPhase.{UnitPhase}
 use Rattle.session_model.specs.declared.rows.UnitPhase.TheVariants as stage
+use Rattle.session_model.specs.declared.rows.Query.{Query}
 
 abbrev pub is_claimed : Phase → Bool
 is_claimed phase.Claimed = true

@@ -2,7 +2,7 @@
 use Rattle.std.specs.Prelude.{◌≡◌, ℕ, ◌≤◌, true, false, List, [], ◌++◌, slice_get, Some}
 use Rattle.orc_ids.specs.declared.ids.UnitId.{UnitId}
 use Rattle.session_model.specs.Meaning.{Meaning}
-use Rattle.session_model.specs.Plain.{Query, UnitRow, kept}
+use Rattle.session_model.specs.Plain.{UnitRow, kept}
 use Rattle.session_model.specs.Query.{is_met}
 use Rattle.session_model.specs.Change.{waits_for}
 use Rattle.session_model.specs.State.{state, IsOpen}
@@ -14,6 +14,7 @@ use Rattle.session_model.specs.declared.entry.Finishing.{Finishing}
 use Rattle.session_model.specs.declared.entry.Reply.TheVariants as reply
 use Rattle.session_model.specs.declared.rows.UnitPhase.{UnitPhase}
 use Rattle.session_model.specs.declared.rows.UnitPhase.TheVariants as stage
+use Rattle.session_model.specs.declared.rows.Query.{Query}
 
 -- where a query is open, some unit has a listed job or is held
 abbrev pub WorkIsOwed : Type 0

@@ -1,6 +1,7 @@
 //! Legal histories, and the session after one.
 
 ghost use Rattle.session_laws.specs.Hello.{HelloIsLegal};
+ghost use Rattle.session_laws.specs.Replies.{ReplyIsDetermined};
 ghost use Rattle.session_laws.specs.Histories.{EmptyIsLegal, PrefixesAreLegal, OneMoreIsLegal, StateIsUnique};
 
 /// The empty history is legal.
@@ -26,4 +27,9 @@ pub fn state_is_unique()
 /// The history of one whole lookup is legal: the definitions can be met.
 pub fn hello_is_legal()
     ensures { HelloIsLegal }
+{}
+
+/// An event has at most one right reply, but for the base that a place chooses.
+pub fn reply_is_determined()
+    ensures { ReplyIsDetermined }
 {}

@@ -17,7 +17,8 @@ mod work;
 
 pub use failures::{fail_fails_hits, only_failures_fail, remove_fails_hits};
 pub use histories::{
-    empty_is_legal, hello_is_legal, one_more_is_legal, prefixes_are_legal, state_is_unique,
+    empty_is_legal, hello_is_legal, one_more_is_legal, prefixes_are_legal, reply_is_determined,
+    state_is_unique,
 };
 pub use holding::{defunct_stays, gone_stays_held, held_stays};
 pub use journal::{full_stays, full_stops_others, holder_can_fail, kept_within};
@@ -30,5 +31,5 @@ pub use walks::{
 };
 pub use work::{
     finished_once, idle_has_no_open_query, none_waits_for_met, phases_rise, started_once,
-    work_is_owed,
+    take_is_answered, work_is_owed,
 };

@@ -1,5 +1,6 @@
 //! Work that is owed, jobs that are handed out once, and phases that never fall back.
 
+ghost use Rattle.session_laws.specs.Taking.{TakeIsAnswered};
 ghost use Rattle.session_laws.specs.Work.{WorkIsOwed, NoneWaitsForMet, IdleHasNoOpenQuery, PhasesRise, StartedOnce, FinishedOnce};
 
 /// Where a query is open, work is owed.
@@ -30,4 +31,9 @@ pub fn started_once()
 /// A unit is handed out for its finish at most once.
 pub fn finished_once()
     ensures { FinishedOnce }
+{}
+
+/// Where a job is listed, a take has a right reply.
+pub fn take_is_answered()
+    ensures { TakeIsAnswered }
 {}

@@ -18,6 +18,7 @@ mod traits;
 
 pub use entry::{Entry, Event, Finishing, Matches, Order, Reply, WantedList, Why};
 pub use rows::{
-    Dylib, Ending, InstRow, Job, Match, Matched, Phase, Query, Range, Row, Track, UnitPhase, Verdict,
+    Dylib, Ending, InstRow, Job, Match, Matched, Phase, Query, Range, Row, Track, UnitPhase,
+    Verdict,
 };
 pub use traits::{RowSource, Standing, UnitKind};
