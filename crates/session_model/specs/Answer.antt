@@ -212,11 +212,14 @@ taken_end taken = fold (λ end (r : Range). max end (r.base + r.need)) CODE_STAR
 abbrev pub Apart : Range → ℕ → ℕ → Type 0
 Apart r base need = (r.base + r.need ≤ base) ⊎ (base + need ≤ r.base)
 
--- any aligned range of code memory that meets no taken one will do; none is left where none fits
--- behind them all
+-- While the shape fits behind all that was ever taken, any aligned range of code memory that meets no
+-- taken one will do; else there is no room.
+abbrev pub behind_taken : Plain → Shape → ℕ
+behind_taken m shape = aligned (taken_end m.taken) shape.align + shape.need
+
 abbrev pub AnswersPlace : Plain → Shape → Reply → Type 0
-AnswersPlace m shape (reply.Placed base) = (base % shape.align ≡ 0) × (CODE_START ≤ base) × (base + shape.need ≤ CODE_END) × All (λ r. Apart r base shape.need) m.taken
-AnswersPlace m shape (reply.NoRoom need) = (need ≡ shape.need) × (CODE_END < aligned (taken_end m.taken) shape.align + shape.need)
+AnswersPlace m shape (reply.Placed base) = (behind_taken m shape ≤ CODE_END) × (base % shape.align ≡ 0) × (CODE_START ≤ base) × (base + shape.need ≤ CODE_END) × All (λ r. Apart r base shape.need) m.taken
+AnswersPlace m shape (reply.NoRoom need) = (need ≡ shape.need) × (CODE_END < behind_taken m shape)
 AnswersPlace m shape _ = ⊥
 
 -- the first dependency, in group order, that can't be depended on
