@@ -18,7 +18,7 @@ use Rattle.orc_cli.specs.declared.answer.Answer.{Answer}
 use Rattle.orc_cli.specs.declared.answer.Answer.TheVariants.{Exited, Usage, ReadFault, FileFault, WriteFault, ObjectRefused, TooLong, Missing, Trap, OutOfFuel, OutputFull, NoMemory}
 use Rattle.orc_cli.specs.Words.{Request}
 use Rattle.orc_cli.specs.EndLine.{end_line_of}
-use Rattle.orc_cli.specs.Outcomes.{Outcome, refused, missing, starts, outcome_of, Runs, IsSilent, EndsIn, AnswersAs, answer_of_lem}
+use Rattle.orc_cli.specs.Outcomes.{Outcome, refused, missing, starts, outcome_of, Runs, IsSilent, EndsIn, AnswersAs, answer_of}
 use Rattle.orc_cli.specs.Answered.{Told, Held, HoldsWhole, HoldsPart, HoldsAsBefore, HasFailed, IsFound, in_words, in_reading, in_length, in_file, wanting, IsWritten, whole, out_failed, log_failed, IsFinished, IsAnswered, found, unwritten}
 use Rattle.orc_cli.specs.Causes.{HasStopped, HasFault, IsTold, IsLongFile, OfFile, IsRefused, IsMissing, HasRun, HasRunOn, IsEndOf, IsQuiet, IsCut, IsWanting}
 
@@ -44,7 +44,7 @@ Cause asked told before after OutputFull output = OfFile asked told (HasRun IsFu
 Cause asked told before after NoMemory output = output ≡ []
 
 end_cause : (asked : Result Request UsageKind) (told : Told) (before after : ℕ) (output : List ℕ) (end : RunEnd)
-    → OfFile asked told (HasRun end output) → Cause asked told before after (answer_of_lem end) output
+    → OfFile asked told (HasRun end output) → Cause asked told before after (answer_of end) output
 end_cause asked told before after output (HasExited code) h = h
 end_cause asked told before after output (HasTrapped pc cause) h = h
 end_cause asked told before after output IsOutOfFuel h = h
@@ -138,12 +138,12 @@ missing_only asked told before after out out' log log' answer is name e =
 
 -- a run whose output is what out gained
 onto : (asked : Result Request UsageKind) (told : Told) (out out' : Held) (end : RunEnd) (output : List ℕ)
-    → OfFile asked told (HasRun end output) → HoldsWhole out out' output → OfFile asked told (HasRunOn out out' end)
+    → OfFile asked told (HasRun end output) → HoldsWhole out out' output → OfFile asked told (HasRunOn out.bytes out'.bytes end)
 onto asked told out out' end output f h =
     record { run = f.run; asks = f.asks; bytes = f.bytes; short = f.short; content = f.content; fact = record { output = output; ran = f.fact; written = h } }
 
 pub ran_only : (asked : Result Request UsageKind) (told : Told) (before after : ℕ) (out out' log log' : Held) (answer : Answer)
-    → IsAnswered asked told before after out out' log log' answer → (end : RunEnd) → answer ≡ answer_of_lem end → OfFile asked told (HasRunOn out out' end)
+    → IsAnswered asked told before after out out' log log' answer → (end : RunEnd) → answer ≡ answer_of end → OfFile asked told (HasRunOn out.bytes out'.bytes end)
 ran_only asked told before after out out' log log' answer is (HasExited code) e =
     let w = cause_at asked told before after out out' log log' answer (Exited code) e (λ w. cc) (λ w. cc) is in
     onto asked told out out' (HasExited code) w.output w.cause w.out_holds
@@ -209,7 +209,7 @@ whole_part : (old new : Held) (text : List ℕ) → HoldsWhole old new text → 
 whole_part old new text h = let P : List ℕ → Type 0 = λ t. HoldsWhole old new t in (length text, subst P (sym (take-length text)) h)
 
 pub write_cut : (asked : Result Request UsageKind) (told : Told) (before after : ℕ) (out out' log log' : Held) (answer : Answer)
-    → IsAnswered asked told before after out out' log log' answer → answer ≡ WriteFault → IsCut asked told before after out out' log log'
+    → IsAnswered asked told before after out out' log log' answer → answer ≡ WriteFault → IsCut asked told before after out.bytes out'.bytes log.bytes log'.bytes
 write_cut asked told before after out out' log log' answer (unwritten n _ _) e = cc
 write_cut asked told before after out out' log log' answer (found f output is (whole a _ _)) e =
     absurd (not_found asked told before after f output is (sym a ∙ e))
@@ -219,7 +219,7 @@ write_cut asked told before after out out' log log' answer (found f output is (l
     record { found = f; output = output; is_found = is; out_part = whole_part out out' output ho; log_part = hl; out_first = inr ho }
 
 pub memory_wanting : (asked : Result Request UsageKind) (told : Told) (before after : ℕ) (out out' log log' : Held) (answer : Answer)
-    → IsAnswered asked told before after out out' log log' answer → answer ≡ NoMemory → IsWanting out out' log log'
+    → IsAnswered asked told before after out out' log log' answer → answer ≡ NoMemory → IsWanting out.bytes out'.bytes log.bytes log'.bytes
 memory_wanting asked told before after out out' log log' answer (unwritten _ ho hl) e = record { out_same = ho; log_part = (0, hl) }
 memory_wanting asked told before after out out' log log' answer (found f output is (whole a ho hl)) e =
     let P : Answer → Type 0 = λ x. Cause asked told before after x output in

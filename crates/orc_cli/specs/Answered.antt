@@ -37,9 +37,13 @@ held_by bytes faults = record { bytes = bytes; faults = faults }
 abbrev pub HoldsWhole : Held → Held → List ℕ → Type 0
 HoldsWhole old new text = Appends old.bytes new.bytes text
 
+-- known bytes grow by a text's first bytes
+abbrev pub AppendsPart : Option (List ℕ) → Option (List ℕ) → List ℕ → Type 0
+AppendsPart old new text = (done : ℕ) × Appends old new (take done text)
+
 -- the sink holds a text's first bytes beyond what it held before
 abbrev pub HoldsPart : Held → Held → List ℕ → Type 0
-HoldsPart old new text = (done : ℕ) × Appends old.bytes new.bytes (take done text)
+HoldsPart old new text = AppendsPart old.bytes new.bytes text
 
 -- the sink holds what it held before
 abbrev pub HoldsAsBefore : Held → Held → Type 0

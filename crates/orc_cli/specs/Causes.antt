@@ -1,5 +1,6 @@
 -- When each answer comes: what the clauses of the top call say.
 use Rattle.std.specs.Prelude.{◌≡◌, ◌≢◌, ◌≤◌, ◌<◌, ℕ, ◌⊎◌, List, [], take, length, Option, Some, Result, Ok, Err}
+use Rattle.std.specs.Io.KnownBytes.{Appends}
 use Rattle.orc_io.specs.declared.limits.TheConstants.{FILE_LIMIT}
 use Rattle.orc_io.specs.Contents.{HasContent, IsLongerThan}
 use Rattle.exec_run.specs.declared.ran.RunEnd.{RunEnd}
@@ -10,7 +11,7 @@ use Rattle.orc_cli.specs.declared.answer.Answer.{Answer}
 use Rattle.orc_cli.specs.declared.answer.Answer.TheVariants.{Exited, Usage, ReadFault, FileFault, WriteFault, ObjectRefused, TooLong, Missing, Trap, OutOfFuel, OutputFull, NoMemory}
 use Rattle.orc_cli.specs.EndLine.{end_line_of}
 use Rattle.orc_cli.specs.Outcomes.{Outcome, refused, missing, starts, outcome_of, Runs, EndsIn}
-use Rattle.orc_cli.specs.Answered.{Told, Held, HoldsWhole, HoldsPart, HoldsAsBefore, IsFound}
+use Rattle.orc_cli.specs.Answered.{Told, AppendsPart, IsFound}
 use Rattle.orc_cli.specs.Words.{Request}
 
 -- a write failed, or memory ran out
@@ -61,10 +62,10 @@ pub record HasRun (end : RunEnd) (output bytes entry : List ℕ) : Type 0 where
   pub runs : Runs image pc end output
 
 -- the run has this end, and its output is what out gained
-pub record HasRunOn (out out' : Held) (end : RunEnd) (bytes entry : List ℕ) : Type 0 where
+pub record HasRunOn (out out' : Option (List ℕ)) (end : RunEnd) (bytes entry : List ℕ) : Type 0 where
   pub output : List ℕ
   pub ran : HasRun end output bytes entry
-  pub written : HoldsWhole out out' output
+  pub written : Appends out out' output
 
 -- a run of the image from the address ends so
 abbrev pub IsEndOf : List ℕ → ℕ → Answer → Type 0
@@ -86,15 +87,15 @@ IsQuiet OutputFull = ⊥
 IsQuiet NoMemory = Unit {0}
 
 -- after a write that failed: what was found stands on the sinks in part, and log has none of it unless out has all
-pub record IsCut (asked : Result Request UsageKind) (told : Told) (before after : ℕ) (out out' log log' : Held) : Type 0 where
+pub record IsCut (asked : Result Request UsageKind) (told : Told) (before after : ℕ) (out out' log log' : Option (List ℕ)) : Type 0 where
   pub found : Answer
   pub output : List ℕ
   pub is_found : IsFound asked told before after found output
-  pub out_part : HoldsPart out out' output
-  pub log_part : HoldsPart log log' (end_line_of found)
-  pub out_first : HoldsAsBefore log log' ⊎ HoldsWhole out out' output
+  pub out_part : AppendsPart out out' output
+  pub log_part : AppendsPart log log' (end_line_of found)
+  pub out_first : Appends log log' [] ⊎ Appends out out' output
 
 -- where memory ran out: out is as before, and log has gained a first part of the end line
-pub record IsWanting (out out' log log' : Held) : Type 0 where
-  pub out_same : HoldsAsBefore out out'
-  pub log_part : HoldsPart log log' (end_line_of NoMemory)
+pub record IsWanting (out out' log log' : Option (List ℕ)) : Type 0 where
+  pub out_same : Appends out out' []
+  pub log_part : AppendsPart log log' (end_line_of NoMemory)

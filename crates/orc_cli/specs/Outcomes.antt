@@ -38,11 +38,11 @@ abbrev pub outcome_of : List ℕ → List ℕ → Outcome
 outcome_of bytes entry = linked (object_of bytes) entry
 
 -- the answer that a run's end is
-abbrev pub answer_of_lem : RunEnd → Answer
-answer_of_lem (HasExited code) = Exited code
-answer_of_lem (HasTrapped pc cause) = Trap pc cause
-answer_of_lem IsOutOfFuel = OutOfFuel
-answer_of_lem IsFull = OutputFull
+abbrev pub answer_of : RunEnd → Answer
+answer_of (HasExited code) = Exited code
+answer_of (HasTrapped pc cause) = Trap pc cause
+answer_of IsOutOfFuel = OutOfFuel
+answer_of IsFull = OutputFull
 
 -- the memory that a run of one image starts from
 abbrev pub memory_of : List ℕ → Map
@@ -56,7 +56,7 @@ Runs image pc end output = RunsTo (memory_of image) pc [] FUEL end output
 pub record EndsIn (image : List ℕ) (pc : ℕ) (answer : Answer) (output : List ℕ) : Type 0 where
   pub end : RunEnd
   pub runs : Runs image pc end output
-  pub is : answer ≡ answer_of_lem end
+  pub is : answer ≡ answer_of end
 
 -- an answer without output
 pub record IsSilent (found answer : Answer) (output : List ℕ) : Type 0 where

@@ -1,6 +1,5 @@
 ghost use Rattle.std.specs.Prelude.{◌≡◌, ◌≤◌, map, Ok};
-ghost use Rattle.std.specs.Rc.{rc_str_bytes};
-ghost use Rattle.orc_cli.specs.Words.{command_of};
+ghost use Rattle.orc_cli.specs.Words.{asked_by};
 ghost use Rattle.orc_cli.specs.Answered.{IsFound};
 ghost use Rattle.orc_cli.specs.Outcomes.{IsSilent};
 
@@ -14,7 +13,7 @@ use std::rc::RcStr;
 
 /// What the words answer, before anything is written.
 pub fn find_answer<F: Files>(alloc: Global, words: &[RcStr], files: &mut F) -> Found
-    ensures found { IsFound (command_of (map rc_str_bytes words.now)) (F.holds files.old) (F.faults files.old) (F.faults files.new) result.answer result.output }
+    ensures found { IsFound (asked_by words.now) (F.holds files.old) (F.faults files.old) (F.faults files.new) result.answer result.output }
     ensures counted { F.faults files.old ≤ F.faults files.new }
     ensures same { F.holds files.new ≡ F.holds files.old }
 {

@@ -1,4 +1,14 @@
-//! The top call of `orc`.
+//! The top call of `orc`: a command line, files, an output and a log go in, and one answer comes out.
+//!
+//! `orc` reads the object that the words name, links it at the start of code memory, runs it from its
+//! entry, writes the run's output and then the end line, and answers. It is generic over the outside.
+//! Its clauses say when each answer comes, and what the sinks have then gained, by the definitions of
+//! `specs/`: `Words` (command lines), `Image`, `Edges`, `Relocations`, `Values` and `Link` (layout and
+//! image of one object, by the RISC-V ELF psABI), `Outcomes` (what a file answers), `Answered` (what is
+//! found, and then written), `Causes` (what the clauses say), `Answers` and `EndLine`.
+//!
+//! All that waits for nobody stands in functions without the runtime. Read `orc_io` for the outside,
+//! `elf_read` for objects and `exec_run` for runs; `orc` is the program.
 #![tactic(auto)]
 
 mod answer;
@@ -6,6 +16,8 @@ mod finding;
 mod link;
 mod notes;
 mod running;
+#[cfg(test)]
+mod tests;
 mod texts;
 mod top;
 mod words;

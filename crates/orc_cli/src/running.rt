@@ -1,5 +1,5 @@
 ghost use Rattle.std.specs.Prelude.{◌≡◌, ◌<◌, length, IfOk};
-ghost use Rattle.orc_cli.specs.Outcomes.{Runs, AnswersAs, IsSilent, outcome_of, entered, answer_of_lem};
+ghost use Rattle.orc_cli.specs.Outcomes.{Runs, AnswersAs, IsSilent, outcome_of, entered, answer_of};
 
 use crate::answer::{Answer, ObjectWhy};
 use crate::link::{LinkError, Linked, link};
@@ -81,7 +81,7 @@ fn run_image(alloc: Global, image: Bytes, pc: u64) -> Result<Ran, AllocError>
 
 /// The answer that a run's end is.
 fn answer_of(end: RunEnd) -> Answer
-    ensures { result ≡ answer_of_lem end }
+    ensures { result ≡ answer_of end }
 {
     match end {
         RunEnd::Exited(code) => Answer::Exited(code),

@@ -1,5 +1,4 @@
 ghost use Rattle.std.specs.Prelude.{◌≡◌, ◌≢◌, ◌≤◌, ◌<◌, ◌⊎◌, ℕ, List, [], map, take, length, All, None, Err, IsOk};
-ghost use Rattle.std.specs.Rc.{rc_str_bytes};
 ghost use Rattle.std.specs.Io.KnownBytes.{Appends};
 ghost use Rattle.orc_io.specs.Causes.{Rose};
 ghost use Rattle.elf_read.specs.declared.error.ElfError.{ElfError};
@@ -8,8 +7,8 @@ ghost use Rattle.orc_cli.specs.declared.words.UsageKind.{UsageKind};
 ghost use Rattle.orc_cli.specs.declared.answer.ObjectWhy.{ObjectWhy};
 ghost use Rattle.orc_cli.specs.Answers.{status_of};
 ghost use Rattle.orc_cli.specs.EndLine.{end_line_of};
-ghost use Rattle.orc_cli.specs.Words.{command_of};
-ghost use Rattle.orc_cli.specs.Outcomes.{refused, missing, starts, outcome_of, answer_of_lem};
+ghost use Rattle.orc_cli.specs.Words.{asked_by};
+ghost use Rattle.orc_cli.specs.Outcomes.{refused, missing, starts, outcome_of, answer_of};
 ghost use Rattle.orc_cli.specs.Answered.{IsAnswered, held_by};
 ghost use Rattle.orc_cli.specs.Causes.{HasStopped, HasFault, IsTold, IsLongFile, OfFile, IsRefused, IsMissing, HasRunOn, IsEndOf, IsQuiet, IsCut, IsWanting};
 
@@ -68,8 +67,10 @@ pub fn orc<
     ensures status { result.status ≡ status_of result.answer }
 
     // The words.
-    ensures usage_only { (kind : UsageKind) → result.answer ≡ Answer.Usage kind → command_of (map rc_str_bytes words.now) ≡ Err kind }
-    ensures usage_told { (kind : UsageKind) → command_of (map rc_str_bytes words.now) ≡ Err kind → (result.answer ≡ Answer.Usage kind) ⊎ HasStopped result.answer }
+    ensures usage_only { (kind : UsageKind) → result.answer ≡ Answer.Usage kind
+        → asked_by words.now ≡ Err kind }
+    ensures usage_told { (kind : UsageKind) → asked_by words.now ≡ Err kind
+        → (result.answer ≡ Answer.Usage kind) ⊎ HasStopped result.answer }
 
     // The source is not read.
     ensures source_left { S.left source.new ≡ S.left source.old }
@@ -77,45 +78,60 @@ pub fn orc<
     ensures no_read_fault { result.answer ≢ Answer.ReadFault }
 
     // A fault comes only where its count rose, and no count falls.
-    ensures file_fault { (k : ℕ) → result.answer ≡ Answer.FileFault k → (k ≡ 0) × IsOk (command_of (map rc_str_bytes words.now)) × Rose (F.faults files.old) (F.faults files.new) }
-    ensures write_fault { result.answer ≡ Answer.WriteFault → Rose (O.faults out.old) (O.faults out.new) ⊎ Rose (L.faults log.old) (L.faults log.new) }
+    ensures file_fault { (k : ℕ) → result.answer ≡ Answer.FileFault k
+        → (k ≡ 0) × IsOk (asked_by words.now) × Rose (F.faults files.old) (F.faults files.new) }
+    ensures write_fault { result.answer ≡ Answer.WriteFault
+        → Rose (O.faults out.old) (O.faults out.new) ⊎ Rose (L.faults log.old) (L.faults log.new) }
     ensures files_counted { F.faults files.old ≤ F.faults files.new }
     ensures out_counted { O.faults out.old ≤ O.faults out.new }
     ensures log_counted { L.faults log.old ≤ L.faults log.new }
     ensures files_same { F.holds files.new ≡ F.holds files.old }
 
-    // Where the files tell the bytes of the file, they decide the answer.
-    ensures too_long_told { (bytes entry : List ℕ) → IsTold (command_of (map rc_str_bytes words.now)) (F.holds files.old) bytes entry
-        → FILE_LIMIT < length bytes → (result.answer ≡ Answer.TooLong 0) ⊎ HasFault result.answer }
-    ensures refused_told { (bytes entry : List ℕ) (e : ElfError) → IsTold (command_of (map rc_str_bytes words.now)) (F.holds files.old) bytes entry
-        → length bytes ≤ FILE_LIMIT → outcome_of bytes entry ≡ refused e → (result.answer ≡ Answer.ObjectRefused 0 (ObjectWhy.Elf e)) ⊎ HasFault result.answer }
-    ensures missing_told { (bytes entry : List ℕ) → IsTold (command_of (map rc_str_bytes words.now)) (F.holds files.old) bytes entry
-        → length bytes ≤ FILE_LIMIT → outcome_of bytes entry ≡ missing → (result.answer ≡ Answer.Missing entry) ⊎ HasFault result.answer }
-    ensures ran_told { (bytes entry image : List ℕ) (pc : ℕ) → IsTold (command_of (map rc_str_bytes words.now)) (F.holds files.old) bytes entry
-        → length bytes ≤ FILE_LIMIT → outcome_of bytes entry ≡ starts image pc → IsEndOf image pc result.answer ⊎ HasFault result.answer }
+    // Where the files tell the bytes of the file, these decide the answer.
+    ensures too_long_told { (bytes entry : List ℕ)
+        → IsTold (asked_by words.now) (F.holds files.old) bytes entry
+        → FILE_LIMIT < length bytes
+        → (result.answer ≡ Answer.TooLong 0) ⊎ HasFault result.answer }
+    ensures refused_told { (bytes entry : List ℕ) (e : ElfError)
+        → IsTold (asked_by words.now) (F.holds files.old) bytes entry
+        → length bytes ≤ FILE_LIMIT → outcome_of bytes entry ≡ refused e
+        → (result.answer ≡ Answer.ObjectRefused 0 (ObjectWhy.Elf e)) ⊎ HasFault result.answer }
+    ensures missing_told { (bytes entry : List ℕ)
+        → IsTold (asked_by words.now) (F.holds files.old) bytes entry
+        → length bytes ≤ FILE_LIMIT → outcome_of bytes entry ≡ missing
+        → (result.answer ≡ Answer.Missing entry) ⊎ HasFault result.answer }
+    ensures ran_told { (bytes entry image : List ℕ) (pc : ℕ)
+        → IsTold (asked_by words.now) (F.holds files.old) bytes entry
+        → length bytes ≤ FILE_LIMIT → outcome_of bytes entry ≡ starts image pc
+        → IsEndOf image pc result.answer ⊎ HasFault result.answer }
 
-    // Each answer comes only where the bytes of the file say so.
+    // Each answer on a file comes only where the bytes of the file say so.
     ensures too_long_only { (k : ℕ) → result.answer ≡ Answer.TooLong k
-        → (k ≡ 0) × IsLongFile (command_of (map rc_str_bytes words.now)) (F.holds files.old) }
+        → (k ≡ 0) × IsLongFile (asked_by words.now) (F.holds files.old) }
     ensures refused_only { (k : ℕ) (why : ObjectWhy) → result.answer ≡ Answer.ObjectRefused k why
-        → (k ≡ 0) × OfFile (command_of (map rc_str_bytes words.now)) (F.holds files.old) (IsRefused why) }
+        → (k ≡ 0) × OfFile (asked_by words.now) (F.holds files.old) (IsRefused why) }
     ensures missing_only { (name : List ℕ) → result.answer ≡ Answer.Missing name
-        → OfFile (command_of (map rc_str_bytes words.now)) (F.holds files.old) (IsMissing name) }
+        → OfFile (asked_by words.now) (F.holds files.old) (IsMissing name) }
 
-    // A run's end is answered only where a run of the image ends so, and out has gained its output.
-    ensures ran_only { (end : RunEnd) → result.answer ≡ answer_of_lem end
-        → OfFile (command_of (map rc_str_bytes words.now)) (F.holds files.old) (HasRunOn (held_by (O.held out.old) (O.faults out.old)) (held_by (O.held out.new) (O.faults out.new)) end) }
+    // An end of a run comes only where the run of the image ends so, and out has gained its output.
+    ensures ran_only { (end : RunEnd) → result.answer ≡ answer_of end
+        → OfFile (asked_by words.now) (F.holds files.old)
+        (HasRunOn (O.held out.old) (O.held out.new) end) }
     ensures out_quiet { IsQuiet result.answer → Appends (O.held out.old) (O.held out.new) [] }
 
-    // Log has gained the end line. Where a write failed or memory ran out, each sink has a part of its text.
-    ensures log_line { result.answer ≢ Answer.WriteFault → result.answer ≢ Answer.NoMemory → Appends (L.held log.old) (L.held log.new) (end_line_of result.answer) }
-    ensures cut { result.answer ≡ Answer.WriteFault → IsCut (command_of (map rc_str_bytes words.now)) (F.holds files.old) (F.faults files.old) (F.faults files.new)
-        (held_by (O.held out.old) (O.faults out.old)) (held_by (O.held out.new) (O.faults out.new)) (held_by (L.held log.old) (L.faults log.old)) (held_by (L.held log.new) (L.faults log.new)) }
+    // Log has gained the end line. After a failed write, or where memory ran out, each sink has
+    // gained a first part of its text.
+    ensures log_line { result.answer ≢ Answer.WriteFault → result.answer ≢ Answer.NoMemory
+        → Appends (L.held log.old) (L.held log.new) (end_line_of result.answer) }
+    ensures cut { result.answer ≡ Answer.WriteFault
+        → IsCut (asked_by words.now) (F.holds files.old) (F.faults files.old) (F.faults files.new)
+        (O.held out.old) (O.held out.new) (L.held log.old) (L.held log.new) }
     ensures wanting { result.answer ≡ Answer.NoMemory
-        → IsWanting (held_by (O.held out.old) (O.faults out.old)) (held_by (O.held out.new) (O.faults out.new)) (held_by (L.held log.old) (L.faults log.old)) (held_by (L.held log.new) (L.faults log.new)) }
+        → IsWanting (O.held out.old) (O.held out.new) (L.held log.old) (L.held log.new) }
 
     // The notifiers come back in their order, and nothing was told them.
-    ensures notes { result.answer ≢ Answer.NoMemory → result.notes ≡ map Noted.Unfired notes.items }
+    ensures notes { result.answer ≢ Answer.NoMemory
+        → result.notes ≡ map Noted.Unfired notes.items }
     ensures fewer_notes { (n : ℕ) × (result.notes ≡ take n (map Noted.Unfired notes.items)) }
 {
     orc_sized::<S, F, O, L, G, N, R, JOURNAL_LIMIT>(
@@ -150,8 +166,10 @@ pub fn orc_sized<
     ensures status { result.status ≡ status_of result.answer }
 
     // The words.
-    ensures usage_only { (kind : UsageKind) → result.answer ≡ Answer.Usage kind → command_of (map rc_str_bytes words.now) ≡ Err kind }
-    ensures usage_told { (kind : UsageKind) → command_of (map rc_str_bytes words.now) ≡ Err kind → (result.answer ≡ Answer.Usage kind) ⊎ HasStopped result.answer }
+    ensures usage_only { (kind : UsageKind) → result.answer ≡ Answer.Usage kind
+        → asked_by words.now ≡ Err kind }
+    ensures usage_told { (kind : UsageKind) → asked_by words.now ≡ Err kind
+        → (result.answer ≡ Answer.Usage kind) ⊎ HasStopped result.answer }
 
     // The source is not read.
     ensures source_left { S.left source.new ≡ S.left source.old }
@@ -159,45 +177,60 @@ pub fn orc_sized<
     ensures no_read_fault { result.answer ≢ Answer.ReadFault }
 
     // A fault comes only where its count rose, and no count falls.
-    ensures file_fault { (k : ℕ) → result.answer ≡ Answer.FileFault k → (k ≡ 0) × IsOk (command_of (map rc_str_bytes words.now)) × Rose (F.faults files.old) (F.faults files.new) }
-    ensures write_fault { result.answer ≡ Answer.WriteFault → Rose (O.faults out.old) (O.faults out.new) ⊎ Rose (L.faults log.old) (L.faults log.new) }
+    ensures file_fault { (k : ℕ) → result.answer ≡ Answer.FileFault k
+        → (k ≡ 0) × IsOk (asked_by words.now) × Rose (F.faults files.old) (F.faults files.new) }
+    ensures write_fault { result.answer ≡ Answer.WriteFault
+        → Rose (O.faults out.old) (O.faults out.new) ⊎ Rose (L.faults log.old) (L.faults log.new) }
     ensures files_counted { F.faults files.old ≤ F.faults files.new }
     ensures out_counted { O.faults out.old ≤ O.faults out.new }
     ensures log_counted { L.faults log.old ≤ L.faults log.new }
     ensures files_same { F.holds files.new ≡ F.holds files.old }
 
-    // Where the files tell the bytes of the file, they decide the answer.
-    ensures too_long_told { (bytes entry : List ℕ) → IsTold (command_of (map rc_str_bytes words.now)) (F.holds files.old) bytes entry
-        → FILE_LIMIT < length bytes → (result.answer ≡ Answer.TooLong 0) ⊎ HasFault result.answer }
-    ensures refused_told { (bytes entry : List ℕ) (e : ElfError) → IsTold (command_of (map rc_str_bytes words.now)) (F.holds files.old) bytes entry
-        → length bytes ≤ FILE_LIMIT → outcome_of bytes entry ≡ refused e → (result.answer ≡ Answer.ObjectRefused 0 (ObjectWhy.Elf e)) ⊎ HasFault result.answer }
-    ensures missing_told { (bytes entry : List ℕ) → IsTold (command_of (map rc_str_bytes words.now)) (F.holds files.old) bytes entry
-        → length bytes ≤ FILE_LIMIT → outcome_of bytes entry ≡ missing → (result.answer ≡ Answer.Missing entry) ⊎ HasFault result.answer }
-    ensures ran_told { (bytes entry image : List ℕ) (pc : ℕ) → IsTold (command_of (map rc_str_bytes words.now)) (F.holds files.old) bytes entry
-        → length bytes ≤ FILE_LIMIT → outcome_of bytes entry ≡ starts image pc → IsEndOf image pc result.answer ⊎ HasFault result.answer }
+    // Where the files tell the bytes of the file, these decide the answer.
+    ensures too_long_told { (bytes entry : List ℕ)
+        → IsTold (asked_by words.now) (F.holds files.old) bytes entry
+        → FILE_LIMIT < length bytes
+        → (result.answer ≡ Answer.TooLong 0) ⊎ HasFault result.answer }
+    ensures refused_told { (bytes entry : List ℕ) (e : ElfError)
+        → IsTold (asked_by words.now) (F.holds files.old) bytes entry
+        → length bytes ≤ FILE_LIMIT → outcome_of bytes entry ≡ refused e
+        → (result.answer ≡ Answer.ObjectRefused 0 (ObjectWhy.Elf e)) ⊎ HasFault result.answer }
+    ensures missing_told { (bytes entry : List ℕ)
+        → IsTold (asked_by words.now) (F.holds files.old) bytes entry
+        → length bytes ≤ FILE_LIMIT → outcome_of bytes entry ≡ missing
+        → (result.answer ≡ Answer.Missing entry) ⊎ HasFault result.answer }
+    ensures ran_told { (bytes entry image : List ℕ) (pc : ℕ)
+        → IsTold (asked_by words.now) (F.holds files.old) bytes entry
+        → length bytes ≤ FILE_LIMIT → outcome_of bytes entry ≡ starts image pc
+        → IsEndOf image pc result.answer ⊎ HasFault result.answer }
 
-    // Each answer comes only where the bytes of the file say so.
+    // Each answer on a file comes only where the bytes of the file say so.
     ensures too_long_only { (k : ℕ) → result.answer ≡ Answer.TooLong k
-        → (k ≡ 0) × IsLongFile (command_of (map rc_str_bytes words.now)) (F.holds files.old) }
+        → (k ≡ 0) × IsLongFile (asked_by words.now) (F.holds files.old) }
     ensures refused_only { (k : ℕ) (why : ObjectWhy) → result.answer ≡ Answer.ObjectRefused k why
-        → (k ≡ 0) × OfFile (command_of (map rc_str_bytes words.now)) (F.holds files.old) (IsRefused why) }
+        → (k ≡ 0) × OfFile (asked_by words.now) (F.holds files.old) (IsRefused why) }
     ensures missing_only { (name : List ℕ) → result.answer ≡ Answer.Missing name
-        → OfFile (command_of (map rc_str_bytes words.now)) (F.holds files.old) (IsMissing name) }
+        → OfFile (asked_by words.now) (F.holds files.old) (IsMissing name) }
 
-    // A run's end is answered only where a run of the image ends so, and out has gained its output.
-    ensures ran_only { (end : RunEnd) → result.answer ≡ answer_of_lem end
-        → OfFile (command_of (map rc_str_bytes words.now)) (F.holds files.old) (HasRunOn (held_by (O.held out.old) (O.faults out.old)) (held_by (O.held out.new) (O.faults out.new)) end) }
+    // An end of a run comes only where the run of the image ends so, and out has gained its output.
+    ensures ran_only { (end : RunEnd) → result.answer ≡ answer_of end
+        → OfFile (asked_by words.now) (F.holds files.old)
+        (HasRunOn (O.held out.old) (O.held out.new) end) }
     ensures out_quiet { IsQuiet result.answer → Appends (O.held out.old) (O.held out.new) [] }
 
-    // Log has gained the end line. Where a write failed or memory ran out, each sink has a part of its text.
-    ensures log_line { result.answer ≢ Answer.WriteFault → result.answer ≢ Answer.NoMemory → Appends (L.held log.old) (L.held log.new) (end_line_of result.answer) }
-    ensures cut { result.answer ≡ Answer.WriteFault → IsCut (command_of (map rc_str_bytes words.now)) (F.holds files.old) (F.faults files.old) (F.faults files.new)
-        (held_by (O.held out.old) (O.faults out.old)) (held_by (O.held out.new) (O.faults out.new)) (held_by (L.held log.old) (L.faults log.old)) (held_by (L.held log.new) (L.faults log.new)) }
+    // Log has gained the end line. After a failed write, or where memory ran out, each sink has
+    // gained a first part of its text.
+    ensures log_line { result.answer ≢ Answer.WriteFault → result.answer ≢ Answer.NoMemory
+        → Appends (L.held log.old) (L.held log.new) (end_line_of result.answer) }
+    ensures cut { result.answer ≡ Answer.WriteFault
+        → IsCut (asked_by words.now) (F.holds files.old) (F.faults files.old) (F.faults files.new)
+        (O.held out.old) (O.held out.new) (L.held log.old) (L.held log.new) }
     ensures wanting { result.answer ≡ Answer.NoMemory
-        → IsWanting (held_by (O.held out.old) (O.faults out.old)) (held_by (O.held out.new) (O.faults out.new)) (held_by (L.held log.old) (L.faults log.old)) (held_by (L.held log.new) (L.faults log.new)) }
+        → IsWanting (O.held out.old) (O.held out.new) (L.held log.old) (L.held log.new) }
 
     // The notifiers come back in their order, and nothing was told them.
-    ensures notes { result.answer ≢ Answer.NoMemory → result.notes ≡ map Noted.Unfired notes.items }
+    ensures notes { result.answer ≢ Answer.NoMemory
+        → result.notes ≡ map Noted.Unfired notes.items }
     ensures fewer_notes { (n : ℕ) × (result.notes ≡ take n (map Noted.Unfired notes.items)) }
 {
     let _ = source;
@@ -213,7 +246,7 @@ fn perform<F: Files, O: Sink, L: Sink, N: Notify>(
     log: &mut L,
     notes: Vec<N>,
 ) -> Ended<N>
-    ensures answered { IsAnswered (command_of (map rc_str_bytes words.now)) (F.holds files.old) (F.faults files.old) (F.faults files.new) (held_by (O.held out.old) (O.faults out.old)) (held_by (O.held out.new) (O.faults out.new)) (held_by (L.held log.old) (L.faults log.old)) (held_by (L.held log.new) (L.faults log.new)) result.answer }
+    ensures answered { IsAnswered (asked_by words.now) (F.holds files.old) (F.faults files.old) (F.faults files.new) (held_by (O.held out.old) (O.faults out.old)) (held_by (O.held out.new) (O.faults out.new)) (held_by (L.held log.old) (L.faults log.old)) (held_by (L.held log.new) (L.faults log.new)) result.answer }
     ensures status { result.status ≡ status_of result.answer }
     ensures files_counted { F.faults files.old ≤ F.faults files.new }
     ensures files_same { F.holds files.new ≡ F.holds files.old }

@@ -1,6 +1,6 @@
 ghost use Rattle.std.specs.Prelude.{◌≡◌, map, ◌&&◌, ◌<◌, length, nat_lt};
 ghost use Rattle.std.specs.Rc.{rc_str_bytes};
-ghost use Rattle.orc_cli.specs.Words.{request_of, command_of, run_of, run_from_lem, is_option_lem};
+ghost use Rattle.orc_cli.specs.Words.{request_of, asked_by, run_of, run_from, is_option};
 
 use std::rc::RcStr;
 
@@ -30,7 +30,7 @@ pub struct RunWords<'a> {
 
 /// The command of a command line: word 0 is the program's name, word 1 the command.
 pub fn read_command(words: &[RcStr]) -> Result<RunWords<'_>, UsageKind>
-    ensures { request_of result ≡ command_of (map rc_str_bytes words.now) }
+    ensures { request_of result ≡ asked_by words.now }
 {
     match words {
         [_, command, rest @ ..] => match command.as_str() {
@@ -59,7 +59,7 @@ fn read_run(words: &[RcStr]) -> Result<RunWords<'_>, UsageKind>
 
 /// The command `run`, where its words are no options and the entry may be a symbol's name.
 fn run_from<'a>(file: &'a str, entry: &'a str) -> Result<RunWords<'a>, UsageKind>
-    ensures { request_of result ≡ run_from_lem file.now entry.now }
+    ensures { request_of result ≡ run_from file.now entry.now }
 {
     if is_option(file) || is_option(entry) || entry.is_empty() || entry.len() > MAX_NAME {
         return Err(UsageKind::BadWords);
@@ -69,7 +69,7 @@ fn run_from<'a>(file: &'a str, entry: &'a str) -> Result<RunWords<'a>, UsageKind
 
 /// An option is a word that starts with `-`; `-` alone is none.
 fn is_option(word: &str) -> bool
-    ensures { result ≡ is_option_lem word.now }
+    ensures { result ≡ is_option word.now }
 {
     word.len() > 1 && word.as_bytes()[0] == b'-'
 }

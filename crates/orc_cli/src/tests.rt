@@ -1,0 +1,264 @@
+ghost use Rattle.std.specs.Prelude.{◌≡◌, All, None, IfOk};
+
+mod hello;
+
+use super::*;
+use hello::HELLO;
+use orc_ids::Bytes;
+use orc_io::{Files, MemFiles, MemSink, Note, OpenGate, Sink, SureFiles, SureSink, SureSource};
+use std::alloc::{AllocError, Global};
+use std::process::Abort;
+use std::rc::RcStr;
+use std::sync::Wait;
+use std::test::Fail;
+use std::thread::Threads;
+
+/// The most bytes that the sinks of these tests hold.
+const ROOM: usize = 4096;
+
+fn words_of(alloc: Global, texts: &[&str]) -> Result<Vec<RcStr>, AllocError> {
+    let mut words = Vec::new(alloc);
+    for text in texts {
+        words.push(RcStr::from_str(alloc, text)?)?;
+    }
+    Ok(words)
+}
+
+fn two_notes(alloc: Global) -> Result<Vec<Note>, AllocError>
+    ensures { IfOk result (λ notes. All (λ n. n.outcome ≡ None) notes.items) }
+{
+    let mut notes = Vec::new(alloc);
+    notes.push(Note::new())?;
+    notes.push(Note::new())?;
+    Ok(notes)
+}
+
+fn call<R: Threads + Wait + AllocGlobal, F: Files, O: Sink, L: Sink>(
+    rt: &R,
+    words: &[&str],
+    files: &mut F,
+    out: &mut O,
+    log: &mut L,
+) -> Result<Ended<Note>, Fail> {
+    let alloc = rt.alloc();
+    let words = words_of(alloc, words)?;
+    let notes = two_notes(alloc)?;
+    let mut source = SureSource::new(Bytes::copy_of(alloc, b"unread")?);
+    Ok(orc(
+        rt,
+        alloc,
+        words.as_slice(),
+        &mut source,
+        files,
+        out,
+        log,
+        &OpenGate,
+        notes,
+    ))
+}
+
+/// The bytes of `hello.o` with some words of `.text` replaced.
+fn patched(alloc: Global, patches: &[(u8, u32)]) -> Result<Bytes, AllocError> {
+    let mut bytes = HELLO.to_vec(alloc)?;
+    for (place, word) in patches {
+        for (k, byte) in word.to_le_bytes().iter().enumerate() {
+            if let Some(to) = bytes.get_mut(64 + 4 * usize::from(*place) + k) {
+                *to = *byte;
+            }
+        }
+    }
+    Ok(Bytes::from_vec(bytes))
+}
+
+/// Runs a patched copy of `hello.o` over an outside that never fails.
+fn expect<R: Threads + Wait + Abort + AllocGlobal>(
+    rt: &R,
+    patches: &[(u8, u32)],
+    status: u8,
+    written: usize,
+    line: &[u8],
+) -> Result<(), Fail> {
+    let alloc = rt.alloc();
+    let mut files = SureFiles::new(alloc);
+    files.put(alloc, "p.o", patched(alloc, patches)?)?;
+    let mut out = SureSink::new(alloc);
+    let mut log = SureSink::new(alloc);
+    let ended = call(rt, &["orc", "run", "p.o"], &mut files, &mut out, &mut log)?;
+    assert_eq!(rt; ended.status, status);
+    assert_eq!(rt; log.bytes(), Some(line));
+    assert_eq!(rt; out.bytes().map(|bytes| bytes.len()), Some(written));
+    Ok(())
+}
+
+/// Calls over a file `hello.o`, with sinks that have some room and none that fails by itself.
+fn expect_words<R: Threads + Wait + Abort + AllocGlobal>(
+    rt: &R,
+    words: &[&str],
+    status: u8,
+    line: &[u8],
+) -> Result<(), Fail> {
+    let alloc = rt.alloc();
+    let mut files = MemFiles::new(alloc, Vec::new(alloc));
+    files.put(alloc, "hello.o", Bytes::copy_of(alloc, HELLO.as_slice())?)?;
+    let mut out = MemSink::new(alloc, Vec::new(alloc), ROOM);
+    let mut log = MemSink::new(alloc, Vec::new(alloc), ROOM);
+    let ended = call(rt, words, &mut files, &mut out, &mut log)?;
+    assert_eq!(rt; ended.status, status);
+    assert_eq!(rt; log.bytes(), line);
+    Ok(())
+}
+
+/// Words of `.text` to replace, and how the run then ends: the status, how much is written, the end line.
+type Run = (&'static [(u8, u32)], u8, usize, &'static [u8]);
+
+const RUNS: [Run; 12] = [
+    (&[], 0, 6, b"end exited 0\n"),
+    (
+        &[(0, 0xFFFF_FFFF)],
+        110,
+        0,
+        b"end trap 10000000 illegal ffffffff\n",
+    ),
+    (&[(0, 0x0010_0073)], 110, 0, b"end trap 10000000 break\n"),
+    // jalr zero, 0(zero), and jal zero by 2
+    (&[(0, 0x0000_0067)], 110, 0, b"end trap 0 fetch\n"),
+    (
+        &[(0, 0x0020_006F)],
+        110,
+        0,
+        b"end trap 10000000 misaligned 10000002\n",
+    ),
+    // lbu a0, 0(zero), and sb zero, 0(zero)
+    (&[(0, 0x0000_4503)], 110, 0, b"end trap 10000000 load 0\n"),
+    (&[(0, 0x0000_0023)], 110, 0, b"end trap 10000000 store 0\n"),
+    // a write to descriptor 2, one from address 32, and call 5; the result is the exit code
+    (
+        &[(0, 0x0020_0513), (6, 0x13)],
+        247,
+        0,
+        b"end exited 18446744073709551607\n",
+    ),
+    (
+        &[(2, 0x0000_0593), (6, 0x13)],
+        242,
+        0,
+        b"end exited 18446744073709551602\n",
+    ),
+    (
+        &[(4, 0x0050_0893), (6, 0x13)],
+        218,
+        0,
+        b"end exited 18446744073709551578\n",
+    ),
+    // jal zero, 0
+    (&[(0, 0x0000_006F)], 111, 0, b"end out of fuel\n"),
+    // writes of 2,047 bytes below the stack pointer, without end
+    (
+        &[
+            (2, 0x0000_0013),
+            (3, 0x8001_0593),
+            (4, 0x7FF0_0613),
+            (5, 0x0400_0893),
+            (6, 0x0000_0073),
+            (7, 0x0010_0513),
+            (8, 0xFF9F_F06F),
+        ],
+        112,
+        1_048_064,
+        b"end output full\n",
+    ),
+];
+
+#[test]
+fn patched_copies_end_as_their_words_say(rt: HostRuntime) -> Result<(), Fail> {
+    for (patches, status, written, line) in RUNS {
+        expect(&rt, patches, status, written, line)?;
+    }
+    Ok(())
+}
+
+const CALLS: [(&[&str], u8, &[u8]); 10] = [
+    (
+        &["orc", "run", "hello.o", "--entry", "main"],
+        0,
+        b"end exited 0\n",
+    ),
+    (
+        &["orc", "run", "hello.o", "--entry", "nosuch"],
+        107,
+        b"end missing nosuch\n",
+    ),
+    // a local symbol is no entry
+    (
+        &["orc", "run", "hello.o", "--entry", "msg"],
+        107,
+        b"end missing msg\n",
+    ),
+    (&["orc", "run", "nofile.o"], 102, b"end file fault 0\n"),
+    (&["orc"], 100, b"end usage no command\n"),
+    (&["orc", "frob"], 100, b"end usage unknown command\n"),
+    (&["orc", "session"], 100, b"end usage unknown command\n"),
+    (&["orc", "run"], 100, b"end usage bad words\n"),
+    (&["orc", "run", "--help"], 100, b"end usage bad words\n"),
+    (
+        &["orc", "run", "hello.o", "--entry", ""],
+        100,
+        b"end usage bad words\n",
+    ),
+];
+
+#[test]
+fn words_and_files_have_their_answers(rt: HostRuntime) -> Result<(), Fail> {
+    for (words, status, line) in CALLS {
+        expect_words(&rt, words, status, line)?;
+    }
+    Ok(())
+}
+
+#[test]
+fn cut_and_long_files_are_refused(rt: HostRuntime) -> Result<(), Fail> {
+    let alloc = rt.alloc();
+    let mut files = SureFiles::new(alloc);
+    for (name, count) in [
+        ("0", 0),
+        ("15", 15),
+        ("63", 63),
+        ("64", 64),
+        ("long", 16_777_217),
+    ] {
+        let mut bytes = HELLO.to_vec(alloc)?;
+        bytes.resize(count, 0)?;
+        files.put(alloc, name, Bytes::from_vec(bytes))?;
+    }
+    let mut out = SureSink::new(alloc);
+    let mut log = SureSink::new(alloc);
+    for name in ["0", "15", "63", "64", "long"] {
+        let _ = call(&rt, &["orc", "run", name], &mut files, &mut out, &mut log)?;
+    }
+    let lines =
+        b"end object refused 0 e1 0\nend object refused 0 e1 15\nend object refused 0 e1 63\nend object refused 0 e12 form\nend too long 0\n";
+    assert_eq!(rt; log.bytes(), Some(lines.as_slice()));
+    Ok(())
+}
+
+#[test]
+fn a_write_that_fails_is_answered(rt: HostRuntime) -> Result<(), Fail> {
+    let alloc = rt.alloc();
+    let mut files = SureFiles::new(alloc);
+    files.put(alloc, "hello.o", Bytes::copy_of(alloc, HELLO.as_slice())?)?;
+    let words = ["orc", "run", "hello.o"];
+    let mut narrow = MemSink::new(alloc, Vec::new(alloc), 3);
+    let mut log = MemSink::new(alloc, Vec::new(alloc), ROOM);
+    let ended = call(&rt, &words, &mut files, &mut narrow, &mut log)?;
+    assert_eq!(rt; ended.status, 103);
+    assert_eq!(rt; narrow.bytes(), b"hel".as_slice());
+    assert_eq!(rt; log.bytes(), b"".as_slice());
+    let mut out = MemSink::new(alloc, Vec::new(alloc), ROOM);
+    let mut narrow = MemSink::new(alloc, Vec::new(alloc), 5);
+    let ended = call(&rt, &words, &mut files, &mut out, &mut narrow)?;
+    assert_eq!(rt; ended.status, 103);
+    assert_eq!(rt; out.bytes(), b"hello\n".as_slice());
+    assert_eq!(rt; narrow.bytes(), b"end e".as_slice());
+    assert_eq!(rt; ended.notes.as_slice().len(), 2);
+    Ok(())
+}
