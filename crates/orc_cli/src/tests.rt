@@ -216,7 +216,7 @@ fn words_and_files_have_their_answers(rt: HostRuntime) -> Result<(), Fail> {
 }
 
 #[test]
-fn cut_and_long_files_are_refused(rt: HostRuntime) -> Result<(), Fail> {
+fn files_that_are_not_linked_are_refused(rt: HostRuntime) -> Result<(), Fail> {
     let alloc = rt.alloc();
     let mut files = SureFiles::new(alloc);
     for (name, count) in [
@@ -230,13 +230,17 @@ fn cut_and_long_files_are_refused(rt: HostRuntime) -> Result<(), Fail> {
         bytes.resize(count, 0)?;
         files.put(alloc, name, Bytes::from_vec(bytes))?;
     }
+    // a relocation of another type, at the place of the first one's
+    let mut other = HELLO;
+    other[120] = 18;
+    files.put(alloc, "other", Bytes::copy_of(alloc, &other)?)?;
     let mut out = SureSink::new(alloc);
     let mut log = SureSink::new(alloc);
-    for name in ["0", "15", "63", "64", "long"] {
+    for name in ["0", "15", "63", "64", "other", "long"] {
         let _ = call(&rt, &["orc", "run", name], &mut files, &mut out, &mut log)?;
     }
     let lines =
-        b"end object refused 0 e1 0\nend object refused 0 e1 15\nend object refused 0 e1 63\nend object refused 0 e12 form\nend too long 0\n";
+        b"end object refused 0 e1 0\nend object refused 0 e1 15\nend object refused 0 e1 63\nend object refused 0 e1 328\nend object refused 0 e12 form\nend too long 0\n";
     assert_eq!(rt; log.bytes(), Some(lines.as_slice()));
     Ok(())
 }
