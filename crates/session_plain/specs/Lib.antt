@@ -1,0 +1,10 @@
+pub mod Rows
+pub mod Meant
+pub mod Find
+pub mod Marks
+pub mod Lookups
+pub mod Defines
+pub mod Work
+pub mod Calls
+pub mod Settling
+pub mod Linking
