@@ -1,0 +1,69 @@
+-- The number of a name, and which names have one.
+use Rattle.std.proofs.Common.{◌≡◌, ℕ, zero, suc, ◌+◌, ◌<◌, ◌≤◌, Bool, true, false, cond, List, [], ◌∷◌, length, get_or, Option, Some, None, refl, sym, ap, subst, ◌∙◌, inl, inr, arith}
+use Rattle.std.specs.Prelude.{slice_get, Contains, IsTrue, IsSome, IfSome, ◌↔◌}
+use Rattle.std.specs.List.{position_from}
+use Rattle.std.specs.Str.{bytes_eq}
+use Rattle.std.specs.Cmp.Lexicographic.{nat_list_eq_equiv, same_text}
+use Rattle.std.proofs.lemmas.Bool.{cases_Bool, cases_lt}
+use Rattle.std.proofs.lemmas.Option.{none-some, same_Some, slice_get_within, slice_get-get_or}
+use Rattle.elf_read.specs.declared.object.Symbol.{Symbol}
+use Rattle.orc_ids.specs.declared.ids.NameId.{NameId}
+use Rattle.link_graph.specs.Object.{name_number, is_global}
+use Rattle.orc_names.specs.Numbers.{IsNumberOf, KeepsNumbers}
+
+-- the first place of a text, where it has only one
+position_there : (text : List ℕ) (i n : ℕ) (names : List (List ℕ)) → slice_get names n ≡ Some text → ((m : ℕ) → slice_get names m ≡ Some text → m ≡ n) → position_from (bytes_eq text) i names ≡ Some (i + n)
+position_there text i n [] h only = absurd (none-some text h)
+position_there text i zero (x ∷ xs) h only = rw (same_Some x text h, nat_list_eq_equiv.refl text) (ap Some (omega arith))
+position_there text i (suc n) (x ∷ xs) h only = elim (cases_Bool (bytes_eq text x)) [
+  | inl t ↦ absurd (let first = only 0 (ap Some (sym (same_text text x (sym t)))) in omega arith)
+  | inr f ↦ rw f (position_there text (i + 1) n xs h (λ m there. let later = only (suc m) there in omega arith) ∙ ap Some (omega arith))
+]
+
+pub position-found : (names : List (List ℕ)) (text : List ℕ) (n : ℕ) → IsNumberOf names text n → position_from (bytes_eq text) 0 names ≡ Some n
+position-found names text n is = position_there text 0 n names is.there is.only ∙ ap Some zero_less
+  where
+    zero_less : 0 + n ≡ n
+    zero_less = omega arith
+
+pub position-missing : (names : List (List ℕ)) (text : List ℕ) (i : ℕ) → (Contains names text → ⊥) → position_from (bytes_eq text) i names ≡ None
+position-missing [] text i h = refl
+position-missing (x ∷ xs) text i h = elim (cases_Bool (bytes_eq text x)) [
+  | inl t ↦ absurd (h (0, omega arith, sym (same_text text x (sym t))))
+  | inr f ↦ rw f (position-missing xs text (i + 1) (λ c. h (suc c.0, omega (arith, c.1), c.2)))
+]
+
+-- what a table has, it keeps
+pub kept : (old new : List (List ℕ)) (text : List ℕ) → KeepsNumbers old new → Contains old text → Contains new text
+kept old new text keeps c =
+    let there : slice_get old c.0 ≡ Some text = slice_get-get_or old c.0 text c.1 ∙ ap Some c.2 in
+    let later : slice_get new c.0 ≡ Some text = keeps c.0 text there in
+    let within = slice_get_within new c.0 text later in
+    (c.0, within, same_Some (get_or new c.0 text) text (sym (slice_get-get_or new c.0 text within) ∙ later))
+
+pub keeps_all : (a b c : List (List ℕ)) → KeepsNumbers a b → KeepsNumbers b c → KeepsNumbers a c
+keeps_all a b c first second number text there = second number text (first number text there)
+
+-- what a table answers to a text
+pub number_is : (names : List (List ℕ)) (text : List ℕ) (found : Option NameId) → (IsSome found ↔ Contains names text) → IfSome found (λ name. IsNumberOf names text name.0) → found ≡ name_number names text
+number_is names text None known number = rw (position-missing names text 0 (λ c. let some = known.1 c in absurd cc)) refl
+number_is names text (Some name) known number = rw (position-found names text name.0 number) refl
+
+-- each of the first symbols that isn't local has its name in the table
+abbrev pub AreFirstNamed : List (List ℕ) → List Symbol → ℕ → Type 0
+AreFirstNamed names symbols n = (k : ℕ) (d : Symbol) → k < n → IsTrue (is_global (get_or symbols k d)) → Contains names (get_or symbols k d).name
+
+any_default : {X : Type 0} (xs : List X) (k : ℕ) (d e : X) → k < length xs → get_or xs k d ≡ get_or xs k e
+any_default [] k d e lt = absurd (omega arith)
+any_default (x ∷ xs) zero d e lt = refl
+any_default (x ∷ xs) (suc k) d e lt = any_default xs k d e (omega arith)
+
+-- one more symbol
+pub one_more_named : (old new : List (List ℕ)) (symbols : List Symbol) (n : ℕ) (s : Symbol) → KeepsNumbers old new → n < length symbols → s ≡ get_or symbols n s → (IsTrue (is_global s) → Contains new s.name) → AreFirstNamed old symbols n → AreFirstNamed new symbols (n + 1)
+one_more_named old new symbols n s keeps within is here before k d lt global = elim (cases_lt k n) [
+  | inl below ↦ kept old new (get_or symbols k d).name keeps (before k d below global)
+  | inr above ↦ (
+      let same : k ≡ n = omega arith in
+      let item : get_or symbols k d ≡ s = ap (λ i. get_or symbols i d) same ∙ any_default symbols n d s within ∙ sym is in
+      subst (λ (x : Symbol). Contains new x.name) (sym item) (here (subst (λ (x : Symbol). IsTrue (is_global x)) item global)))
+]

@@ -1,0 +1,102 @@
+-- The checks of a graph are those of its parts.
+use Rattle.std.proofs.Common.{◌≡◌, ℕ, zero, suc, ◌+◌, ◌<◌, ◌≤◌, Bool, true, false, cond, not, ◌&&◌, ◌||◌, ◌==◌, nat_lt, List, [], ◌∷◌, ◌++◌, length, map, Option, Some, None, Result, Ok, Err, refl, sym, ap, ◌∙◌, inl, inr, arith}
+use Rattle.std.specs.Prelude.{find, is_none, slice_get}
+use Rattle.std.specs.List.{list_any}
+use Rattle.std.proofs.lemmas.Bool.{cases_Bool}
+use Rattle.elf_read.specs.declared.object.ElfObject.{ElfObject}
+use Rattle.elf_read.specs.declared.object.Symbol.{Symbol}
+use Rattle.link_model.specs.declared.graph.Block.{Block}
+use Rattle.link_model.specs.declared.graph.Edge.{Edge}
+use Rattle.link_model.specs.declared.graph.GPlace.{GPlace}
+use Rattle.link_model.specs.declared.graph.GPlace.TheVariants.{In, Abs, External}
+use Rattle.link_model.specs.declared.graph.GSym.{GSym}
+use Rattle.link_model.specs.declared.graph.LinkGraph.{LinkGraph}
+use Rattle.link_model.specs.Image.{at_or, is_upper, is_at, is_paired}
+use Rattle.link_graph.specs.Object.{blocks_of, graph_symbols, graph_of_parts, graph_place, edges_from, is_common}
+use Rattle.link_graph.specs.Checks.{first_error, pair_error, is_too_large, first_failed, graph_of_object, Makes, is_zero, is_in_block}
+use Rattle.link_graph.specs.Parts.{graph_places, place_error, label_error, is_over, failed_check, Refuses, AreUppers, is_labelled, stands_at, is_upper_at, has_label}
+use Rattle.link_graph.specs.declared.error.GraphError.{GraphError}
+use Rattle.link_graph.specs.declared.error.GraphError.TheVariants.{UnknownReloc, RelocOutside, TlsOrIfunc, BadPair, NeedsAlign, TooMany, NoMemory}
+use Rattle.link_graph.specs.declared.pairs.Label.{Label}
+
+places-graph_symbols : (names : List (List ℕ)) (common : ℕ) (ss : List Symbol) → map (λ (x : GSym). x.place) (graph_symbols names common ss) ≡ graph_places common ss
+places-graph_symbols names common [] = refl
+places-graph_symbols names common (s ∷ ss) = ap (λ (ps : List GPlace). graph_place common s s.place ∷ ps) (places-graph_symbols names (cond (is_common s.place) (common + 1) common) ss)
+
+length-graph_symbols : (names : List (List ℕ)) (common : ℕ) (ss : List Symbol) → length (graph_symbols names common ss) ≡ length ss
+length-graph_symbols names common [] = refl
+length-graph_symbols names common (s ∷ ss) = ap suc (length-graph_symbols names (cond (is_common s.place) (common + 1) common) ss)
+
+pair_errors : (g : LinkGraph) (places : List GPlace) → map (λ (x : GSym). x.place) g.symbols ≡ places → (es : List Edge) → first_error (pair_error g) es ≡ first_error (place_error places g.edges) es
+pair_errors g places h es = rw (← h) refl
+
+too_large : (names : List (List ℕ)) (o : ElfObject) → is_too_large (graph_of_parts names o) ≡ is_over o
+too_large names o = rw (length-graph_symbols names (length o.sections) o.symbols) refl
+
+pub failed_check-is : (names : List (List ℕ)) (o : ElfObject) → first_failed (graph_of_parts names o) o ≡ failed_check o
+failed_check-is names o =
+    rw (too_large names o, pair_errors (graph_of_parts names o) (graph_places (length o.sections) o.symbols) (places-graph_symbols names (length o.sections) o.symbols) (edges_from 0 o.sections)) refl
+
+-- the answer where a check fails, and where none does
+pub makes_refusal : (names : List (List ℕ)) (o : ElfObject) (why : GraphError) → Refuses why (failed_check o) → Makes (Err why) (graph_of_object names o)
+makes_refusal names o NoMemory h = tt
+makes_refusal names o TooMany h = rw (failed_check-is names o, h) refl
+makes_refusal names o (UnknownReloc kind place) h = rw (failed_check-is names o, h) refl
+makes_refusal names o (RelocOutside place) h = rw (failed_check-is names o, h) refl
+makes_refusal names o (TlsOrIfunc s) h = rw (failed_check-is names o, h) refl
+makes_refusal names o (BadPair place) h = rw (failed_check-is names o, h) refl
+makes_refusal names o (NeedsAlign place) h = rw (failed_check-is names o, h) refl
+
+pub makes_graph : (names : List (List ℕ)) (o : ElfObject) (g : LinkGraph) → failed_check o ≡ None → g ≡ graph_of_parts names o → Makes (Ok g) (graph_of_object names o)
+makes_graph names o g none is = rw (failed_check-is names o, none, is) refl
+
+pub refuses_it : (why : GraphError) (refusal : Option GraphError) → refusal ≡ Some why → Refuses why refusal
+refuses_it NoMemory refusal h = tt
+refuses_it TooMany refusal h = h
+refuses_it (UnknownReloc kind place) refusal h = h
+refuses_it (RelocOutside place) refusal h = h
+refuses_it (TlsOrIfunc s) refusal h = h
+refuses_it (BadPair place) refusal h = h
+refuses_it (NeedsAlign place) refusal h = h
+
+-- the element of a number
+pub at_or-some : {X : Type 0} (other : X) (xs : List X) (k : ℕ) (x : X) → slice_get xs k ≡ Some x → x ≡ at_or other xs k
+at_or-some other [] k x h = absurd cc
+at_or-some other (y ∷ ys) zero x h = cc
+at_or-some other (y ∷ ys) (suc k) x h = at_or-some other ys k x h
+
+pub at_or-none : {X : Type 0} (other : X) (xs : List X) (k : ℕ) → slice_get xs k ≡ None → other ≡ at_or other xs k
+at_or-none other [] k h = refl
+at_or-none other (y ∷ ys) zero h = absurd cc
+at_or-none other (y ∷ ys) (suc k) h = at_or-none other ys k h
+
+-- whether something is found
+is_none-find : {X : Type 0} (p : X → Bool) (xs : List X) → not (is_none (find p xs)) ≡ list_any p xs
+is_none-find p [] = refl
+is_none-find p (x ∷ xs) = elim (cases_Bool (p x)) [ inl t ↦ rw t refl | inr f ↦ rw f (is_none-find p xs) ]
+
+labelled : (labels : List Label) (edges : List Edge) → AreUppers labels edges → (place : GPlace) → is_labelled labels place ≡ (is_in_block place && not (is_none (find (λ (h : Edge). is_upper h.kind && is_at place h) edges)))
+labelled labels edges are (In block offset) = are block offset ∙ sym (is_none-find (is_upper_at block offset) edges)
+labelled labels edges are (Abs a) = refl
+labelled labels edges are (External weak) = refl
+
+and_parts : (a b c : Bool) → ((a && b) && c) ≡ (a && (b && c))
+and_parts true b c = refl
+and_parts false b c = refl
+
+one : (labels : List Label) (places : List GPlace) (edges : List Edge) (e : Edge) → AreUppers labels edges → label_error labels places e ≡ place_error places edges e
+one labels places edges e are =
+    let place = at_or (Abs 0) places e.target in
+    let test = is_zero e.addend in
+    ap (λ (b : Bool). cond (is_paired e.kind && not b) (Some (BadPair (record { block = e.block; offset = e.offset }))) None)
+    (ap (λ (b : Bool). test && b) (labelled labels edges are place) ∙ sym (and_parts test (is_in_block place) (not (is_none (find (λ (h : Edge). is_upper h.kind && is_at place h) edges)))))
+
+pub label_errors : (labels : List Label) (places : List GPlace) (edges es : List Edge) → AreUppers labels edges → first_error (label_error labels places) es ≡ first_error (place_error places edges) es
+label_errors labels places edges [] are = refl
+label_errors labels places edges (e ∷ es) are = rw (one labels places edges e are, label_errors labels places edges es are) refl
+
+pub makes_error : (names : List (List ℕ)) (o : ElfObject) (why : GraphError) (result : Result LinkGraph GraphError) → result ≡ Err why → Refuses why (failed_check o) → Makes result (graph_of_object names o)
+makes_error names o why result is h = rw is (makes_refusal names o why h)
+
+pub graph_is : (names : List (List ℕ)) (o : ElfObject) (bs : List Block) (ss : List GSym) (es : List Edge) → bs ≡ blocks_of o → ss ≡ graph_symbols names (length o.sections) o.symbols → es ≡ edges_from 0 o.sections → record { blocks = bs; symbols = ss; edges = es } ≡ graph_of_parts names o
+graph_is names o bs ss es b s e = rw (b, s, e) refl

@@ -1,0 +1,15 @@
+use Rattle.std.proofs.Common.{rules}
+use Rattle.link_graph.proofs.ReadNames.{names_are_short}
+use Rattle.link_graph.proofs.Whole.{makes_error, makes_graph, graph_is}
+use Rattle.link_graph.proofs.graph.graph_of.Goals as goal
+
+pub returns-in_err-blocks-clause-exact : goal.returns-in_err-blocks-clause-exact
+returns-in_err-blocks-clause-exact c = makes_error c.args.names.now c.args.o.now c.in_err-blocks.field-0.0 c.from_residual.result (search rules) c.in_err-blocks.ensures.refused
+
+pub intern_names-requires : goal.intern_names-requires
+intern_names-requires c = rw c.as_slice-symbols.ensures (names_are_short c.args.o.now c.requires)
+
+pub returns-clause-exact : goal.returns-clause-exact
+returns-clause-exact c =
+    makes_graph c.intern_names.new.names c.args.o.now _ c.in_ok-blocks.ensures.passed
+    (graph_is c.intern_names.new.names c.args.o.now c.from_vec.result c.from_vec-2.result c.from_vec-3.result (search rules) (search rules) (search rules))

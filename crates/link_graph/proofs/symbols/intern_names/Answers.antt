@@ -1,0 +1,26 @@
+use Rattle.std.proofs.Common.{sym, ap, ◌∙◌, arith, rules}
+use Rattle.link_graph.specs.Object.{is_global}
+use Rattle.link_graph.proofs.NameNumbers.{one_more_named, keeps_all}
+use Rattle.link_graph.proofs.symbols.intern_names.Goals as goal
+use Rattle.link_graph.proofs.symbols.intern_names.Goals.{then-seen_by_others+in_ok-intern_name, else-seen_by_others}
+
+pub loop-s-preserved : goal.loop-s-preserved
+loop-s-preserved c = elim c.if-seen_by_others.branch [
+  | then-seen_by_others+in_ok-intern_name w ↦
+      rw w.names-is (
+        keeps_all c.args.names.now c.loop-s.names _ c.loop-s.invariant.0 w.intern_name.ensures.older,
+        one_more_named c.loop-s.names _ c.args.symbols.now c.loop-s.s-index c.s-item.result w.intern_name.ensures.older c.loop-s-test.true c.s-item.is
+            (λ _. rw w.as_slice.ensures at w.in_ok-intern_name.ensures.named)
+            c.loop-s.invariant.1,
+      )
+  | else-seen_by_others w ↦
+      rw w.names-is (
+        c.loop-s.invariant.0,
+        one_more_named c.loop-s.names c.loop-s.names c.args.symbols.now c.loop-s.s-index c.s-item.result (λ n t h. h) c.loop-s-test.true c.s-item.is
+            (λ global. let local = sym c.seen_by_others.ensures ∙ w.if-seen_by_others.false in absurd cc)
+            c.loop-s.invariant.1,
+      )
+]
+
+pub returns-clause-named : goal.returns-clause-named
+returns-clause-named c = λ k d lt. c.loop-s.invariant.1 k d (omega arith)

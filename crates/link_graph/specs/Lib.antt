@@ -1,0 +1,4 @@
+pub mod Object
+pub mod Checks
+pub mod Parts
+pub mod Read

@@ -1,0 +1,124 @@
+ghost use Rattle.std.specs.Prelude.{◌≡◌, slice_get, IfOk};
+ghost use Rattle.link_model.specs.declared.graph.GPlace.TheVariants.{Abs};
+ghost use Rattle.link_model.specs.Image.{at_or, is_paired, is_upper};
+ghost use Rattle.link_graph.specs.Checks.{first_error};
+ghost use Rattle.link_graph.specs.Parts.{AreUppers, is_labelled, label_error, place_error};
+
+use crate::error::GraphError;
+use link_model::{Edge, GPlace};
+use orc_ids::Place;
+use std::alloc::{AllocError, Global};
+use std::collections::HashSet;
+
+const GOT_HI20: u32 = 20;
+
+const PCREL_HI20: u32 = 23;
+
+const PCREL_LO12_I: u32 = 24;
+
+const PCREL_LO12_S: u32 = 25;
+
+/// A place as a key.
+#[derive(Clone, Copy, PartialEq, Eq, Hash)]
+struct Label {
+    block: u32,
+    offset: u64,
+}
+
+/// Places, so that whether one is among them is told in constant time.
+#[derive(Drop)]
+struct Labels {
+    keys: HashSet<Label>,
+}
+
+fn is_upper_kind(kind: u32) -> bool
+    ensures { result ≡ is_upper kind }
+{
+    kind == GOT_HI20 || kind == PCREL_HI20
+}
+
+fn is_paired_kind(kind: u32) -> bool
+    ensures { result ≡ is_paired kind }
+{
+    kind == PCREL_LO12_I || kind == PCREL_LO12_S
+}
+
+/// The places of the upper edges.
+fn upper_labels(alloc: Global, edges: &[Edge]) -> Result<Labels, AllocError>
+    ensures { IfOk result (λ labels. AreUppers labels.keys.keys edges.now) }
+{
+    let mut keys = HashSet::new(alloc);
+    for e in edges {
+        if is_upper_kind(e.kind) {
+            let label = Label {
+                block: e.block,
+                offset: e.offset,
+            };
+            keys.insert(label)?;
+        }
+    }
+    Ok(Labels { keys })
+}
+
+/// Whether a place in a block is among the labels.
+fn labelled(labels: &Labels, place: GPlace) -> bool
+    ensures { result ≡ is_labelled labels.now.keys.keys place }
+{
+    match place {
+        GPlace::In(block, offset) => labels.keys.contains(&Label { block, offset }),
+        _ => false,
+    }
+}
+
+fn place_there(places: &[GPlace], symbol: u32) -> Option<GPlace>
+    ensures { result ≡ slice_get places.now symbol }
+{
+    places.get(symbol as usize).copied()
+}
+
+/// The place of a symbol.
+fn place_at(places: &[GPlace], symbol: u32) -> GPlace
+    ensures { result ≡ at_or (Abs 0) places.now symbol }
+{
+    match place_there(places, symbol) {
+        Some(place) => place,
+        None => GPlace::Abs(0),
+    }
+}
+
+/// The refusal of an edge that needs a pair and has none.
+fn pair_refused(labels: &Labels, places: &[GPlace], e: &Edge) -> Option<GraphError>
+    ensures { result ≡ label_error labels.now.keys.keys places.now e.now }
+{
+    if is_paired_kind(e.kind) && !(e.addend == 0 && labelled(labels, place_at(places, e.target))) {
+        return Some(GraphError::BadPair(Place {
+            block: e.block,
+            offset: e.offset,
+        }));
+    }
+    None
+}
+
+fn first_unpaired(labels: &Labels, places: &[GPlace], edges: &[Edge]) -> Option<GraphError>
+    ensures { result ≡ first_error (label_error labels.now.keys.keys places.now) edges.now }
+{
+    for e in edges {
+        let refused = pair_refused(labels, places, e);
+        if refused.is_some() {
+            return refused;
+        }
+    }
+    None
+}
+
+/// The first edge that needs a pair and has none.
+pub(crate) fn pairs_refused(
+    alloc: Global,
+    places: &[GPlace],
+    edges: &[Edge],
+) -> Result<Option<GraphError>, AllocError>
+    ensures { IfOk result (λ refused. refused ≡ first_error (place_error places.now edges.now) edges.now) }
+{
+    let labels = upper_labels(alloc, edges)?;
+    Ok(first_unpaired(&labels, places, edges))
+}
