@@ -1,10 +1,11 @@
 #!/usr/bin/env python3
 """Writes large objects and measures how long the reader takes for each.
 
-    large_objects.py DUMP
+    large_objects.py DUMP [ORC]
 
 Each has 16 MiB: many symbols and relocations, many sections, and names and ranges that are made to
-cost much.
+cost much. With ORC, the program, it is also measured how long objects with as many symbols and
+relocations as an object may have take to be linked and to do one instruction.
 """
 import random
 import struct
@@ -59,6 +60,25 @@ def many_relocations(symbols=65536, relocations=262144):
     return build(fine), build([*fine[:2], section(4, bad, link=4, info=2, entsize=24), *fine[3:]])
 
 
+def many_pairs(symbols=65536):
+    """As many symbols and relocations as an object may have, the relocations in pairs of an upper and a lower part."""
+    names = b"\0" + b"".join(b"s%d\0" % j for j in range(1, symbols))
+    places, at = [0], 1
+    for j in range(1, symbols):
+        places.append(at)
+        at += len(b"s%d\0" % j)
+    table = bytes(24) + b"".join(symbol(places[j], 1, 2, 8 * j) for j in range(1, symbols))
+    relocs = b"".join(
+        struct.pack("<QQqQQq", 8 * k, j << 32 | 23, 0, 8 * k + 4, j << 32 | 24, 0)
+        for k, j in [(j + half, j) for half in (0, symbols) for j in range(1, symbols)]
+    )
+    text = bytes(16 * MIB - len(names) - len(table) - len(relocs) - 64 * 8)
+    return build([
+        section(3, b"\0.text\0"), section(1, text, flags=6, align=4, name=1),
+        section(4, relocs, link=4, info=2, entsize=24), section(2, table, link=5, info=1, entsize=24), section(3, names),
+    ])
+
+
 def many_sections():
     """65,534 kept sections, each with the same long name, the last of which overlaps the first."""
     count = 65500
@@ -104,6 +124,18 @@ def measure(dump, name, data):
     print(f"{name:34} {len(data) / MIB:5.1f} MiB  {best:6.3f} s  {line}")
 
 
+def measure_run(orc, name, data):
+    with tempfile.TemporaryDirectory() as place:
+        Path(place, "large.o").write_bytes(data)
+        best, line = 1e9, ""
+        for _ in range(3):
+            began = time.monotonic()
+            done = subprocess.run([orc, "run", "large.o", "--entry", "s1", "--fuel", "1"], cwd=place, capture_output=True)
+            best = min(best, time.monotonic() - began)
+            line = done.stderr.decode().strip()
+    print(f"{name:34} {len(data) / MIB:5.1f} MiB  {best:6.3f} s  {line}")
+
+
 def main():
     dump = sys.argv[1]
     fine, bad = many_relocations()
@@ -114,6 +146,10 @@ def main():
     measure(dump, "sections, the last overlaps", many_sections())
     measure(dump, "long names, the last symbol is bad", long_names())
     measure(dump, "names without end", no_zero_byte())
+    if len(sys.argv) > 2:
+        orc = Path(sys.argv[2]).resolve()
+        measure_run(orc, "symbols, relocations, run", fine)
+        measure_run(orc, "symbols, pairs, run", many_pairs())
 
 
 if __name__ == "__main__":

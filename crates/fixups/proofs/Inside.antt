@@ -11,7 +11,8 @@ use Rattle.link_model.specs.declared.graph.GPlace.TheVariants.{Abs}
 use Rattle.link_model.specs.declared.graph.GSym.{GSym}
 use Rattle.link_model.specs.declared.graph.Layout.{Layout}
 use Rattle.link_model.specs.declared.graph.LinkGraph.{LinkGraph}
-use Rattle.fixups.specs.Sound.{sizes, Sound, Placed, Lies}
+use Rattle.link_model.specs.Sound.{sizes, Sound}
+use Rattle.fixups.specs.Sound.{Placed, Lies}
 
 -- the definitions' element and the slices' element
 pub at_or-get : {X : Type 0} (d : X) (xs : List X) (k : ℕ) → at_or d xs k ≡ get_or xs k d

@@ -1,3 +1,5 @@
+pub mod Closed
+pub mod Placing
 pub mod Inside
 pub mod Pairs
 pub mod Pieces

@@ -11,7 +11,8 @@ use Rattle.link_model.specs.Image.{at_or, pieces, raw_byte, stub_bytes}
 use Rattle.link_model.specs.declared.graph.Block.{Block}
 use Rattle.link_model.specs.declared.graph.Layout.{Layout}
 use Rattle.link_model.specs.declared.graph.LinkGraph.{LinkGraph}
-use Rattle.fixups.specs.Sound.{Sound, Alone, Lies}
+use Rattle.link_model.specs.Sound.{Sound}
+use Rattle.fixups.specs.Sound.{Alone, Lies}
 use Rattle.fixups.specs.Tables.{with_piece}
 use Rattle.fixups.proofs.Inside.{at_or-get}
 

@@ -1,38 +1,14 @@
--- What every graph of an object keeps, and where a unit may lie (System V gABI, "Relocation": r_offset
--- lies in the section, and the symbol in the symbol table).
-use Rattle.std.specs.Prelude.{◌≡◌, ◌≢◌, ℕ, ◌+◌, ◌^◌, ◌<◌, ◌≤◌, List, [], length, map, IsSome, ⊤}
+-- Where a unit may lie that needs no other.
+use Rattle.std.specs.Prelude.{◌≡◌, ◌≢◌, ℕ, ◌+◌, ◌^◌, ◌<◌, ◌≤◌, Bool, true, List, [], length}
 use Rattle.std.specs.List.{All}
-use Rattle.link_model.specs.Kinds.{row_of, rule_of}
 use Rattle.link_model.specs.Layout.{layout_of}
-use Rattle.link_model.specs.Image.{at_or}
-use Rattle.link_model.specs.declared.graph.Block.{Block}
+use Rattle.link_model.specs.Graph.{is_defined}
+use Rattle.link_model.specs.Image.{at_or, place_of}
+use Rattle.link_model.specs.Offers.{offered_symbols}
+use Rattle.link_model.specs.Sound.{sizes, Sound}
 use Rattle.link_model.specs.declared.graph.Edge.{Edge}
-use Rattle.link_model.specs.declared.graph.GPlace.{GPlace}
-use Rattle.link_model.specs.declared.graph.GPlace.TheVariants.{In}
-use Rattle.link_model.specs.declared.graph.GSym.{GSym}
 use Rattle.link_model.specs.declared.graph.Layout.{Layout}
 use Rattle.link_model.specs.declared.graph.LinkGraph.{LinkGraph}
-
-abbrev pub sizes : LinkGraph → List ℕ
-sizes g = map (λ (b : Block). b.size) g.blocks
-
--- the bytes of an edge lie in its block, and its kind and its symbol are there
-pub record EdgeFits (g : LinkGraph) (e : Edge) : Type 0 where
-  pub block : e.block < length g.blocks
-  pub inside : e.offset + (rule_of e.kind).width ≤ at_or 0 (sizes g) e.block
-  pub known : IsSome (row_of e.kind)
-  pub target : e.target < length g.symbols
-
--- a symbol in a block lies in it, or at its end
-abbrev pub PlaceFits : LinkGraph → GPlace → Type 0
-PlaceFits g (In block offset) = (block < length g.blocks) × (offset ≤ at_or 0 (sizes g) block)
-PlaceFits g _ = ⊤
-
-pub record Sound (g : LinkGraph) : Type 0 where
-  pub bytes : All (λ (b : Block). length b.bytes ≤ b.size) g.blocks
-  pub aligns : All (λ (b : Block). 0 < b.align) g.blocks
-  pub symbols : All (λ (s : GSym). PlaceFits g s.place) g.symbols
-  pub edges : All (EdgeFits g) g.edges
 
 -- a unit that needs no other: it has no cell and no stub
 pub record Alone (g : LinkGraph) (l : Layout) : Type 0 where
@@ -40,6 +16,14 @@ pub record Alone (g : LinkGraph) (l : Layout) : Type 0 where
   pub cells : l.cells ≡ []
   pub stubs : l.stubs ≡ []
   pub edges : All (λ (e : Edge). e.kind ≢ 20) g.edges
+
+-- every edge refers to a symbol that the graph itself defines, and none through a GOT cell
+abbrev pub Closed : LinkGraph → Type 0
+Closed g = All (λ (e : Edge). (is_defined (place_of g e.target) ≡ true) × (e.kind ≢ 20)) g.edges
+
+-- there is a flag for each offered symbol, and each is live
+abbrev pub AllLive : LinkGraph → List Bool → Type 0
+AllLive g live = (length live ≡ length (offered_symbols g)) × All (λ b. b ≡ true) live
 
 -- a graph, its layout, and a base at which the unit has room
 pub record Placed (g : LinkGraph) (l : Layout) (base : ℕ) : Type 0 where

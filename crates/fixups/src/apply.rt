@@ -1,7 +1,8 @@
 ghost use Rattle.std.specs.Prelude.{◌≡◌, ℕ, ◌<◌, length, map, true, false, None, Some, slice_index, IfErr, OnOk};
 ghost use Rattle.std.specs.HashMap.{get};
 ghost use Rattle.link_model.specs.Image.{edge_value, edge_write, edge_in_range, written, all_written, first_refused};
-ghost use Rattle.fixups.specs.Sound.{EdgeFits, Lies};
+ghost use Rattle.link_model.specs.Sound.{EdgeFits};
+ghost use Rattle.fixups.specs.Sound.{Lies};
 ghost use Rattle.fixups.specs.Refusal.{Refuses};
 ghost use Rattle.fixups.specs.Tables.{own, upper_value, same_place};
 

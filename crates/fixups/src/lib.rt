@@ -6,6 +6,7 @@
 //! Read `reloc_table` for a single edge.
 #![tactic(auto)]
 
+mod alone;
 mod apply;
 mod image;
 mod place;
@@ -14,5 +15,6 @@ mod raw;
 mod tests;
 mod upper;
 
+pub use alone::{closed_graph_is_alone, is_alone};
 pub use apply::FixError;
 pub use image::fix;

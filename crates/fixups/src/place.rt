@@ -1,7 +1,8 @@
 ghost use Rattle.std.specs.Prelude.{◌≡◌, ℕ, ◌+◌, ◌<◌, length};
 ghost use Rattle.std.specs.List.{All};
 ghost use Rattle.link_model.specs.Image.{at_or, edge_offset, own_address, place_of, lone_value};
-ghost use Rattle.fixups.specs.Sound.{EdgeFits, PlaceFits, Lies};
+ghost use Rattle.link_model.specs.Sound.{EdgeFits, PlaceFits};
+ghost use Rattle.fixups.specs.Sound.{Lies};
 ghost use Rattle.fixups.specs.Tables.{own};
 
 use link_model::{Edge, GPlace, Layout, LinkGraph};

@@ -1,8 +1,11 @@
 //! One unit with two blocks: `auipc` and `addi` that reach a word, as the linkers of the field fix them.
 
-use crate::fix;
-use link_model::{Block, Edge, GPlace, GSym, Layout, LinkGraph};
-use orc_ids::{Bytes, Items, Shape, SymFlags};
+ghost use Rattle.link_model.specs.Sound.{Sound, IsSized};
+
+use crate::{fix, is_alone};
+use got_stubs::synthesise;
+use link_model::{Block, Edge, GPlace, GSym, LinkGraph};
+use orc_ids::{Bytes, Items, SymFlags};
 use std::alloc::{AllocError, AllocFailed, Global};
 
 #[derive(Debug, Drop)]
@@ -17,6 +20,21 @@ impl From<AllocError> for Failed {
 impl<T: Drop> From<AllocFailed<T>> for Failed {
     fn from(_e: AllocFailed<T>) -> Failed {
         Failed
+    }
+}
+
+/// The image of a graph that needs no other, laid out and fixed.
+fn image_alone(alloc: Global, g: &LinkGraph) -> Result<Bytes, Failed>
+    requires sound { Sound g.now }
+    requires sized { IsSized g.now }
+{
+    let layout = synthesise(alloc, g, &[])?;
+    if !is_alone(g, &layout) {
+        return Err(Failed);
+    }
+    match fix(alloc, g, &layout, 0x1000_0000, &[]) {
+        Ok(image) => Ok(image),
+        Err(_) => Err(Failed),
     }
 }
 
@@ -61,23 +79,7 @@ fn fixes_a_pair(rt: HostRuntime) -> Result<(), Failed> {
         symbols: Items::from_vec(symbols),
         edges: Items::from_vec(edges),
     };
-    let mut offsets = Vec::new(alloc);
-    offsets.push(0u64)?;
-    let layout = Layout {
-        blocks: Items::from_vec(offsets),
-        cells: Items::new(alloc),
-        stubs: Items::new(alloc),
-        shape: Shape {
-            need: 16,
-            align: 16,
-        },
-        externals: Items::new(alloc),
-        live: Items::new(alloc),
-    };
-    let image = match fix(alloc, &graph, &layout, 0x1000_0000, &[]) {
-        Ok(image) => image,
-        Err(_) => return Err(Failed),
-    };
+    let image = image_alone(alloc, &graph)?;
     let fixed = [
         0x97u8, 0x25, 0, 0, 0x93, 0x85, 0x05, 0x80, 0, 0, 0, 0, 0, 0, 0, 0,
     ];

@@ -1,7 +1,8 @@
 ghost use Rattle.std.specs.Prelude.{◌≡◌, ◌&&◌, ℕ, ◌<◌, length, true, false, if◌then◌else◌, Some, IfOk, OnOk};
 ghost use Rattle.std.specs.HashMap.{get};
 ghost use Rattle.link_model.specs.Image.{is_upper, is_paired, lone_value, edge_value};
-ghost use Rattle.fixups.specs.Sound.{EdgeFits, Lies};
+ghost use Rattle.link_model.specs.Sound.{EdgeFits};
+ghost use Rattle.fixups.specs.Sound.{Lies};
 ghost use Rattle.fixups.specs.Tables.{own, is_upper_at, upper_value, same_place};
 
 use crate::place::lone_value;

@@ -1,4 +1,7 @@
 pub mod ReadNames
+pub mod ReadChecks
+pub mod ReadFacts
+pub mod GraphFacts
 pub mod NameNumbers
 pub mod Whole
 pub mod Powers

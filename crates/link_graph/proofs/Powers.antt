@@ -1,5 +1,5 @@
 -- Powers of two, one after another.
-use Rattle.std.proofs.Common.{◌≡◌, ℕ, suc, ◌+◌, ◌-◌, ◌*◌, ◌<◌, ◌≤◌, Bool, true, cond, nat_lt, refl, sym, ap, ◌∙◌, le-ltb, lt-ltb, arith}
+use Rattle.std.proofs.Common.{◌≡◌, ℕ, suc, ◌+◌, ◌-◌, ◌*◌, ◌<◌, ◌≤◌, Bool, cond, nat_lt, refl, ap, ◌∙◌, le-ltb, lt-ltb, arith}
 use Rattle.link_graph.specs.Checks.{power_above}
 
 power_more : (k p a : ℕ) → power_above (suc k) p a ≡ cond (nat_lt a p) p (power_above k (2 * p) a)

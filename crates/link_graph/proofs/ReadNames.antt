@@ -1,5 +1,5 @@
 -- The names of an object that is read are no longer than a name may be.
-use Rattle.std.proofs.Common.{◌≡◌, ℕ, zero, suc, ◌<◌, ◌≤◌, Bool, true, false, cond, ◌==◌, nat_lt, List, [], ◌∷◌, length, map, get_or, take, drop, Option, Some, None, unwrap_or, option_map, Ok, Err, refl, arith}
+use Rattle.std.proofs.Common.{◌≡◌, ℕ, zero, suc, ◌≤◌, Bool, true, false, cond, ◌==◌, nat_lt, List, [], ◌∷◌, length, map, take, drop, Option, Some, None, unwrap_or, option_map, Ok, refl, arith}
 use Rattle.std.specs.List.{position_or_len, All}
 use Rattle.std.proofs.lemmas.Bool.{ltb-true}
 use Rattle.std.proofs.lemmas.List.{length-take}
@@ -50,7 +50,7 @@ object_short : (f : File) → HasShortNames (object_in f).symbols
 unfolding object_in
 object_short f = all_mapped (λ (s : Symbol). length s.name ≤ 4096) (symbol_in f) (symbol_short f) (numbers (symbol_count f))
 
-object_is : (bytes : List ℕ) (o : ElfObject) → object_of bytes ≡ Ok o → object_in (file_of bytes) ≡ o
+pub object_is : (bytes : List ℕ) (o : ElfObject) → object_of bytes ≡ Ok o → object_in (file_of bytes) ≡ o
 unfolding object_of
 object_is bytes o h = object_from_ok (refusal_of bytes) (object_in (file_of bytes)) o h
 

@@ -1,5 +1,5 @@
 -- The checks of a graph are those of its parts.
-use Rattle.std.proofs.Common.{◌≡◌, ℕ, zero, suc, ◌+◌, ◌<◌, ◌≤◌, Bool, true, false, cond, not, ◌&&◌, ◌||◌, ◌==◌, nat_lt, List, [], ◌∷◌, ◌++◌, length, map, Option, Some, None, Result, Ok, Err, refl, sym, ap, ◌∙◌, inl, inr, arith}
+use Rattle.std.proofs.Common.{◌≡◌, ℕ, zero, suc, ◌+◌, Bool, true, false, cond, not, ◌&&◌, List, [], ◌∷◌, length, map, Option, Some, None, Result, Ok, Err, refl, sym, ap, ◌∙◌, inl, inr}
 use Rattle.std.specs.Prelude.{find, is_none, slice_get}
 use Rattle.std.specs.List.{list_any}
 use Rattle.std.proofs.lemmas.Bool.{cases_Bool}
@@ -14,7 +14,7 @@ use Rattle.link_model.specs.declared.graph.LinkGraph.{LinkGraph}
 use Rattle.link_model.specs.Image.{at_or, is_upper, is_at, is_paired}
 use Rattle.link_graph.specs.Object.{blocks_of, graph_symbols, graph_of_parts, graph_place, edges_from, is_common}
 use Rattle.link_graph.specs.Checks.{first_error, pair_error, is_too_large, first_failed, graph_of_object, Makes, is_zero, is_in_block}
-use Rattle.link_graph.specs.Parts.{graph_places, place_error, label_error, is_over, failed_check, Refuses, AreUppers, is_labelled, stands_at, is_upper_at, has_label}
+use Rattle.link_graph.specs.Parts.{graph_places, place_error, label_error, is_over, failed_check, Refuses, AreUppers, is_labelled, is_upper_at}
 use Rattle.link_graph.specs.declared.error.GraphError.{GraphError}
 use Rattle.link_graph.specs.declared.error.GraphError.TheVariants.{UnknownReloc, RelocOutside, TlsOrIfunc, BadPair, NeedsAlign, TooMany, NoMemory}
 use Rattle.link_graph.specs.declared.pairs.Label.{Label}
@@ -23,7 +23,7 @@ places-graph_symbols : (names : List (List ℕ)) (common : ℕ) (ss : List Symbo
 places-graph_symbols names common [] = refl
 places-graph_symbols names common (s ∷ ss) = ap (λ (ps : List GPlace). graph_place common s s.place ∷ ps) (places-graph_symbols names (cond (is_common s.place) (common + 1) common) ss)
 
-length-graph_symbols : (names : List (List ℕ)) (common : ℕ) (ss : List Symbol) → length (graph_symbols names common ss) ≡ length ss
+pub length-graph_symbols : (names : List (List ℕ)) (common : ℕ) (ss : List Symbol) → length (graph_symbols names common ss) ≡ length ss
 length-graph_symbols names common [] = refl
 length-graph_symbols names common (s ∷ ss) = ap suc (length-graph_symbols names (cond (is_common s.place) (common + 1) common) ss)
 

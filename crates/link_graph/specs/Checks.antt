@@ -1,5 +1,5 @@
 -- Which objects have a graph, and the first check that fails.
-use Rattle.std.specs.Prelude.{◌≡◌, ℕ, zero, suc, ◌+◌, ◌*◌, ◌%◌, Bool, true, false, ◌&&◌, ◌||◌, ◌==◌, not, nat_lt, ℤ, pos, negsuc, List, [], ◌∷◌, ◌++◌, length, map, sum_by, slice_get, Option, Some, None, is_none, Result, Ok, Err, if◌then◌else◌}
+use Rattle.std.specs.Prelude.{◌≡◌, ℕ, zero, suc, ◌+◌, ◌*◌, ◌%◌, Bool, true, false, ◌&&◌, ◌||◌, ◌==◌, not, nat_lt, ℤ, pos, negsuc, List, [], ◌∷◌, length, sum_by, slice_get, Option, Some, None, is_none, Result, Ok, Err, if◌then◌else◌}
 use Rattle.std.specs.Option.{option_map_or}
 use Rattle.orc_ids.specs.declared.place.Place.{Place}
 use Rattle.elf_read.specs.declared.object.ElfObject.{ElfObject}
@@ -8,6 +8,7 @@ use Rattle.elf_read.specs.declared.object.Section.{Section}
 use Rattle.elf_read.specs.declared.object.Symbol.{Symbol}
 use Rattle.link_model.specs.Image.{is_paired, paired_with, place_of}
 use Rattle.link_model.specs.Kinds.{row_of}
+use Rattle.link_model.specs.Sound.{MAX_BLOCKS, MAX_SYMBOLS, MAX_EDGES, MAX_BYTES}
 use Rattle.link_model.specs.declared.graph.Block.{Block}
 use Rattle.link_model.specs.declared.graph.Edge.{Edge}
 use Rattle.link_model.specs.declared.graph.GPlace.{GPlace}
@@ -26,20 +27,7 @@ abbrev pub first_error : {X : Type 0} → (X → Option GraphError) → List X �
 first_error check [] = None
 first_error check (x ∷ xs) = or_else (check x) (first_error check xs)
 
--- What a unit may have: blocks, symbols, edges, and bytes in its blocks
-
-abbrev pub MAX_BLOCKS : ℕ
-MAX_BLOCKS = 16384
-
-abbrev pub MAX_SYMBOLS : ℕ
-MAX_SYMBOLS = 65536
-
-abbrev pub MAX_EDGES : ℕ
-MAX_EDGES = 262144
-
-abbrev pub MAX_BYTES : ℕ
-MAX_BYTES = 16 * 1024 * 1024
-
+-- more than a unit may have
 abbrev pub is_too_large : LinkGraph → Bool
 is_too_large g =
     nat_lt MAX_BLOCKS (length g.blocks) || nat_lt MAX_SYMBOLS (length g.symbols)

@@ -1,6 +1,6 @@
 -- The graph of an object: its kept sections and common symbols as blocks, its symbols, and its
 -- relocations as edges (System V gABI, "Symbol Table"; RISC-V ELF psABI, "Relocations").
-use Rattle.std.specs.Prelude.{◌≡◌, ℕ, ◌+◌, Bool, true, false, ◌&&◌, ◌||◌, ◌==◌, not, List, [], ◌∷◌, ◌++◌, length, map, filter, flat_map, Option, Some, None, option_map, if◌then◌else◌}
+use Rattle.std.specs.Prelude.{ℕ, ◌+◌, Bool, true, false, ◌&&◌, ◌||◌, ◌==◌, not, List, [], ◌∷◌, ◌++◌, length, map, filter, Option, None, option_map, if◌then◌else◌}
 use Rattle.std.specs.List.{position_from}
 use Rattle.std.specs.Str.{bytes_eq}
 use Rattle.orc_ids.specs.declared.flags.SymFlags.{SymFlags}

@@ -1,5 +1,5 @@
 -- The parts of a graph that are made and checked one by one.
-use Rattle.std.specs.Prelude.{◌≡◌, ℕ, ◌+◌, ◌≤◌, Bool, true, false, ◌&&◌, ◌||◌, ◌==◌, not, nat_lt, List, [], ◌∷◌, length, sum_by, find, Option, Some, None, is_none, if◌then◌else◌}
+use Rattle.std.specs.Prelude.{◌≡◌, ℕ, ◌+◌, ◌≤◌, Bool, false, ◌&&◌, ◌||◌, ◌==◌, not, nat_lt, List, [], ◌∷◌, length, sum_by, find, Option, Some, None, is_none, if◌then◌else◌}
 use Rattle.std.specs.List.{list_any}
 use Rattle.elf_read.specs.declared.object.ElfObject.{ElfObject}
 use Rattle.elf_read.specs.declared.object.Symbol.{Symbol}
@@ -9,7 +9,8 @@ use Rattle.link_model.specs.declared.graph.Edge.{Edge}
 use Rattle.link_model.specs.declared.graph.GPlace.{GPlace}
 use Rattle.link_model.specs.declared.graph.GPlace.TheVariants.{In, Abs}
 use Rattle.link_graph.specs.Object.{is_common, graph_place, blocks_of, edges_from}
-use Rattle.link_graph.specs.Checks.{MAX_BLOCKS, MAX_SYMBOLS, MAX_EDGES, MAX_BYTES, or_else, first_error, symbol_error, relocs_error, is_zero, is_in_block}
+use Rattle.link_model.specs.Sound.{MAX_BLOCKS, MAX_SYMBOLS, MAX_EDGES, MAX_BYTES}
+use Rattle.link_graph.specs.Checks.{or_else, first_error, symbol_error, relocs_error, is_zero, is_in_block}
 use Rattle.link_graph.specs.declared.error.GraphError.{GraphError}
 use Rattle.link_graph.specs.declared.error.GraphError.TheVariants.{BadPair, TooMany, NoMemory}
 use Rattle.link_graph.specs.declared.pairs.Label.{Label}

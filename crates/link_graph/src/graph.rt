@@ -1,5 +1,6 @@
 ghost use Rattle.std.specs.Prelude.{◌≡◌, length, false, Some, None, IfOk, IfErr, OnOk, if◌then◌else◌};
 ghost use Rattle.orc_names.specs.Numbers.{KeepsNumbers};
+ghost use Rattle.link_model.specs.Sound.{Sound, IsSized, OffersDiffer};
 ghost use Rattle.link_graph.specs.Object.{blocks_of, edges_from};
 ghost use Rattle.link_graph.specs.Checks.{or_else, first_error, symbol_error, relocs_error, graph_of_object, Makes};
 ghost use Rattle.link_graph.specs.Parts.{IsSmall, Refuses, failed_check, graph_places, is_over, place_error};
@@ -95,6 +96,9 @@ fn checked_parts(alloc: Global, o: &ElfObject) -> Result<Parts, GraphError>
 pub fn graph_of(alloc: Global, o: &ElfObject, names: &mut Names) -> Result<LinkGraph, GraphError>
     requires { IsRead o.now }
     ensures exact { Makes result (graph_of_object names.new o.now) }
+    ensures sound { IfOk result (λ g. Sound g) }
+    ensures sized { IfOk result (λ g. IsSized g) }
+    ensures offers { IfOk result (λ g. OffersDiffer g) }
     ensures named { OnOk result (AreNamed names.new o.now.symbols) }
     ensures older { KeepsNumbers names.old names.new }
     ensures refused { IfErr result (λ why. LeavesNames why names.old names.new) }

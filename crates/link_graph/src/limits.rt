@@ -1,6 +1,6 @@
 ghost use Rattle.std.specs.Prelude.{◌≡◌, ◌||◌, nat_lt, length, sum_by};
 ghost use Rattle.link_model.specs.declared.graph.Block.{Block as BlockSeen};
-ghost use Rattle.link_graph.specs.Checks.{MAX_BLOCKS, MAX_SYMBOLS, MAX_EDGES, MAX_BYTES};
+ghost use Rattle.link_model.specs.Sound.{MAX_BLOCKS, MAX_SYMBOLS, MAX_EDGES, MAX_BYTES};
 
 use elf_read::ElfObject;
 use link_model::{Block, Edge};

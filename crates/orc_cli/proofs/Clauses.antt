@@ -1,25 +1,23 @@
 -- The clauses of the top call follow from what was found and written.
-use Rattle.std.proofs.Common.{◌≡◌, ◌≢◌, ◌≤◌, ◌<◌, ℕ, ◌⊎◌, inl, inr, List, [], ◌++◌, take, length, Option, Some, None, Result, Ok, Err, refl, sym, ◌∙◌, ap, subst, arith}
+use Rattle.std.proofs.Common.{◌≡◌, ◌≢◌, ◌≤◌, ◌<◌, ℕ, ◌⊎◌, inl, inr, List, [], length, Option, Some, Result, Ok, Err, refl, sym, ◌∙◌, ap, subst, arith}
 use Rattle.std.specs.Option.{IsSomeAnd}
 use Rattle.std.specs.Prelude.{IsOk}
-use Rattle.std.specs.Io.KnownBytes.{Appends}
-use Rattle.std.proofs.KnownBytes.{Appends-nil}
 use Rattle.std.proofs.Math.Seq.{take-length}
 use Rattle.orc_io.specs.declared.limits.TheConstants.{FILE_LIMIT}
 use Rattle.orc_io.specs.Causes.{Rose}
 use Rattle.orc_io.specs.Contents.{HasContent, IsLongerThan}
-use Rattle.elf_read.specs.declared.error.ElfError.{ElfError}
 use Rattle.exec_run.specs.declared.ran.RunEnd.{RunEnd}
 use Rattle.exec_run.specs.declared.ran.RunEnd.TheVariants.{Exited as HasExited, Trap as HasTrapped, OutOfFuel as IsOutOfFuel, OutputFull as IsFull}
 use Rattle.orc_cli.specs.declared.words.UsageKind.{UsageKind}
 use Rattle.orc_cli.specs.declared.answer.ObjectWhy.{ObjectWhy}
-use Rattle.orc_cli.specs.declared.answer.ObjectWhy.TheVariants.{Elf}
 use Rattle.orc_cli.specs.declared.answer.Answer.{Answer}
 use Rattle.orc_cli.specs.declared.answer.Answer.TheVariants.{Exited, Usage, ReadFault, FileFault, WriteFault, ObjectRefused, TooLong, Missing, Trap, OutOfFuel, OutputFull, NoMemory}
 use Rattle.orc_cli.specs.Words.{Request}
 use Rattle.orc_cli.specs.EndLine.{end_line_of}
-use Rattle.orc_cli.specs.Outcomes.{Outcome, refused, missing, starts, outcome_of, Runs, IsSilent, EndsIn, AnswersAs, answer_of}
+use Rattle.orc_cli.specs.Outcomes.{Outcome, refused, missing, starts, outcome_of, AnswersAs, answer_of}
 use Rattle.orc_cli.specs.Answered.{Told, Held, HoldsWhole, HoldsPart, HoldsAsBefore, HasFailed, IsFound, in_words, in_reading, in_length, in_file, wanting, IsWritten, whole, out_failed, log_failed, IsFinished, IsAnswered, found, unwritten}
+use Rattle.orc_cli.specs.ByNames.{IsStaticRun}
+use Rattle.orc_cli.proofs.Static.{only_run}
 use Rattle.orc_cli.specs.Causes.{HasStopped, HasFault, IsTold, IsLongFile, OfFile, IsRefused, IsMissing, HasRun, HasRunOn, IsEndOf, IsQuiet, IsCut, IsWanting}
 
 -- what was found and finished is answered
@@ -52,8 +50,8 @@ end_cause asked told before after output IsFull h = h
 
 outcome_cause : (asked : Result Request UsageKind) (told : Told) (before after : ℕ) (answer : Answer) (output : List ℕ)
     (run : Request) → asked ≡ Ok run → (bytes : List ℕ) → length bytes ≤ FILE_LIMIT → HasContent told run.file bytes
-    → (x : Outcome) → outcome_of bytes run.entry ≡ x → AnswersAs x run.entry answer output → Cause asked told before after answer output
-outcome_cause asked told before after answer output run q bytes short content (refused e) x gives =
+    → (x : Outcome) → outcome_of bytes run.entry ≡ x → AnswersAs x run answer output → Cause asked told before after answer output
+outcome_cause asked told before after answer output run q bytes short content (refused why) x gives =
     let P : Answer → Type 0 = λ a. Cause asked told before after a output in
     subst P (sym gives.is) (refl, record { run = run; asks = q; bytes = bytes; short = short; content = content; fact = x }, gives.silent)
 outcome_cause asked told before after answer output run q bytes short content missing x gives =
@@ -61,7 +59,7 @@ outcome_cause asked told before after answer output run q bytes short content mi
     subst P (sym gives.is) (record { run = run; asks = q; bytes = bytes; short = short; content = content; fact = (refl, x) }, gives.silent)
 outcome_cause asked told before after answer output run q bytes short content (starts image pc) x gives =
     let P : Answer → Type 0 = λ a. Cause asked told before after a output in
-    let ran : HasRun gives.end output bytes run.entry = record { image = image; pc = pc; linked = x; runs = gives.runs } in
+    let ran : HasRun gives.end output bytes run = record { image = image; pc = pc; linked = x; runs = gives.runs } in
     subst P (sym gives.is) (end_cause asked told before after output gives.end (record { run = run; asks = q; bytes = bytes; short = short; content = content; fact = ran }))
 
 -- every answer that is found has its cause
@@ -258,100 +256,122 @@ usage_told asked told before after out out' log log' answer (found f output is w
     ]
 
 -- what bytes that are told answer
-data Tells (bytes entry : List ℕ) (f : Answer) (output : List ℕ) : Type 0 where
-  tells_long : FILE_LIMIT < length bytes → f ≡ TooLong 0 → Tells bytes entry f output
-  tells_short : length bytes ≤ FILE_LIMIT → AnswersAs (outcome_of bytes entry) entry f output → Tells bytes entry f output
-  tells_fault : f ≡ FileFault 0 → Tells bytes entry f output
-  tells_wanting : f ≡ NoMemory → Tells bytes entry f output
+data Tells (bytes : List ℕ) (run : Request) (f : Answer) (output : List ℕ) : Type 0 where
+  tells_long : FILE_LIMIT < length bytes → f ≡ TooLong 0 → Tells bytes run f output
+  tells_short : length bytes ≤ FILE_LIMIT → AnswersAs (outcome_of bytes run.entry) run f output → Tells bytes run f output
+  tells_fault : f ≡ FileFault 0 → Tells bytes run f output
+  tells_wanting : f ≡ NoMemory → Tells bytes run f output
 
-told_found : (asked : Result Request UsageKind) (told : Told) (before after : ℕ) (f : Answer) (output bytes entry : List ℕ)
-    → IsTold asked told bytes entry → IsFound asked told before after f output → Tells bytes entry f output
-told_found asked told before after f output bytes entry t (in_words kind q _ _) = let asks = t.asks in cc
-told_found asked told before after f output bytes entry t (in_reading _ _ _ e _) = tells_fault e
-told_found asked told before after f output bytes entry t (in_length run q l e _) =
-    let asks = t.asks in
-    let same : run ≡ record { file = t.file; entry = entry } = cc in
+told_found : (asked : Result Request UsageKind) (told : Told) (before after : ℕ) (f : Answer) (output bytes : List ℕ) (asks : Request)
+    → IsTold asked told bytes asks → IsFound asked told before after f output → Tells bytes asks f output
+told_found asked told before after f output bytes asks t (in_words kind q _ _) = let is = t.asks in cc
+told_found asked told before after f output bytes asks t (in_reading _ _ _ e _) = tells_fault e
+told_found asked told before after f output bytes asks t (in_length run q l e _) =
+    let is = t.asks in
+    let same : run ≡ asks = cc in
     let P : Told → Type 0 = λ x. IsLongerThan FILE_LIMIT x run.file in
     let Q : Request → Type 0 = λ r. IsSomeAnd (t.contents r.file) (λ held. FILE_LIMIT < length held) in
     let R : Option (List ℕ) → Type 0 = λ x. IsSomeAnd x (λ held. FILE_LIMIT < length held) in
     tells_long (subst R t.has (subst Q same (subst P t.tells l))) e
-told_found asked told before after f output bytes entry t (in_file run q held short content gives) =
-    let asks = t.asks in
-    let same : run ≡ record { file = t.file; entry = entry } = cc in
+told_found asked told before after f output bytes asks t (in_file run q held short content gives) =
+    let is = t.asks in
+    let same : run ≡ asks = cc in
     let P : Told → Type 0 = λ x. HasContent x run.file held in
     let Q : Request → Type 0 = λ r. t.contents r.file ≡ Some held in
-    let there : t.contents t.file ≡ Some held = subst Q same (subst P t.tells content) in
+    let there : t.contents asks.file ≡ Some held = subst Q same (subst P t.tells content) in
     let has = t.has in
     let these : held ≡ bytes = cc in
-    let R : Request → Type 0 = λ r. AnswersAs (outcome_of held r.entry) r.entry f output in
+    let R : Request → Type 0 = λ r. AnswersAs (outcome_of held r.entry) r f output in
     let S : List ℕ → Type 0 = λ b. length b ≤ FILE_LIMIT in
-    let U : List ℕ → Type 0 = λ b. AnswersAs (outcome_of b entry) entry f output in
+    let U : List ℕ → Type 0 = λ b. AnswersAs (outcome_of b asks.entry) asks f output in
     tells_short (subst S these short) (subst U these (subst R same gives))
-told_found asked told before after f output bytes entry t (wanting e _) = tells_wanting e
+told_found asked told before after f output bytes asks t (wanting e _) = tells_wanting e
 
 -- the same of what was written
 told_answered : (asked : Result Request UsageKind) (told : Told) (before after : ℕ) (out out' log log' : Held) (answer : Answer)
-    (bytes entry : List ℕ) → IsTold asked told bytes entry → IsAnswered asked told before after out out' log log' answer
-    → HasStopped answer ⊎ ((output : List ℕ) × Tells bytes entry answer output)
-told_answered asked told before after out out' log log' answer bytes entry t (unwritten e _ _) = inl (inr e)
-told_answered asked told before after out out' log log' answer bytes entry t (found f output is w) =
-    let P : Answer → Type 0 = λ a. Tells bytes entry a output in
+    (bytes : List ℕ) (run : Request) → IsTold asked told bytes run → IsAnswered asked told before after out out' log log' answer
+    → HasStopped answer ⊎ ((output : List ℕ) × Tells bytes run answer output)
+told_answered asked told before after out out' log log' answer bytes run t (unwritten e _ _) = inl (inr e)
+told_answered asked told before after out out' log log' answer bytes run t (found f output is w) =
+    let P : Answer → Type 0 = λ a. Tells bytes run a output in
     elim (kept_or out out' log log' f output answer w) [
-      | inl e ↦ inr (output, subst P (sym e) (told_found asked told before after f output bytes entry t is))
+      | inl e ↦ inr (output, subst P (sym e) (told_found asked told before after f output bytes run t is))
       | inr e ↦ inl (inl e)
     ]
 
-long_of : (bytes entry : List ℕ) (answer : Answer) (output : List ℕ) → FILE_LIMIT < length bytes → Tells bytes entry answer output → (answer ≡ TooLong 0) ⊎ HasFault answer
-long_of bytes entry answer output l (tells_long _ e) = inl e
-long_of bytes entry answer output l (tells_short s _) = absurd (omega arith)
-long_of bytes entry answer output l (tells_fault e) = inr (inl e)
-long_of bytes entry answer output l (tells_wanting e) = inr (inr (inr e))
+long_of : (bytes : List ℕ) (run : Request) (answer : Answer) (output : List ℕ) → FILE_LIMIT < length bytes → Tells bytes run answer output → (answer ≡ TooLong 0) ⊎ HasFault answer
+long_of bytes run answer output l (tells_long _ e) = inl e
+long_of bytes run answer output l (tells_short s _) = absurd (omega arith)
+long_of bytes run answer output l (tells_fault e) = inr (inl e)
+long_of bytes run answer output l (tells_wanting e) = inr (inr (inr e))
 
 pub too_long_told : (asked : Result Request UsageKind) (told : Told) (before after : ℕ) (out out' log log' : Held) (answer : Answer)
     → IsAnswered asked told before after out out' log log' answer
-    → (bytes entry : List ℕ) → IsTold asked told bytes entry → FILE_LIMIT < length bytes → (answer ≡ TooLong 0) ⊎ HasFault answer
-too_long_told asked told before after out out' log log' answer is bytes entry t l =
-    elim (told_answered asked told before after out out' log log' answer bytes entry t is) [
+    → (bytes : List ℕ) (run : Request) → IsTold asked told bytes run → FILE_LIMIT < length bytes → (answer ≡ TooLong 0) ⊎ HasFault answer
+too_long_told asked told before after out out' log log' answer is bytes run t l =
+    elim (told_answered asked told before after out out' log log' answer bytes run t is) [
       | inl s ↦ inr (inr s)
-      | inr h ↦ long_of bytes entry answer h.0 l h.1
+      | inr h ↦ long_of bytes run answer h.0 l h.1
     ]
 
 -- what a short file answers, by its outcome
-short_of : (bytes entry : List ℕ) (answer : Answer) (output : List ℕ) (x : Outcome) → length bytes ≤ FILE_LIMIT → outcome_of bytes entry ≡ x
-    → Tells bytes entry answer output → AnswersAs x entry answer output ⊎ HasFault answer
-short_of bytes entry answer output x s h (tells_long l _) = absurd (omega arith)
-short_of bytes entry answer output x s h (tells_short _ gives) =
-    let P : Outcome → Type 0 = λ y. AnswersAs y entry answer output in inl (subst P h gives)
-short_of bytes entry answer output x s h (tells_fault e) = inr (inl e)
-short_of bytes entry answer output x s h (tells_wanting e) = inr (inr (inr e))
+short_of : (bytes : List ℕ) (run : Request) (answer : Answer) (output : List ℕ) (x : Outcome) → length bytes ≤ FILE_LIMIT → outcome_of bytes run.entry ≡ x
+    → Tells bytes run answer output → AnswersAs x run answer output ⊎ HasFault answer
+short_of bytes run answer output x s h (tells_long l _) = absurd (omega arith)
+short_of bytes run answer output x s h (tells_short _ gives) =
+    let P : Outcome → Type 0 = λ y. AnswersAs y run answer output in inl (subst P h gives)
+short_of bytes run answer output x s h (tells_fault e) = inr (inl e)
+short_of bytes run answer output x s h (tells_wanting e) = inr (inr (inr e))
 
 short_told : (asked : Result Request UsageKind) (told : Told) (before after : ℕ) (out out' log log' : Held) (answer : Answer)
     → IsAnswered asked told before after out out' log log' answer
-    → (bytes entry : List ℕ) (x : Outcome) → IsTold asked told bytes entry → length bytes ≤ FILE_LIMIT → outcome_of bytes entry ≡ x
-    → ((output : List ℕ) × AnswersAs x entry answer output) ⊎ HasFault answer
-short_told asked told before after out out' log log' answer is bytes entry x t s h =
-    elim (told_answered asked told before after out out' log log' answer bytes entry t is) [
+    → (bytes : List ℕ) (run : Request) (x : Outcome) → IsTold asked told bytes run → length bytes ≤ FILE_LIMIT → outcome_of bytes run.entry ≡ x
+    → ((output : List ℕ) × AnswersAs x run answer output) ⊎ HasFault answer
+short_told asked told before after out out' log log' answer is bytes run x t s h =
+    elim (told_answered asked told before after out out' log log' answer bytes run t is) [
       | inl stopped ↦ inr (inr stopped)
-      | inr held ↦ elim (short_of bytes entry answer held.0 x s h held.1) [ inl gives ↦ inl (held.0, gives) | inr fault ↦ inr fault ]
+      | inr held ↦ elim (short_of bytes run answer held.0 x s h held.1) [ inl gives ↦ inl (held.0, gives) | inr fault ↦ inr fault ]
     ]
 
 pub refused_told : (asked : Result Request UsageKind) (told : Told) (before after : ℕ) (out out' log log' : Held) (answer : Answer)
     → IsAnswered asked told before after out out' log log' answer
-    → (bytes entry : List ℕ) (e : ElfError) → IsTold asked told bytes entry → length bytes ≤ FILE_LIMIT → outcome_of bytes entry ≡ refused e
-    → (answer ≡ ObjectRefused 0 (Elf e)) ⊎ HasFault answer
-refused_told asked told before after out out' log log' answer is bytes entry e t s h =
-    elim (short_told asked told before after out out' log log' answer is bytes entry (refused e) t s h) [ inl gives ↦ inl gives.1.is | inr fault ↦ inr fault ]
+    → (bytes : List ℕ) (run : Request) (why : ObjectWhy) → IsTold asked told bytes run → length bytes ≤ FILE_LIMIT → outcome_of bytes run.entry ≡ refused why
+    → (answer ≡ ObjectRefused 0 why) ⊎ HasFault answer
+refused_told asked told before after out out' log log' answer is bytes run why t s h =
+    elim (short_told asked told before after out out' log log' answer is bytes run (refused why) t s h) [ inl gives ↦ inl gives.1.is | inr fault ↦ inr fault ]
 
 pub missing_told : (asked : Result Request UsageKind) (told : Told) (before after : ℕ) (out out' log log' : Held) (answer : Answer)
     → IsAnswered asked told before after out out' log log' answer
-    → (bytes entry : List ℕ) → IsTold asked told bytes entry → length bytes ≤ FILE_LIMIT → outcome_of bytes entry ≡ missing
-    → (answer ≡ Missing entry) ⊎ HasFault answer
-missing_told asked told before after out out' log log' answer is bytes entry t s h =
-    elim (short_told asked told before after out out' log log' answer is bytes entry missing t s h) [ inl gives ↦ inl gives.1.is | inr fault ↦ inr fault ]
+    → (bytes : List ℕ) (run : Request) → IsTold asked told bytes run → length bytes ≤ FILE_LIMIT → outcome_of bytes run.entry ≡ missing
+    → (answer ≡ Missing run.entry) ⊎ HasFault answer
+missing_told asked told before after out out' log log' answer is bytes run t s h =
+    elim (short_told asked told before after out out' log log' answer is bytes run missing t s h) [ inl gives ↦ inl gives.1.is | inr fault ↦ inr fault ]
 
 pub ran_told : (asked : Result Request UsageKind) (told : Told) (before after : ℕ) (out out' log log' : Held) (answer : Answer)
     → IsAnswered asked told before after out out' log log' answer
-    → (bytes entry image : List ℕ) (pc : ℕ) → IsTold asked told bytes entry → length bytes ≤ FILE_LIMIT → outcome_of bytes entry ≡ starts image pc
-    → IsEndOf image pc answer ⊎ HasFault answer
-ran_told asked told before after out out' log log' answer is bytes entry image pc t s h =
-    short_told asked told before after out out' log log' answer is bytes entry (starts image pc) t s h
+    → (bytes image : List ℕ) (run : Request) (pc : ℕ) → IsTold asked told bytes run → length bytes ≤ FILE_LIMIT → outcome_of bytes run.entry ≡ starts image pc
+    → IsEndOf image pc run.fuel answer ⊎ HasFault answer
+ran_told asked told before after out out' log log' answer is bytes image run pc t s h =
+    short_told asked told before after out out' log log' answer is bytes run (starts image pc) t s h
+
+-- what a static run says of what was found, and of what out has gained
+static_found : (out out' : Held) (answer f : Answer) (output bytes wanted : List ℕ) (run : Request) (end : RunEnd)
+    → answer ≡ f → HoldsWhole out out' output → length bytes ≤ FILE_LIMIT → IsStaticRun bytes run end wanted → Tells bytes run f output
+    → ((answer ≡ answer_of end) × HoldsWhole out out' wanted) ⊎ HasFault answer
+static_found out out' answer f output bytes wanted run end e ho s static (tells_long l _) = absurd (omega arith)
+static_found out out' answer f output bytes wanted run end e ho s static (tells_short _ gives) =
+    let same = only_run bytes run end wanted f output static gives in
+    let P : List ℕ → Type 0 = λ text. HoldsWhole out out' text in
+    inl (e ∙ same.0, subst P same.1 ho)
+static_found out out' answer f output bytes wanted run end e ho s static (tells_fault fault) = inr (inl (e ∙ fault))
+static_found out out' answer f output bytes wanted run end e ho s static (tells_wanting w) = inr (inr (inr (e ∙ w)))
+
+pub by_names : (asked : Result Request UsageKind) (told : Told) (before after : ℕ) (out out' log log' : Held) (answer : Answer)
+    → IsAnswered asked told before after out out' log log' answer
+    → (bytes wanted : List ℕ) (run : Request) (end : RunEnd) → IsTold asked told bytes run → length bytes ≤ FILE_LIMIT → IsStaticRun bytes run end wanted
+    → ((answer ≡ answer_of end) × HoldsWhole out out' wanted) ⊎ HasFault answer
+by_names asked told before after out out' log log' answer (unwritten e _ _) bytes wanted run end t s static = inr (inr (inr e))
+by_names asked told before after out out' log log' answer (found f output is (whole e ho hl)) bytes wanted run end t s static =
+    static_found out out' answer f output bytes wanted run end e ho s static (told_found asked told before after f output bytes run t is)
+by_names asked told before after out out' log log' answer (found f output is (out_failed e _ _ _)) bytes wanted run end t s static = inr (inr (inl e))
+by_names asked told before after out out' log log' answer (found f output is (log_failed e _ _ _)) bytes wanted run end t s static = inr (inr (inl e))

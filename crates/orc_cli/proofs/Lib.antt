@@ -1,4 +1,8 @@
-pub mod Words32
-pub mod Blocks
-pub mod AllTaken
-pub mod Clauses
+mod AllTaken
+mod Clauses
+mod Digits
+mod OtherWords
+mod Unnamed
+mod Alone
+mod Entry
+mod Static

@@ -22,7 +22,7 @@ pub data IsFound (asked : Result Request UsageKind) (told : Told) (before after 
   in_words : (kind : UsageKind) → asked ≡ Err kind → answer ≡ Usage kind → output ≡ [] → IsFound asked told before after answer output
   in_reading : (run : Request) → asked ≡ Ok run → Rose before after → answer ≡ FileFault 0 → output ≡ [] → IsFound asked told before after answer output
   in_length : (run : Request) → asked ≡ Ok run → IsLongerThan FILE_LIMIT told run.file → answer ≡ TooLong 0 → output ≡ [] → IsFound asked told before after answer output
-  in_file : (run : Request) → asked ≡ Ok run → (bytes : List ℕ) → length bytes ≤ FILE_LIMIT → HasContent told run.file bytes → AnswersAs (outcome_of bytes run.entry) run.entry answer output → IsFound asked told before after answer output
+  in_file : (run : Request) → asked ≡ Ok run → (bytes : List ℕ) → length bytes ≤ FILE_LIMIT → HasContent told run.file bytes → AnswersAs (outcome_of bytes run.entry) run answer output → IsFound asked told before after answer output
   wanting : answer ≡ NoMemory → output ≡ [] → IsFound asked told before after answer output
 
 -- what a sink holds, where it tells that, and its count of faults

@@ -1,16 +1,15 @@
 -- When each answer comes: what the clauses of the top call say.
-use Rattle.std.specs.Prelude.{◌≡◌, ◌≢◌, ◌≤◌, ◌<◌, ℕ, ◌⊎◌, List, [], take, length, Option, Some, Result, Ok, Err}
+use Rattle.std.specs.Prelude.{◌≡◌, ◌≤◌, ℕ, ◌⊎◌, List, [], length, Option, Some, Result, Ok}
 use Rattle.std.specs.Io.KnownBytes.{Appends}
 use Rattle.orc_io.specs.declared.limits.TheConstants.{FILE_LIMIT}
 use Rattle.orc_io.specs.Contents.{HasContent, IsLongerThan}
 use Rattle.exec_run.specs.declared.ran.RunEnd.{RunEnd}
 use Rattle.orc_cli.specs.declared.words.UsageKind.{UsageKind}
 use Rattle.orc_cli.specs.declared.answer.ObjectWhy.{ObjectWhy}
-use Rattle.orc_cli.specs.declared.answer.ObjectWhy.TheVariants.{Elf}
 use Rattle.orc_cli.specs.declared.answer.Answer.{Answer}
 use Rattle.orc_cli.specs.declared.answer.Answer.TheVariants.{Exited, Usage, ReadFault, FileFault, WriteFault, ObjectRefused, TooLong, Missing, Trap, OutOfFuel, OutputFull, NoMemory}
 use Rattle.orc_cli.specs.EndLine.{end_line_of}
-use Rattle.orc_cli.specs.Outcomes.{Outcome, refused, missing, starts, outcome_of, Runs, EndsIn}
+use Rattle.orc_cli.specs.Outcomes.{refused, missing, starts, outcome_of, Runs, EndsIn}
 use Rattle.orc_cli.specs.Answered.{Told, AppendsPart, IsFound}
 use Rattle.orc_cli.specs.Words.{Request}
 
@@ -22,13 +21,12 @@ HasStopped answer = (answer ≡ WriteFault) ⊎ (answer ≡ NoMemory)
 abbrev pub HasFault : Answer → Type 0
 HasFault answer = (answer ≡ FileFault 0) ⊎ HasStopped answer
 
--- the words ask to run a file from the entry, and the files tell that it has these bytes
-pub record IsTold (asked : Result Request UsageKind) (told : Told) (bytes entry : List ℕ) : Type 0 where
-  pub file : List ℕ
-  pub asks : asked ≡ Ok (record { file = file; entry = entry })
+-- the words ask for a run, and the files tell that its file has these bytes
+pub record IsTold (asked : Result Request UsageKind) (told : Told) (bytes : List ℕ) (run : Request) : Type 0 where
+  pub asks : asked ≡ Ok run
   pub contents : List ℕ → Option (List ℕ)
   pub tells : told ≡ Some contents
-  pub has : contents file ≡ Some bytes
+  pub has : contents run.file ≡ Some bytes
 
 -- the words ask to run a file, and it is longer than 16 MiB where the files tell its bytes
 pub record IsLongFile (asked : Result Request UsageKind) (told : Told) : Type 0 where
@@ -36,40 +34,40 @@ pub record IsLongFile (asked : Result Request UsageKind) (told : Told) : Type 0 
   pub asks : asked ≡ Ok run
   pub longer : IsLongerThan FILE_LIMIT told run.file
 
--- the words ask to run a file from an entry, and the fact holds of some bytes of at most 16 MiB: those of the file,
--- where the files tell them
-pub record OfFile (asked : Result Request UsageKind) (told : Told) (Fact : List ℕ → List ℕ → Type 0) : Type 0 where
+-- the words ask for a run, and the fact holds of it and of some bytes of at most 16 MiB: those of its file, where the
+-- files tell them
+pub record OfFile (asked : Result Request UsageKind) (told : Told) (Fact : List ℕ → Request → Type 0) : Type 0 where
   pub run : Request
   pub asks : asked ≡ Ok run
   pub bytes : List ℕ
   pub short : length bytes ≤ FILE_LIMIT
   pub content : HasContent told run.file bytes
-  pub fact : Fact bytes run.entry
+  pub fact : Fact bytes run
 
 -- the bytes are refused as an object
-abbrev pub IsRefused : ObjectWhy → List ℕ → List ℕ → Type 0
-IsRefused (Elf e) bytes entry = outcome_of bytes entry ≡ refused e
+abbrev pub IsRefused : ObjectWhy → List ℕ → Request → Type 0
+IsRefused why bytes run = outcome_of bytes run.entry ≡ refused why
 
 -- the object has no symbol of the entry's name that is not local
-abbrev pub IsMissing : List ℕ → List ℕ → List ℕ → Type 0
-IsMissing name bytes entry = (name ≡ entry) × (outcome_of bytes entry ≡ missing)
+abbrev pub IsMissing : List ℕ → List ℕ → Request → Type 0
+IsMissing name bytes run = (name ≡ run.entry) × (outcome_of bytes run.entry ≡ missing)
 
--- the run of the image from the entry has this end and output
-pub record HasRun (end : RunEnd) (output bytes entry : List ℕ) : Type 0 where
+-- the run of the image from the entry, with the fuel that is asked for, has this end and output
+pub record HasRun (end : RunEnd) (output bytes : List ℕ) (run : Request) : Type 0 where
   pub image : List ℕ
   pub pc : ℕ
-  pub linked : outcome_of bytes entry ≡ starts image pc
-  pub runs : Runs image pc end output
+  pub linked : outcome_of bytes run.entry ≡ starts image pc
+  pub runs : Runs image pc run.fuel end output
 
 -- the run has this end, and its output is what out gained
-pub record HasRunOn (out out' : Option (List ℕ)) (end : RunEnd) (bytes entry : List ℕ) : Type 0 where
+pub record HasRunOn (out out' : Option (List ℕ)) (end : RunEnd) (bytes : List ℕ) (run : Request) : Type 0 where
   pub output : List ℕ
-  pub ran : HasRun end output bytes entry
+  pub ran : HasRun end output bytes run
   pub written : Appends out out' output
 
--- a run of the image from the address ends so
-abbrev pub IsEndOf : List ℕ → ℕ → Answer → Type 0
-IsEndOf image pc answer = (output : List ℕ) × EndsIn image pc answer output
+-- a run of the image from the address, with this fuel, ends so
+abbrev pub IsEndOf : List ℕ → ℕ → ℕ → Answer → Type 0
+IsEndOf image pc fuel answer = (output : List ℕ) × EndsIn image pc fuel answer output
 
 -- nothing ran, and no write failed
 abbrev pub IsQuiet : Answer → Type 0

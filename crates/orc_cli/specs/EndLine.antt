@@ -5,12 +5,15 @@ use Rattle.elf_read.specs.declared.error.ElfError.{ElfError}
 use Rattle.elf_read.specs.declared.error.ElfError.TheVariants.{Short, BadMagic, NotClass64, NotLittle, NotRelocatable, NotRiscv, BadFlags, BadTable, BadSymbol, BadLink, Overlap, NotBuilt, NoMemory as ElfNoMemory}
 use Rattle.elf_read.specs.declared.error.NotBuiltKind.{NotBuiltKind}
 use Rattle.elf_read.specs.declared.error.NotBuiltKind.TheVariants.{Group, Rel, Tls, Compressed, SectionKind, Xindex, Bind, Form}
+use Rattle.orc_ids.specs.declared.place.Place.{Place}
+use Rattle.link_graph.specs.declared.error.GraphError.{GraphError}
+use Rattle.link_graph.specs.declared.error.GraphError.TheVariants.{UnknownReloc, RelocOutside, TlsOrIfunc, BadPair, NeedsAlign, TooMany, NoMemory as GraphNoMemory}
 use Rattle.rv_hart.specs.declared.step.Cause.{Cause}
 use Rattle.rv_hart.specs.declared.step.Cause.TheVariants.{Fetch, Illegal, Misaligned, Load, Store, Break}
 use Rattle.orc_cli.specs.declared.words.UsageKind.{UsageKind}
 use Rattle.orc_cli.specs.declared.words.UsageKind.TheVariants.{NoCommand, UnknownCommand, BadWords, BadNumber}
 use Rattle.orc_cli.specs.declared.answer.ObjectWhy.{ObjectWhy}
-use Rattle.orc_cli.specs.declared.answer.ObjectWhy.TheVariants.{Elf}
+use Rattle.orc_cli.specs.declared.answer.ObjectWhy.TheVariants.{Elf, Graph}
 use Rattle.orc_cli.specs.declared.answer.Answer.{Answer}
 use Rattle.orc_cli.specs.declared.answer.Answer.TheVariants.{Exited, Usage, ReadFault, FileFault, WriteFault, ObjectRefused, TooLong, Missing, Trap, OutOfFuel, OutputFull, NoMemory}
 
@@ -57,8 +60,22 @@ elf_text (Overlap section) = codes "e11 " ++ decimal section
 elf_text (NotBuilt kind) = codes "e12 " ++ kind_text kind
 elf_text ElfNoMemory = codes "e13"
 
+-- a block, and an offset in it
+abbrev pub place_text : Place → List ℕ
+place_text place = decimal place.block ++ codes " " ++ decimal place.offset
+
+abbrev pub graph_text : GraphError → List ℕ
+graph_text (UnknownReloc kind place) = codes "g1 " ++ decimal kind ++ codes " " ++ place_text place
+graph_text (RelocOutside place) = codes "g2 " ++ place_text place
+graph_text (TlsOrIfunc symbol) = codes "g3 " ++ decimal symbol
+graph_text (BadPair place) = codes "g4 " ++ place_text place
+graph_text (NeedsAlign place) = codes "g5 " ++ place_text place
+graph_text TooMany = codes "g6"
+graph_text GraphNoMemory = codes "g7"
+
 abbrev pub why_text : ObjectWhy → List ℕ
 why_text (Elf error) = elf_text error
+why_text (Graph error) = graph_text error
 
 abbrev pub answer_text : Answer → List ℕ
 answer_text (Exited code) = codes "exited " ++ decimal code

@@ -1,11 +1,10 @@
 pub mod Words
 pub mod Answers
 pub mod EndLine
-pub mod Image
-pub mod Edges
-pub mod Relocations
-pub mod Values
-pub mod Link
+pub mod Unit
+pub mod Form
 pub mod Outcomes
+pub mod Lone
+pub mod ByNames
 pub mod Answered
 pub mod Causes

@@ -1,5 +1,6 @@
 use crate::words::UsageKind;
 use elf_read::ElfError;
+use link_graph::GraphError;
 use orc_ids::Bytes;
 use rv_hart::Cause;
 
@@ -39,6 +40,8 @@ pub enum Answer {
 pub enum ObjectWhy {
     /// Its bytes are no object that can be read.
     Elf(ElfError),
+    /// It has no link graph.
+    Graph(GraphError),
 }
 
 impl Answer {

@@ -1,36 +1,42 @@
 ghost use Rattle.std.specs.Prelude.{◌≡◌, ◌≤◌, map, Ok};
-ghost use Rattle.orc_cli.specs.Words.{asked_by};
+ghost use Rattle.orc_cli.specs.Words.{asked_by, request};
 ghost use Rattle.orc_cli.specs.Answered.{IsFound};
 ghost use Rattle.orc_cli.specs.Outcomes.{IsSilent};
 
 use crate::answer::Answer;
 use crate::running::{Found, run_object};
-use crate::words::read_command;
+use crate::words::{RunWords, read_command};
 use orc_ids::Bytes;
 use orc_io::{FileError, Files};
+use orc_names::NameHasher;
 use std::alloc::Global;
 use std::rc::RcStr;
 
 /// What the words answer, before anything is written.
-pub fn find_answer<F: Files>(alloc: Global, words: &[RcStr], files: &mut F) -> Found
+pub fn find_answer<F: Files>(
+    alloc: Global,
+    hasher: NameHasher,
+    words: &[RcStr],
+    files: &mut F,
+) -> Found
     ensures found { IsFound (asked_by words.now) (F.holds files.old) (F.faults files.old) (F.faults files.new) result.answer result.output }
     ensures counted { F.faults files.old ≤ F.faults files.new }
     ensures same { F.holds files.new ≡ F.holds files.old }
 {
     match read_command(words) {
-        Ok(run) => run_file(alloc, run.file, run.entry, files),
+        Ok(run) => run_file(alloc, hasher, &run, files),
         Err(kind) => silent(alloc, Answer::Usage(kind)),
     }
 }
 
 /// What a run of a file answers.
-fn run_file<F: Files>(alloc: Global, file: &str, entry: &str, files: &mut F) -> Found
-    ensures found { IsFound (Ok (record { file = file.now; entry = entry.now })) (F.holds files.old) (F.faults files.old) (F.faults files.new) result.answer result.output }
+fn run_file<F: Files>(alloc: Global, hasher: NameHasher, run: &RunWords<'_>, files: &mut F) -> Found
+    ensures found { IsFound (Ok (request run.now)) (F.holds files.old) (F.faults files.old) (F.faults files.new) result.answer result.output }
     ensures counted { F.faults files.old ≤ F.faults files.new }
     ensures same { F.holds files.new ≡ F.holds files.old }
 {
-    match files.read_file(alloc, file) {
-        Ok(bytes) => match run_object(alloc, bytes.as_slice(), entry) {
+    match files.read_file(alloc, run.file) {
+        Ok(bytes) => match run_object(alloc, hasher, bytes.as_slice(), run) {
             Ok(found) => found,
             Err(_) => silent(alloc, Answer::NoMemory),
         },

@@ -3,23 +3,24 @@
 //! `orc` reads the object that the words name, links it at the start of code memory, runs it from its
 //! entry, writes the run's output and then the end line, and answers. It is generic over the outside.
 //! Its clauses say when each answer comes, and what the sinks have then gained, by the definitions of
-//! `specs/`: `Words` (command lines), `Image`, `Edges`, `Relocations`, `Values` and `Link` (layout and
-//! image of one object, by the RISC-V ELF psABI), `Outcomes` (what a file answers), `Answered` (what is
+//! `specs/`: `Words` (command lines), `Unit` and `Form` (one object as a unit by itself, in the words of
+//! `link_model`, and which objects are in the form), `Outcomes` (what a file answers), `Answered` (what is
 //! found, and then written), `Causes` (what the clauses say), `Answers` and `EndLine`.
 //!
 //! All that waits for nobody stands in functions without the runtime. Read `orc_io` for the outside,
-//! `elf_read` for objects and `exec_run` for runs; `orc` is the program.
+//! `elf_read` for objects, `link_model` for linking and `exec_run` for runs; `orc` is the program.
 #![tactic(auto)]
 
 mod answer;
 mod finding;
-mod link;
+mod form;
 mod notes;
 mod running;
 #[cfg(test)]
 mod tests;
 mod texts;
 mod top;
+mod unit;
 mod words;
 mod writing;
 
@@ -27,4 +28,4 @@ pub use answer::{Answer, ObjectWhy};
 pub use notes::{Noted, Notes};
 pub use texts::end_line;
 pub use top::{Ended, JOURNAL_LIMIT, orc, orc_sized};
-pub use words::{RunWords, UsageKind, read_command};
+pub use words::{FUEL_LIMIT, RunWords, UsageKind, read_command};

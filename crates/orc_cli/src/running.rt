@@ -1,16 +1,16 @@
 ghost use Rattle.std.specs.Prelude.{◌≡◌, ◌<◌, length, IfOk};
+ghost use Rattle.orc_cli.specs.Words.{request};
 ghost use Rattle.orc_cli.specs.Outcomes.{Runs, AnswersAs, IsSilent, outcome_of, entered, answer_of};
 
 use crate::answer::{Answer, ObjectWhy};
-use crate::link::{LinkError, Linked, link};
+use crate::unit::{LinkError, Linked, link};
+use crate::words::RunWords;
 use code_memory::Space;
-use elf_read::{ElfError, NotBuiltKind, read_object};
+use elf_read::{ElfError, read_object};
 use exec_run::{Ran, RunEnd, run};
 use orc_ids::{Bytes, Shape, UnitId};
+use orc_names::NameHasher;
 use std::alloc::{AllocError, Global};
-
-/// How many instructions a run may do.
-pub const FUEL: u64 = 1_000_000;
 
 /// What was found, before anything is written: the answer, and the output of a run.
 #[derive(Drop)]
@@ -20,51 +20,54 @@ pub struct Found {
 }
 
 /// What a run of a file answers: its object is read, linked and run from the entry.
-pub fn run_object(alloc: Global, bytes: &[u8], entry: &str) -> Result<Found, AllocError>
-    ensures { IfOk result (λ f. AnswersAs (outcome_of bytes.now entry.now) entry.now f.answer f.output) }
+pub fn run_object(
+    alloc: Global,
+    hasher: NameHasher,
+    bytes: &[u8],
+    words: &RunWords<'_>,
+) -> Result<Found, AllocError>
+    ensures { IfOk result (λ f. AnswersAs (outcome_of bytes.now words.now.entry.now) (request words.now) f.answer f.output) }
 {
     let object = match read_object(alloc, bytes) {
         Ok(object) => object,
         Err(ElfError::NoMemory) => return Err(AllocError),
-        Err(why) => return Ok(refused(alloc, why)),
+        Err(why) => return Ok(refused(alloc, ObjectWhy::Elf(why))),
     };
-    match link(alloc, &object, entry) {
-        Ok(linked) => run_linked(alloc, linked, entry),
-        Err(LinkError::Form) => Ok(refused(alloc, ElfError::NotBuilt(NotBuiltKind::Form))),
+    match link(alloc, hasher, &object, words.entry) {
+        Ok(linked) => run_linked(alloc, linked, words),
+        Err(LinkError::Refused(why)) => Ok(refused(alloc, why)),
         Err(LinkError::NoMemory) => Err(AllocError),
     }
 }
 
 /// Runs a linked object from its entry.
-fn run_linked(alloc: Global, linked: Linked, entry: &str) -> Result<Found, AllocError>
+fn run_linked(alloc: Global, linked: Linked, words: &RunWords<'_>) -> Result<Found, AllocError>
     requires { 0 < length linked.image }
-    ensures { IfOk result (λ f. AnswersAs (entered linked.image linked.entry) entry.now f.answer f.output) }
+    ensures { IfOk result (λ f. AnswersAs (entered linked.image linked.entry) (request words.now) f.answer f.output) }
 {
-    let Linked {
-        image,
-        entry: start,
-    } = linked;
-    match start {
+    let Linked { image, entry } = linked;
+    match entry {
         Some(pc) => {
-            let Ran { end, output } = run_image(alloc, image, pc)?;
+            let Ran { end, output } = run_image(alloc, image, pc, words.fuel)?;
             Ok(Found {
                 answer: answer_of(end),
                 output,
             })
         }
         None => Ok(Found {
-            answer: Answer::Missing(Bytes::copy_of(alloc, entry.as_bytes())?),
+            answer: Answer::Missing(Bytes::copy_of(alloc, words.entry.as_bytes())?),
             output: Bytes::new(alloc),
         }),
     }
 }
 
 /// Runs an image, placed at the start of code memory, without arguments.
-fn run_image(alloc: Global, image: Bytes, pc: u64) -> Result<Ran, AllocError>
+fn run_image(alloc: Global, image: Bytes, pc: u64, fuel: u64) -> Result<Ran, AllocError>
     requires { 0 < length image }
-    ensures { IfOk result (λ ran. Runs image pc ran.end ran.output) }
+    ensures { IfOk result (λ ran. Runs image pc fuel ran.end ran.output) }
 {
     let unit = UnitId(0);
+    // The start of code memory is aligned for every block.
     let shape = Shape {
         need: image.len() as u64,
         align: 16,
@@ -76,7 +79,7 @@ fn run_image(alloc: Global, image: Bytes, pc: u64) -> Result<Ran, AllocError>
     }
     space.deposit(unit, image);
     let memory = space.image()?;
-    run(alloc, &memory, pc, &[], FUEL)
+    run(alloc, &memory, pc, &[], fuel)
 }
 
 /// The answer that a run's end is.
@@ -92,11 +95,11 @@ fn answer_of(end: RunEnd) -> Answer
 }
 
 /// The answer that the object of file 0 is refused.
-fn refused(alloc: Global, why: ElfError) -> Found
-    ensures { IsSilent (Answer.ObjectRefused 0 (ObjectWhy.Elf why)) result.answer result.output }
+fn refused(alloc: Global, why: ObjectWhy) -> Found
+    ensures { IsSilent (Answer.ObjectRefused 0 why) result.answer result.output }
 {
     Found {
-        answer: Answer::ObjectRefused(0, ObjectWhy::Elf(why)),
+        answer: Answer::ObjectRefused(0, why),
         output: Bytes::new(alloc),
     }
 }

@@ -1,13 +1,16 @@
 ghost use Rattle.std.specs.Prelude.{◌≡◌, All, None, IfOk};
 
+mod common;
 mod hello;
 
 use super::*;
+use common::COMMON;
 use hello::HELLO;
 use orc_ids::Bytes;
 use orc_io::{Files, MemFiles, MemSink, Note, OpenGate, Sink, SureFiles, SureSink, SureSource};
 use std::alloc::{AllocError, Global};
 use std::process::Abort;
+use std::random::RandomSource;
 use std::rc::RcStr;
 use std::sync::Wait;
 use std::test::Fail;
@@ -33,7 +36,7 @@ fn two_notes(alloc: Global) -> Result<Vec<Note>, AllocError>
     Ok(notes)
 }
 
-fn call<R: Threads + Wait + AllocGlobal, F: Files, O: Sink, L: Sink>(
+fn call<R: Threads + Wait + RandomSource + AllocGlobal, F: Files, O: Sink, L: Sink>(
     rt: &R,
     words: &[&str],
     files: &mut F,
@@ -71,7 +74,7 @@ fn patched(alloc: Global, patches: &[(u8, u32)]) -> Result<Bytes, AllocError> {
 }
 
 /// Runs a patched copy of `hello.o` over an outside that never fails.
-fn expect<R: Threads + Wait + Abort + AllocGlobal>(
+fn expect<R: Threads + Wait + RandomSource + Abort + AllocGlobal>(
     rt: &R,
     patches: &[(u8, u32)],
     status: u8,
@@ -91,7 +94,7 @@ fn expect<R: Threads + Wait + Abort + AllocGlobal>(
 }
 
 /// Calls over a file `hello.o`, with sinks that have some room and none that fails by itself.
-fn expect_words<R: Threads + Wait + Abort + AllocGlobal>(
+fn expect_words<R: Threads + Wait + RandomSource + Abort + AllocGlobal>(
     rt: &R,
     words: &[&str],
     status: u8,
@@ -177,7 +180,7 @@ fn patched_copies_end_as_their_words_say(rt: HostRuntime) -> Result<(), Fail> {
     Ok(())
 }
 
-const CALLS: [(&[&str], u8, &[u8]); 10] = [
+const CALLS: [(&[&str], u8, &[u8]); 25] = [
     (
         &["orc", "run", "hello.o", "--entry", "main"],
         0,
@@ -205,6 +208,83 @@ const CALLS: [(&[&str], u8, &[u8]); 10] = [
         100,
         b"end usage bad words\n",
     ),
+    // hello.o does nine instructions
+    (
+        &["orc", "run", "hello.o", "--fuel", "9"],
+        0,
+        b"end exited 0\n",
+    ),
+    (
+        &["orc", "run", "hello.o", "--fuel", "8", "--entry", "main"],
+        111,
+        b"end out of fuel\n",
+    ),
+    (
+        &["orc", "run", "hello.o", "--entry", "main", "--fuel", "0"],
+        111,
+        b"end out of fuel\n",
+    ),
+    (
+        &["orc", "run", "hello.o", "--fuel", "1099511627776"],
+        0,
+        b"end exited 0\n",
+    ),
+    (
+        &["orc", "run", "hello.o", "--fuel", "1099511627777"],
+        100,
+        b"end usage bad number\n",
+    ),
+    (
+        &["orc", "run", "hello.o", "--fuel", "18446744073709551625"],
+        100,
+        b"end usage bad number\n",
+    ),
+    (
+        &["orc", "run", "hello.o", "--fuel", "08"],
+        100,
+        b"end usage bad number\n",
+    ),
+    (
+        &["orc", "run", "hello.o", "--fuel", "+9"],
+        100,
+        b"end usage bad number\n",
+    ),
+    (
+        &["orc", "run", "hello.o", "--fuel", "9x"],
+        100,
+        b"end usage bad number\n",
+    ),
+    (
+        &["orc", "run", "hello.o", "--fuel", ""],
+        100,
+        b"end usage bad number\n",
+    ),
+    (
+        &["orc", "run", "hello.o", "--fuel", "-9"],
+        100,
+        b"end usage bad words\n",
+    ),
+    // the words are judged before the number
+    (
+        &["orc", "run", "hello.o", "--fuel", "08", "--entry", ""],
+        100,
+        b"end usage bad words\n",
+    ),
+    (
+        &["orc", "run", "hello.o", "--fuel", "9", "--fuel", "9"],
+        100,
+        b"end usage bad words\n",
+    ),
+    (
+        &["orc", "run", "hello.o", "--fuel"],
+        100,
+        b"end usage bad words\n",
+    ),
+    (
+        &["orc", "run", "--fuel", "9", "hello.o"],
+        100,
+        b"end usage bad words\n",
+    ),
 ];
 
 #[test]
@@ -216,7 +296,22 @@ fn words_and_files_have_their_answers(rt: HostRuntime) -> Result<(), Fail> {
 }
 
 #[test]
-fn files_that_are_not_linked_are_refused(rt: HostRuntime) -> Result<(), Fail> {
+fn fuel_stops_a_run_with_its_output(rt: HostRuntime) -> Result<(), Fail> {
+    let alloc = rt.alloc();
+    let mut files = SureFiles::new(alloc);
+    files.put(alloc, "hello.o", Bytes::copy_of(alloc, HELLO.as_slice())?)?;
+    let mut out = SureSink::new(alloc);
+    let mut log = SureSink::new(alloc);
+    let words = ["orc", "run", "hello.o", "--fuel", "8"];
+    let ended = call(&rt, &words, &mut files, &mut out, &mut log)?;
+    assert_eq!(rt; ended.status, 111);
+    assert_eq!(rt; out.bytes(), Some(b"hello\n".as_slice()));
+    assert_eq!(rt; log.bytes(), Some(b"end out of fuel\n".as_slice()));
+    Ok(())
+}
+
+#[test]
+fn files_of_some_lengths_are_refused(rt: HostRuntime) -> Result<(), Fail> {
     let alloc = rt.alloc();
     let mut files = SureFiles::new(alloc);
     for (name, count) in [
@@ -224,24 +319,88 @@ fn files_that_are_not_linked_are_refused(rt: HostRuntime) -> Result<(), Fail> {
         ("15", 15),
         ("63", 63),
         ("64", 64),
+        ("400", 400),
         ("long", 16_777_217),
     ] {
         let mut bytes = HELLO.to_vec(alloc)?;
         bytes.resize(count, 0)?;
         files.put(alloc, name, Bytes::from_vec(bytes))?;
     }
-    // a relocation of another type, at the place of the first one's
-    let mut other = HELLO;
-    other[120] = 18;
-    files.put(alloc, "other", Bytes::copy_of(alloc, &other)?)?;
     let mut out = SureSink::new(alloc);
     let mut log = SureSink::new(alloc);
-    for name in ["0", "15", "63", "64", "other", "long"] {
+    for name in ["0", "15", "63", "64", "400", "long"] {
         let _ = call(&rt, &["orc", "run", name], &mut files, &mut out, &mut log)?;
     }
     let lines =
-        b"end object refused 0 e1 0\nend object refused 0 e1 15\nend object refused 0 e1 63\nend object refused 0 e1 328\nend object refused 0 e12 form\nend too long 0\n";
+        b"end object refused 0 e1 0\nend object refused 0 e1 15\nend object refused 0 e1 63\nend object refused 0 e1 328\nend object refused 0 e1 400\nend too long 0\n";
     assert_eq!(rt; log.bytes(), Some(lines.as_slice()));
+    Ok(())
+}
+
+/// The bytes of `hello.o` with some changed.
+fn changed(alloc: Global, changes: &[(usize, u8)]) -> Result<Bytes, AllocError> {
+    let mut bytes = HELLO.to_vec(alloc)?;
+    for &(at, value) in changes {
+        if at < bytes.len() {
+            bytes[at] = value;
+        }
+    }
+    Ok(Bytes::from_vec(bytes))
+}
+
+/// Bytes of `hello.o` to change, and the end line.
+type Change = (&'static [(usize, u8)], &'static [u8]);
+
+const CHANGES: [Change; 14] = [
+    // a relocation of type 60, one that passes its section's end, and one whose label has no upper part
+    (&[(120, 0x3C)], b"end object refused 0 g1 60 0 4\n"),
+    (&[(112, 34)], b"end object refused 0 g2 0 34\n"),
+    (&[(148, 2)], b"end object refused 0 g4 0 8\n"),
+    (&[(120, 18)], b"end object refused 0 g4 0 8\n"),
+    // an ALIGN whose padding would end past a multiple of 4
+    (&[(120, 43), (128, 3)], b"end object refused 0 g5 0 4\n"),
+    // a symbol for thread-local storage
+    (&[(212, 6)], b"end object refused 0 g3 2\n"),
+    // a refusal of the bytes comes before one of the graph
+    (&[(124, 9), (212, 6)], b"end object refused 0 e10 3\n"),
+    // main is weak, hidden, undefined; or of a section that is passed over
+    (&[(236, 0x20)], b"end object refused 0 e12 form\n"),
+    (&[(237, 2)], b"end object refused 0 e12 form\n"),
+    (&[(238, 0)], b"end object refused 0 e12 form\n"),
+    (&[(238, 5)], b"end object refused 0 e12 form\n"),
+    // a cell of the global offset table, and a value that is out of range by its addend
+    (&[(120, 20)], b"end object refused 0 e12 form\n"),
+    (&[(131, 0x80)], b"end object refused 0 e12 form\n"),
+    // main is at the absolute address 8
+    (&[(238, 0xF1), (239, 0xFF), (240, 8)], b"end trap 8 fetch\n"),
+];
+
+#[test]
+fn changed_copies_have_their_answers(rt: HostRuntime) -> Result<(), Fail> {
+    let alloc = rt.alloc();
+    for (changes, line) in CHANGES {
+        let mut files = SureFiles::new(alloc);
+        files.put(alloc, "p.o", changed(alloc, changes)?)?;
+        let mut out = SureSink::new(alloc);
+        let mut log = SureSink::new(alloc);
+        let _ = call(&rt, &["orc", "run", "p.o"], &mut files, &mut out, &mut log)?;
+        assert_eq!(rt; log.bytes(), Some(line));
+    }
+    Ok(())
+}
+
+#[test]
+fn what_assemblers_add_changes_nothing(rt: HostRuntime) -> Result<(), Fail> {
+    let alloc = rt.alloc();
+    let mut files = SureFiles::new(alloc);
+    files.put(alloc, "c.o", Bytes::copy_of(alloc, COMMON.as_slice())?)?;
+    let mut out = SureSink::new(alloc);
+    let mut log = SureSink::new(alloc);
+    let words = ["orc", "run", "c.o", "--fuel", "9"];
+    let ended = call(&rt, &words, &mut files, &mut out, &mut log)?;
+    assert_eq!(rt; ended.status, 0);
+    assert_eq!(rt; out.bytes(), Some(b"hello\n".as_slice()));
+    assert_eq!(rt; log.bytes(), Some(b"end exited 0\n".as_slice()));
     Ok(())
 }
 

@@ -1,11 +1,12 @@
 ghost use Rattle.std.specs.Prelude.{◌≡◌, ◌++◌, IfOk, OnOk};
 ghost use Rattle.std.specs.Fmt.{decimal};
-ghost use Rattle.orc_cli.specs.EndLine.{hex, usage_text, cause_text, kind_text, elf_text, why_text, answer_text, end_line_of};
+ghost use Rattle.orc_cli.specs.EndLine.{hex, usage_text, cause_text, kind_text, elf_text, place_text, graph_text, why_text, answer_text, end_line_of};
 
 use crate::answer::{Answer, ObjectWhy};
 use crate::words::UsageKind;
 use elf_read::{ElfError, NotBuiltKind};
-use orc_ids::Bytes;
+use link_graph::GraphError;
+use orc_ids::{Bytes, Place};
 use rv_hart::Cause;
 use std::alloc::{AllocError, Global};
 
@@ -71,7 +72,33 @@ fn put_why(out: &mut Vec<u8>, why: &ObjectWhy) -> Result<(), AllocError>
 {
     match why {
         ObjectWhy::Elf(error) => put_elf_error(out, error),
+        ObjectWhy::Graph(error) => put_graph_error(out, error),
     }
+}
+
+fn put_graph_error(out: &mut Vec<u8>, error: &GraphError) -> Result<(), AllocError>
+    ensures { OnOk result (out.new.items ≡ out.old.items ++ graph_text error.now) }
+{
+    match error {
+        GraphError::UnknownReloc(kind, place) => {
+            put_numbered(out, b"g1 ", u64::from(*kind))?;
+            put_placed(out, b" ", *place)
+        }
+        GraphError::RelocOutside(place) => put_placed(out, b"g2 ", *place),
+        GraphError::TlsOrIfunc(symbol) => put_numbered(out, b"g3 ", u64::from(*symbol)),
+        GraphError::BadPair(place) => put_placed(out, b"g4 ", *place),
+        GraphError::NeedsAlign(place) => put_placed(out, b"g5 ", *place),
+        GraphError::TooMany => put(out, b"g6"),
+        GraphError::NoMemory => put(out, b"g7"),
+    }
+}
+
+/// A text, a block's number and an offset in it.
+fn put_placed(out: &mut Vec<u8>, text: &[u8], place: Place) -> Result<(), AllocError>
+    ensures { OnOk result (out.new.items ≡ out.old.items ++ (text.now ++ place_text place)) }
+{
+    put_numbered(out, text, u64::from(place.block))?;
+    put_numbered(out, b" ", place.offset)
 }
 
 fn put_elf_error(out: &mut Vec<u8>, error: &ElfError) -> Result<(), AllocError>

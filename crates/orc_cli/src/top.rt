@@ -1,14 +1,14 @@
 ghost use Rattle.std.specs.Prelude.{◌≡◌, ◌≢◌, ◌≤◌, ◌<◌, ◌⊎◌, ℕ, List, [], map, take, length, All, None, Err, IsOk};
 ghost use Rattle.std.specs.Io.KnownBytes.{Appends};
 ghost use Rattle.orc_io.specs.Causes.{Rose};
-ghost use Rattle.elf_read.specs.declared.error.ElfError.{ElfError};
 ghost use Rattle.exec_run.specs.declared.ran.RunEnd.{RunEnd};
 ghost use Rattle.orc_cli.specs.declared.words.UsageKind.{UsageKind};
 ghost use Rattle.orc_cli.specs.declared.answer.ObjectWhy.{ObjectWhy};
 ghost use Rattle.orc_cli.specs.Answers.{status_of};
 ghost use Rattle.orc_cli.specs.EndLine.{end_line_of};
-ghost use Rattle.orc_cli.specs.Words.{asked_by};
+ghost use Rattle.orc_cli.specs.Words.{Request, asked_by};
 ghost use Rattle.orc_cli.specs.Outcomes.{refused, missing, starts, outcome_of, answer_of};
+ghost use Rattle.orc_cli.specs.ByNames.{IsStaticRun};
 ghost use Rattle.orc_cli.specs.Answered.{IsAnswered, held_by};
 ghost use Rattle.orc_cli.specs.Causes.{HasStopped, HasFault, IsTold, IsLongFile, OfFile, IsRefused, IsMissing, HasRunOn, IsEndOf, IsQuiet, IsCut, IsWanting};
 
@@ -17,10 +17,12 @@ use crate::finding::find_answer;
 use crate::notes::{Noted, Notes};
 use crate::words::UsageKind;
 use crate::writing::write_found;
-use elf_read::ElfError;
 use exec_run::RunEnd;
 use orc_io::{FILE_LIMIT, Files, Gate, Notify, Sink, Source};
+use orc_names::NameHasher;
 use std::alloc::Global;
+use std::collections::hash_map::RandomState;
+use std::random::RandomSource;
 use std::rc::RcStr;
 use std::sync::Wait;
 use std::thread::Threads;
@@ -41,8 +43,8 @@ pub struct Ended<N: Notify> {
 /// Does what the words ask: reads the file, links its object at the start of code memory, runs it from
 /// the entry, writes the run's output on `out` and the end line on `log`, and answers.
 ///
-/// Word 0 is the program's name, word 1 the command. The source, the gate and the notifiers are for
-/// commands that are not built yet.
+/// Word 0 is the program's name, word 1 the command. The runtime gives the seed by which names are
+/// hashed. The source, the gate and the notifiers are for commands that are not built yet.
 pub fn orc<
     S: Source,
     F: Files,
@@ -50,7 +52,7 @@ pub fn orc<
     L: Sink,
     G: Gate + Sync,
     N: Notify + Send,
-    R: Threads + Wait,
+    R: Threads + Wait + RandomSource,
 >(
     rt: &R,
     alloc: Global,
@@ -88,22 +90,22 @@ pub fn orc<
     ensures files_same { F.holds files.new ≡ F.holds files.old }
 
     // Where the files tell the bytes of the file, these decide the answer.
-    ensures too_long_told { (bytes entry : List ℕ)
-        → IsTold (asked_by words.now) (F.holds files.old) bytes entry
+    ensures too_long_told { (bytes : List ℕ) (run : Request)
+        → IsTold (asked_by words.now) (F.holds files.old) bytes run
         → FILE_LIMIT < length bytes
         → (result.answer ≡ Answer.TooLong 0) ⊎ HasFault result.answer }
-    ensures refused_told { (bytes entry : List ℕ) (e : ElfError)
-        → IsTold (asked_by words.now) (F.holds files.old) bytes entry
-        → length bytes ≤ FILE_LIMIT → outcome_of bytes entry ≡ refused e
-        → (result.answer ≡ Answer.ObjectRefused 0 (ObjectWhy.Elf e)) ⊎ HasFault result.answer }
-    ensures missing_told { (bytes entry : List ℕ)
-        → IsTold (asked_by words.now) (F.holds files.old) bytes entry
-        → length bytes ≤ FILE_LIMIT → outcome_of bytes entry ≡ missing
-        → (result.answer ≡ Answer.Missing entry) ⊎ HasFault result.answer }
-    ensures ran_told { (bytes entry image : List ℕ) (pc : ℕ)
-        → IsTold (asked_by words.now) (F.holds files.old) bytes entry
-        → length bytes ≤ FILE_LIMIT → outcome_of bytes entry ≡ starts image pc
-        → IsEndOf image pc result.answer ⊎ HasFault result.answer }
+    ensures refused_told { (bytes : List ℕ) (run : Request) (why : ObjectWhy)
+        → IsTold (asked_by words.now) (F.holds files.old) bytes run
+        → length bytes ≤ FILE_LIMIT → outcome_of bytes run.entry ≡ refused why
+        → (result.answer ≡ Answer.ObjectRefused 0 why) ⊎ HasFault result.answer }
+    ensures missing_told { (bytes : List ℕ) (run : Request)
+        → IsTold (asked_by words.now) (F.holds files.old) bytes run
+        → length bytes ≤ FILE_LIMIT → outcome_of bytes run.entry ≡ missing
+        → (result.answer ≡ Answer.Missing run.entry) ⊎ HasFault result.answer }
+    ensures ran_told { (bytes image : List ℕ) (run : Request) (pc : ℕ)
+        → IsTold (asked_by words.now) (F.holds files.old) bytes run
+        → length bytes ≤ FILE_LIMIT → outcome_of bytes run.entry ≡ starts image pc
+        → IsEndOf image pc run.fuel result.answer ⊎ HasFault result.answer }
 
     // Each answer on a file comes only where the bytes of the file say so.
     ensures too_long_only { (k : ℕ) → result.answer ≡ Answer.TooLong k
@@ -117,6 +119,13 @@ pub fn orc<
     ensures ran_only { (end : RunEnd) → result.answer ≡ answer_of end
         → OfFile (asked_by words.now) (F.holds files.old)
         (HasRunOn (O.held out.old) (O.held out.new) end) }
+    // Where a run of the statically linked program of the file stays within it, the answer and the
+    // output are that run's.
+    ensures by_names { (bytes output : List ℕ) (run : Request) (end : RunEnd)
+        → IsTold (asked_by words.now) (F.holds files.old) bytes run
+        → length bytes ≤ FILE_LIMIT → IsStaticRun bytes run end output
+        → ((result.answer ≡ answer_of end) × Appends (O.held out.old) (O.held out.new) output)
+        ⊎ HasFault result.answer }
     ensures out_quiet { IsQuiet result.answer → Appends (O.held out.old) (O.held out.new) [] }
 
     // Log has gained the end line. After a failed write, or where memory ran out, each sink has
@@ -147,10 +156,10 @@ pub fn orc_sized<
     L: Sink,
     G: Gate + Sync,
     N: Notify + Send,
-    R: Threads + Wait,
+    R: Threads + Wait + RandomSource,
     const JMAX: usize,
 >(
-    _rt: &R,
+    rt: &R,
     alloc: Global,
     words: &[RcStr],
     source: &mut S,
@@ -187,22 +196,22 @@ pub fn orc_sized<
     ensures files_same { F.holds files.new ≡ F.holds files.old }
 
     // Where the files tell the bytes of the file, these decide the answer.
-    ensures too_long_told { (bytes entry : List ℕ)
-        → IsTold (asked_by words.now) (F.holds files.old) bytes entry
+    ensures too_long_told { (bytes : List ℕ) (run : Request)
+        → IsTold (asked_by words.now) (F.holds files.old) bytes run
         → FILE_LIMIT < length bytes
         → (result.answer ≡ Answer.TooLong 0) ⊎ HasFault result.answer }
-    ensures refused_told { (bytes entry : List ℕ) (e : ElfError)
-        → IsTold (asked_by words.now) (F.holds files.old) bytes entry
-        → length bytes ≤ FILE_LIMIT → outcome_of bytes entry ≡ refused e
-        → (result.answer ≡ Answer.ObjectRefused 0 (ObjectWhy.Elf e)) ⊎ HasFault result.answer }
-    ensures missing_told { (bytes entry : List ℕ)
-        → IsTold (asked_by words.now) (F.holds files.old) bytes entry
-        → length bytes ≤ FILE_LIMIT → outcome_of bytes entry ≡ missing
-        → (result.answer ≡ Answer.Missing entry) ⊎ HasFault result.answer }
-    ensures ran_told { (bytes entry image : List ℕ) (pc : ℕ)
-        → IsTold (asked_by words.now) (F.holds files.old) bytes entry
-        → length bytes ≤ FILE_LIMIT → outcome_of bytes entry ≡ starts image pc
-        → IsEndOf image pc result.answer ⊎ HasFault result.answer }
+    ensures refused_told { (bytes : List ℕ) (run : Request) (why : ObjectWhy)
+        → IsTold (asked_by words.now) (F.holds files.old) bytes run
+        → length bytes ≤ FILE_LIMIT → outcome_of bytes run.entry ≡ refused why
+        → (result.answer ≡ Answer.ObjectRefused 0 why) ⊎ HasFault result.answer }
+    ensures missing_told { (bytes : List ℕ) (run : Request)
+        → IsTold (asked_by words.now) (F.holds files.old) bytes run
+        → length bytes ≤ FILE_LIMIT → outcome_of bytes run.entry ≡ missing
+        → (result.answer ≡ Answer.Missing run.entry) ⊎ HasFault result.answer }
+    ensures ran_told { (bytes image : List ℕ) (run : Request) (pc : ℕ)
+        → IsTold (asked_by words.now) (F.holds files.old) bytes run
+        → length bytes ≤ FILE_LIMIT → outcome_of bytes run.entry ≡ starts image pc
+        → IsEndOf image pc run.fuel result.answer ⊎ HasFault result.answer }
 
     // Each answer on a file comes only where the bytes of the file say so.
     ensures too_long_only { (k : ℕ) → result.answer ≡ Answer.TooLong k
@@ -216,6 +225,13 @@ pub fn orc_sized<
     ensures ran_only { (end : RunEnd) → result.answer ≡ answer_of end
         → OfFile (asked_by words.now) (F.holds files.old)
         (HasRunOn (O.held out.old) (O.held out.new) end) }
+    // Where a run of the statically linked program of the file stays within it, the answer and the
+    // output are that run's.
+    ensures by_names { (bytes output : List ℕ) (run : Request) (end : RunEnd)
+        → IsTold (asked_by words.now) (F.holds files.old) bytes run
+        → length bytes ≤ FILE_LIMIT → IsStaticRun bytes run end output
+        → ((result.answer ≡ answer_of end) × Appends (O.held out.old) (O.held out.new) output)
+        ⊎ HasFault result.answer }
     ensures out_quiet { IsQuiet result.answer → Appends (O.held out.old) (O.held out.new) [] }
 
     // Log has gained the end line. After a failed write, or where memory ran out, each sink has
@@ -234,12 +250,22 @@ pub fn orc_sized<
     ensures fewer_notes { (n : ℕ) × (result.notes ≡ take n (map Noted.Unfired notes.items)) }
 {
     let _ = source;
-    perform(alloc, words, files, out, log, notes)
+    perform(alloc, name_hasher(rt), words, files, out, log, notes)
+}
+
+/// How names are hashed: by a seed of the runtime, so that strangers can't choose names that collide;
+/// where it gives none, by the fixed one. No answer depends on it.
+fn name_hasher<R: RandomSource>(rt: &R) -> NameHasher {
+    match RandomState::new(rt) {
+        Ok(state) => NameHasher::Seeded(state),
+        Err(_) => NameHasher::Fixed,
+    }
 }
 
 /// What the words ask, done without waiting for anybody.
 fn perform<F: Files, O: Sink, L: Sink, N: Notify>(
     alloc: Global,
+    hasher: NameHasher,
     words: &[RcStr],
     files: &mut F,
     out: &mut O,
@@ -262,7 +288,7 @@ fn perform<F: Files, O: Sink, L: Sink, N: Notify>(
             notes: Notes::new(alloc),
         };
     };
-    let found = find_answer(alloc, words, files);
+    let found = find_answer(alloc, hasher, words, files);
     let answer = write_found(alloc, found, out, log);
     Ended {
         status: answer.status(),

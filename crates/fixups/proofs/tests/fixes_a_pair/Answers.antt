@@ -1,5 +1,5 @@
 -- The graph of the test is sound, and its layout is that of the definition.
-use Rattle.std.proofs.Common.{◌≡◌, ℕ, ◌<◌, ◌≤◌, ◌≢◌, Bool, false, pos, None, List, [], ◌∷◌, ◌++◌, length, refl, ◌∙◌, ap, arith}
+use Rattle.std.proofs.Common.{◌≡◌, ℕ, ◌<◌, ◌≤◌, ◌≢◌, Bool, false, pos, None, List, [], ◌∷◌, ◌++◌, length, refl, sym, subst, ◌∙◌, ap, arith}
 use Rattle.std.proofs.lemmas.List.Elements.{All-nil, All-cons}
 use Rattle.link_model.specs.Kinds.{row_of}
 use Rattle.link_model.specs.declared.graph.Block.{Block}
@@ -7,7 +7,8 @@ use Rattle.link_model.specs.declared.graph.Edge.{Edge}
 use Rattle.link_model.specs.declared.graph.GPlace.TheVariants.{In}
 use Rattle.link_model.specs.declared.graph.GSym.{GSym}
 use Rattle.link_model.specs.declared.graph.LinkGraph.{LinkGraph}
-use Rattle.fixups.specs.Sound.{EdgeFits, PlaceFits, Sound, Placed}
+use Rattle.link_model.specs.Sound.{EdgeFits, PlaceFits, Sound, IsSized, IsAlignment}
+use Rattle.fixups.specs.Sound.{Placed}
 use Rattle.fixups.proofs.tests.fixes_a_pair.Goals as goal
 
 abbrev block_of : List ℕ → Block
@@ -42,28 +43,34 @@ sound bytes h = record {
       (All-cons (EdgeFits (graph_of bytes)) lower [] (lower_fits bytes) (All-nil (EdgeFits (graph_of bytes))));
 }
 
-placed : (bytes : List ℕ) (bs : List Block) (ss : List GSym) (es : List Edge) (os : List ℕ) (cs ts : List (ℕ × ℕ)) (xs : List ℕ) (live : List Bool) → length bytes ≤ 8 → bs ≡ block_of bytes ∷ [] → ss ≡ label ∷ [] → es ≡ upper ∷ lower ∷ [] → os ≡ 0 ∷ [] → cs ≡ [] → ts ≡ [] → xs ≡ [] → live ≡ [] → Placed (record { blocks = bs; symbols = ss; edges = es }) (record { blocks = os; cells = cs; stubs = ts; shape = record { need = 16; align = 16 }; externals = xs; live = live }) 268435456
-placed bytes bs ss es os cs ts xs live h p1 p2 p3 p4 p5 p6 p7 p8 =
-    rw (p1, p2, p3, p4, p5, p6, p7, p8) record {
-      sound = sound bytes h;
-      laid = refl;
-      alone = record {
-        externals = refl;
-        cells = refl;
-        stubs = refl;
-        edges = All-cons (λ (e : Edge). e.kind ≢ 20) upper (lower ∷ []) (λ q. omega arith)
-            (All-cons (λ (e : Edge). e.kind ≢ 20) lower [] (λ q. omega arith) (All-nil (λ (e : Edge). e.kind ≢ 20)));
-      };
-      room = omega arith;
-    }
+sized : (bytes : List ℕ) → IsSized (graph_of bytes)
+sized bytes = record {
+  blocks = omega arith;
+  symbols = omega arith;
+  edges = omega arith;
+  bytes = omega arith;
+  aligns = All-cons (λ (b : Block). IsAlignment b.align) (block_of bytes) [] (2, omega arith, refl) (All-nil (λ (b : Block). IsAlignment b.align));
+}
 
-pub fix-requires : goal.fix-requires
-fix-requires g c =
-    placed c.in_ok-copy_of.field-0 _ _ _ _ _ _ _ _
-    (omega (arith, ap (λ (xs : List ℕ). length xs) c.in_ok-copy_of.ensures))
+graph_is : (bytes : List ℕ) (bs : List Block) (ss : List GSym) (es : List Edge) → bs ≡ block_of bytes ∷ [] → ss ≡ label ∷ [] → es ≡ upper ∷ lower ∷ [] → record { blocks = bs; symbols = ss; edges = es } ≡ graph_of bytes
+graph_is bytes bs ss es p q r = rw (p, q, r) refl
+
+pub image_alone-requires-clause-sound : goal.image_alone-requires-clause-sound
+image_alone-requires-clause-sound g c =
+    subst Sound
+    (sym (graph_is c.in_ok-copy_of.field-0 _ _ _
     (c.from_vec.ensures ∙ c.in_ok-push.ensures.items ∙ ap (λ (xs : List Block). xs ++ (block_of c.in_ok-copy_of.field-0 ∷ [])) c.new-blocks.ensures.items)
     (c.from_vec-2.ensures ∙ c.in_ok-push-2.ensures.items ∙ ap (λ (xs : List GSym). xs ++ (label ∷ [])) c.new-symbols.ensures.items)
     (c.from_vec-3.ensures ∙ c.in_ok-push-4.ensures.items
-    ∙ ap (λ (xs : List Edge). xs ++ (lower ∷ [])) (c.in_ok-push-3.ensures.items ∙ ap (λ (xs : List Edge). xs ++ (upper ∷ [])) c.new-edges.ensures.items))
-    (c.from_vec-4.ensures ∙ c.in_ok-push-5.ensures.items ∙ ap (λ (xs : List ℕ). xs ++ (0 ∷ [])) c.new-offsets.ensures.items)
-    c.new.ensures c.new-2.ensures c.new-3.ensures c.new-4.ensures
+    ∙ ap (λ (xs : List Edge). xs ++ (lower ∷ [])) (c.in_ok-push-3.ensures.items ∙ ap (λ (xs : List Edge). xs ++ (upper ∷ [])) c.new-edges.ensures.items))))
+    (sound c.in_ok-copy_of.field-0 (omega (arith, ap (λ (xs : List ℕ). length xs) c.in_ok-copy_of.ensures)))
+
+pub image_alone-requires-clause-sized : goal.image_alone-requires-clause-sized
+image_alone-requires-clause-sized g c =
+    subst IsSized
+    (sym (graph_is c.in_ok-copy_of.field-0 _ _ _
+    (c.from_vec.ensures ∙ c.in_ok-push.ensures.items ∙ ap (λ (xs : List Block). xs ++ (block_of c.in_ok-copy_of.field-0 ∷ [])) c.new-blocks.ensures.items)
+    (c.from_vec-2.ensures ∙ c.in_ok-push-2.ensures.items ∙ ap (λ (xs : List GSym). xs ++ (label ∷ [])) c.new-symbols.ensures.items)
+    (c.from_vec-3.ensures ∙ c.in_ok-push-4.ensures.items
+    ∙ ap (λ (xs : List Edge). xs ++ (lower ∷ [])) (c.in_ok-push-3.ensures.items ∙ ap (λ (xs : List Edge). xs ++ (upper ∷ [])) c.new-edges.ensures.items))))
+    (sized c.in_ok-copy_of.field-0)

@@ -1,4 +1,5 @@
 use Rattle.std.proofs.Common.{rules}
+use Rattle.link_graph.proofs.GraphFacts.{graph_sound, graph_sized, graph_offers}
 use Rattle.link_graph.proofs.ReadNames.{names_are_short}
 use Rattle.link_graph.proofs.Whole.{makes_error, makes_graph, graph_is}
 use Rattle.link_graph.proofs.graph.graph_of.Goals as goal
@@ -12,4 +13,19 @@ intern_names-requires c = rw c.as_slice-symbols.ensures (names_are_short c.args.
 pub returns-clause-exact : goal.returns-clause-exact
 returns-clause-exact c =
     makes_graph c.intern_names.new.names c.args.o.now _ c.in_ok-blocks.ensures.passed
+    (graph_is c.intern_names.new.names c.args.o.now c.from_vec.result c.from_vec-2.result c.from_vec-3.result (search rules) (search rules) (search rules))
+
+pub returns-clause-sound : goal.returns-clause-sound
+returns-clause-sound c =
+    graph_sound c.intern_names.new.names c.args.o.now _ c.requires c.in_ok-blocks.ensures.passed
+    (graph_is c.intern_names.new.names c.args.o.now c.from_vec.result c.from_vec-2.result c.from_vec-3.result (search rules) (search rules) (search rules))
+
+pub returns-clause-sized : goal.returns-clause-sized
+returns-clause-sized c =
+    graph_sized c.intern_names.new.names c.args.o.now _ c.requires c.in_ok-blocks.ensures.passed
+    (graph_is c.intern_names.new.names c.args.o.now c.from_vec.result c.from_vec-2.result c.from_vec-3.result (search rules) (search rules) (search rules))
+
+pub returns-clause-offers : goal.returns-clause-offers
+returns-clause-offers c =
+    graph_offers c.intern_names.new.names c.args.o.now _ c.requires (search rules)
     (graph_is c.intern_names.new.names c.args.o.now c.from_vec.result c.from_vec-2.result c.from_vec-3.result (search rules) (search rules) (search rules))

@@ -1,5 +1,4 @@
-use Rattle.std.proofs.Common.{sym, ap, ◌∙◌}
-use Rattle.link_graph.specs.Parts.{has_label, stands_at}
+use Rattle.std.proofs.Common.{sym, ◌∙◌}
 use Rattle.link_graph.proofs.Labels.{upper_added, other_passed}
 use Rattle.link_graph.proofs.pairs.upper_labels.Goals as goal
 use Rattle.link_graph.proofs.pairs.upper_labels.Goals.{then-is_upper_kind+in_ok-insert, else-is_upper_kind}

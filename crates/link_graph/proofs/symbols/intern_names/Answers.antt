@@ -1,5 +1,4 @@
-use Rattle.std.proofs.Common.{sym, ap, ◌∙◌, arith, rules}
-use Rattle.link_graph.specs.Object.{is_global}
+use Rattle.std.proofs.Common.{sym, ◌∙◌, arith}
 use Rattle.link_graph.proofs.NameNumbers.{one_more_named, keeps_all}
 use Rattle.link_graph.proofs.symbols.intern_names.Goals as goal
 use Rattle.link_graph.proofs.symbols.intern_names.Goals.{then-seen_by_others+in_ok-intern_name, else-seen_by_others}

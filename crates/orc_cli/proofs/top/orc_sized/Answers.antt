@@ -1,5 +1,5 @@
 -- Each clause follows from what was found and written.
-use Rattle.orc_cli.proofs.Clauses.{usage_only, usage_told, no_read_fault, file_fault, write_fault, too_long_told, refused_told, missing_told, ran_told, too_long_only, refused_only, missing_only, ran_only, out_quiet, log_line, write_cut, memory_wanting}
+use Rattle.orc_cli.proofs.Clauses.{usage_only, usage_told, no_read_fault, file_fault, write_fault, too_long_told, refused_told, missing_told, ran_told, too_long_only, refused_only, missing_only, ran_only, by_names, out_quiet, log_line, write_cut, memory_wanting}
 use Rattle.orc_cli.proofs.top.orc_sized.Goals as goal
 
 pub returns-clause-usage_only : goal.returns-clause-usage_only
@@ -40,6 +40,9 @@ returns-clause-missing_only g c = missing_only _ _ _ _ _ _ _ _ _ c.perform.ensur
 
 pub returns-clause-ran_only : goal.returns-clause-ran_only
 returns-clause-ran_only g c = ran_only _ _ _ _ _ _ _ _ _ c.perform.ensures.answered
+
+pub returns-clause-by_names : goal.returns-clause-by_names
+returns-clause-by_names g c = by_names _ _ _ _ _ _ _ _ _ c.perform.ensures.answered
 
 pub returns-clause-out_quiet : goal.returns-clause-out_quiet
 returns-clause-out_quiet g c = out_quiet _ _ _ _ _ _ _ _ _ c.perform.ensures.answered

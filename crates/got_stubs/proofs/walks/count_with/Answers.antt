@@ -1,0 +1,12 @@
+use Rattle.std.proofs.Common.{arith}
+use Rattle.got_stubs.proofs.Walking.{count_took, count_passed}
+use Rattle.got_stubs.proofs.walks.count_with.Goals as goal
+use Rattle.got_stubs.proofs.walks.count_with.Goals.{then-takes_part, else-takes_part}
+
+pub loop-s-preserved : goal.loop-s-preserved
+loop-s-preserved c = elim c.if-takes_part.branch [
+  | then-takes_part w ↦
+      (omega (arith, c.offer_behind-offer.ensures.near), omega arith, rw w.count-is (count_took c.args.part c.args.marks.now c.args.symbols.now c.args.live.now c.loop-s.s c.loop-s.offer c.offer_behind-offer.result c.loop-s.count _ _ c.owns.result c.takes_part.result _ c.loop-s-test.true c.requires.whole c.owns.ensures c.takes_part.ensures c.offer_behind-offer.ensures.exact w.if-takes_part.true c.loop-s.invariant.2))
+  | else-takes_part w ↦
+      (omega (arith, c.offer_behind-offer.ensures.near), omega arith, rw w.count-is (count_passed c.args.part c.args.marks.now c.args.symbols.now c.args.live.now c.loop-s.s c.loop-s.offer c.offer_behind-offer.result c.loop-s.count _ _ c.owns.result c.takes_part.result _ c.loop-s-test.true c.requires.whole c.owns.ensures c.takes_part.ensures c.offer_behind-offer.ensures.exact w.if-takes_part.false c.loop-s.invariant.2))
+]

@@ -1,0 +1,92 @@
+ghost use Rattle.std.specs.Prelude.{◌≡◌, ◌+◌, ◌*◌, ◌≤◌, max, length, slice_get, IfOk};
+ghost use Rattle.link_model.specs.Graph.{external_symbols};
+ghost use Rattle.link_model.specs.Layout.{aligned, block_offsets, layout_of, CELL_SIZE, STUB_SIZE};
+ghost use Rattle.link_model.specs.Sound.{Sound, IsSized};
+ghost use Rattle.got_stubs.specs.Plan.{IsPlan};
+
+use crate::blocks::{PlacedBlocks, greatest_align, place_blocks};
+use crate::marks::{Mark, marks_of};
+use crate::parts::Part;
+use crate::turns::align_up;
+use crate::walks::{count_with, nth_with};
+use link_model::LinkGraph;
+use orc_ids::Shape;
+use std::alloc::{AllocError, Global};
+
+/// What is prepared of a graph, so that its shape and its externals with any live names take one pass
+/// over its symbols and no memory.
+#[derive(Drop)]
+pub struct Plan {
+    marks: Vec<Mark>,
+    offsets: Vec<u64>,
+    end: u64,
+    align: u64,
+}
+
+/// Prepares a graph.
+pub fn plan_of(alloc: Global, g: &LinkGraph) -> Result<Plan, AllocError>
+    requires sound { Sound g.now }
+    requires sized { IsSized g.now }
+    ensures { IfOk result (λ plan. IsPlan g.now plan) }
+{
+    let marks = marks_of(alloc, g)?;
+    let PlacedBlocks { offsets, end } = place_blocks(alloc, g)?;
+    Ok(Plan {
+        marks,
+        offsets,
+        end,
+        align: greatest_align(g),
+    })
+}
+
+/// What a unit needs whose blocks end here, with so many cells and stubs.
+fn need_behind(end: u64, cells: usize, stubs: usize) -> u64
+    requires low { end ≤ 80 * 1024 * 1024 }
+    requires few_cells { cells ≤ 65536 }
+    requires few_stubs { stubs ≤ 65536 }
+    ensures { result ≡ max 16 (aligned (aligned (aligned end 8 + CELL_SIZE * cells) 16 + STUB_SIZE * stubs) 16) }
+{
+    let stubs_start = align_up(align_up(end, 8) + 8 * cells as u64, 16);
+    align_up(stubs_start + 16 * stubs as u64, 16).max(16)
+}
+
+impl Plan {
+    /// The memory that the unit needs.
+    pub fn shape(&self, g: &LinkGraph, live: &[bool]) -> Shape
+        requires { IsPlan g.now self.now }
+        ensures { result ≡ (layout_of g.now live.now).shape }
+    {
+        let symbols = g.symbols.as_slice();
+        let cells = count_with(Part::Cell, &self.marks, symbols, live);
+        let stubs = count_with(Part::Stub, &self.marks, symbols, live);
+        Shape {
+            need: need_behind(self.end, cells, stubs),
+            align: self.align,
+        }
+    }
+
+    /// How many externals it has.
+    pub fn external_count(&self, g: &LinkGraph, live: &[bool]) -> usize
+        requires { IsPlan g.now self.now }
+        ensures exact { result ≡ length (external_symbols g.now live.now) }
+        ensures few { result ≤ 65536 }
+    {
+        count_with(Part::External, &self.marks, g.symbols.as_slice(), live)
+    }
+
+    /// The external of a number, in symbol order, if there are so many.
+    pub fn external(&self, g: &LinkGraph, live: &[bool], k: usize) -> Option<u32>
+        requires { IsPlan g.now self.now }
+        ensures { result ≡ slice_get (external_symbols g.now live.now) k }
+    {
+        nth_with(Part::External, &self.marks, g.symbols.as_slice(), live, k)
+    }
+
+    /// The offsets of the blocks.
+    pub fn block_offsets<'a>(&'a self, g: &LinkGraph) -> &'a [u64]
+        requires { IsPlan g.now self.now }
+        ensures { result.now ≡ block_offsets 0 g.now.blocks }
+    {
+        self.offsets.as_slice()
+    }
+}
