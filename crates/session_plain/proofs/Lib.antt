@@ -3,3 +3,8 @@ pub mod MarkLemmas
 pub mod SettleLemmas
 pub mod DefineLemmas
 pub mod CallLemmas
+pub mod EndLemmas
+pub mod TakeLemmas
+pub mod PlaceLemmas
+pub mod CauseLemmas
+pub mod FitLemmas

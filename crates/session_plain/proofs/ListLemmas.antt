@@ -135,7 +135,7 @@ pub drop_more : {X : Type 0} (xs : List X) (k : ℕ) (x : X) (done all : List X)
 drop_more xs k x done all there so_far =
     append_assoc done (x ∷ []) (drop (k + 1) xs) ∙ ap (λ ys. done ++ ys) (sym (drop_some xs k x there)) ∙ so_far
 
-or_else_assoc : {X : Type 0} (a b c : Option X) → or_else (or_else a b) c ≡ or_else a (or_else b c)
+pub or_else_assoc : {X : Type 0} (a b c : Option X) → or_else (or_else a b) c ≡ or_else a (or_else b c)
 or_else_assoc None b c = refl
 or_else_assoc (Some x) b c = refl
 

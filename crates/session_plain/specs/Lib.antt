@@ -8,3 +8,8 @@ pub mod Work
 pub mod Calls
 pub mod Settling
 pub mod Linking
+pub mod Ends
+pub mod Taking
+pub mod Placing
+pub mod Causes
+pub mod Fit

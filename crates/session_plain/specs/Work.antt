@@ -3,6 +3,7 @@ use Rattle.std.specs.Prelude.{ℕ, Bool, true, false, ◌||◌, ◌==◌, not, n
 use Rattle.std.specs.Option.{option_map_or}
 use Rattle.session_model.specs.Meaning.{Bindings}
 use Rattle.session_model.specs.Plain.{Plain, UnitRow, GenRow}
+use Rattle.session_model.specs.declared.rows.Dylib.{Dylib}
 use Rattle.session_model.specs.declared.rows.Track.{Track}
 use Rattle.session_model.specs.Change.{job_unit, lodged}
 use Rattle.session_model.specs.Lists.{changed_at}
@@ -48,6 +49,9 @@ moved_gen t to g = record g { tracker = if g.tracker == t then to else g.tracker
 
 abbrev pub gone_track : Track → Track
 gone_track x = record x { gone = true }
+
+abbrev pub ordered : List OrderItem → Dylib → Dylib
+ordered order d = record d { order = order }
 
 -- the job is of a unit of another tracker
 abbrev pub stays_listed : List UnitRow → ℕ → Job → Bool

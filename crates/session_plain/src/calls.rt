@@ -1,8 +1,9 @@
-ghost use Rattle.std.specs.Prelude.{◌≡◌, ◌<◌, ◌&&◌, ◌||◌, length, slice_get, true, false, nat_eq, Some, None, is_some, is_none, if◌then◌else◌, IfOk, List};
+ghost use Rattle.std.specs.Prelude.{◌≡◌, ◌<◌, ◌&&◌, ◌∷◌, [], ◌||◌, length, slice_get, true, false, nat_eq, Some, None, is_some, is_none, unwrap_or, if◌then◌else◌, IfOk, List};
 ghost use Rattle.session_model.specs.Plain.{UnitRow, is_defunct};
 ghost use Rattle.session_model.specs.Answer.{AnswersCall, called, is_held, is_stage, unit_shape, bad_dep, first_reply};
 ghost use Rattle.session_model.specs.Lists.{first_some};
 ghost use Rattle.session_model.specs.declared.rows.UnitPhase.TheVariants as stage;
+ghost use Rattle.session_plain.specs.Causes.{may_emit};
 ghost use Rattle.session_plain.specs.Calls.{turned_away, is_bad_dep, bad_dep_of, bad_in_group, call_reply, may_resolve};
 ghost use Rattle.session_plain.specs.Meant.{meant, unit_row, LiveFit};
 
@@ -127,4 +128,54 @@ pub fn bad_dependency(rows: &[InstRow], groups: &[Group]) -> Option<Reply>
     ensures { result ≡ bad_dep rows.now groups.now }
 {
     first_bad(rows, groups)
+}
+
+/// What emitting is answered once the call is right: by the dependencies of the groups.
+pub fn answer_deps(rows: &[InstRow], groups: &[Group]) -> Reply
+    ensures { result ≡ first_reply (bad_dep rows.now groups.now ∷ []) Reply.Emitted }
+{
+    bad_dependency(rows, groups).unwrap_or(Reply::Emitted)
+}
+
+/// Whether the unit's job Finish was handed out with bindings.
+pub fn may_emit_now<U: UnitKind>(x: &PlainUnit<U>) -> bool
+    ensures { result ≡ may_emit (unit_row U.meaning x.now) }
+{
+    matches!(x.phase, UnitPhase::Finishing) && x.bound.is_some()
+}
+
+fn unit_emit<U: UnitKind>(
+    s: &PlainSession<U>,
+    x: &PlainUnit<U>,
+    seat: SeatNo,
+    u: UnitId,
+    groups: &[Group],
+) -> Reply
+    ensures { result ≡ unwrap_or (turned_away seat.0 u (may_emit (unit_row U.meaning x.now)) (unit_row U.meaning x.now)) (first_reply (bad_dep s.now.rows.items groups.now ∷ []) Reply.Emitted) }
+{
+    match turn_away(x, seat, u, may_emit_now(x)) {
+        Some(reply) => reply,
+        None => answer_deps(&s.rows, groups),
+    }
+}
+
+fn answer_emit<U: UnitKind>(s: &PlainSession<U>, seat: SeatNo, u: UnitId, groups: &[Group]) -> Reply
+    ensures { result ≡ call_reply seat.0 u may_emit (first_reply (bad_dep s.now.rows.items groups.now ∷ []) Reply.Emitted) (slice_get (meant U.meaning s.now).units u.0) }
+{
+    match s.units.get(u.0 as usize) {
+        None => Reply::WrongPhase(u),
+        Some(x) => unit_emit(s, x, seat, u, groups),
+    }
+}
+
+/// What emitting a unit is answered, where the groups are its own and no edge of it is out of range.
+pub fn reply_emit<U: UnitKind>(
+    s: &PlainSession<U>,
+    seat: SeatNo,
+    u: UnitId,
+    groups: &[Group],
+) -> Reply
+    ensures { AnswersCall (called (meant U.meaning s.now) seat.0 u may_emit) u (λ x. result ≡ first_reply (bad_dep (meant U.meaning s.now).rows groups.now ∷ []) Reply.Emitted) result }
+{
+    answer_emit(s, seat, u, groups)
 }

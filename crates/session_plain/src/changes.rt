@@ -3,7 +3,7 @@ ghost use Rattle.orc_ids.specs.declared.lookup.Scope.TheVariants as scope;
 ghost use Rattle.session_model.specs.Change.{changed, MakeDylib, MakeTracker, SetOrder, Attach, Spend};
 ghost use Rattle.session_model.specs.Lists.{changed_at};
 ghost use Rattle.session_plain.specs.Meant.{meant, gen_row, IsSmall};
-ghost use Rattle.session_plain.specs.Work.{spent_now};
+ghost use Rattle.session_plain.specs.Work.{ordered, spent_now};
 
 use crate::plain::{PlainGenerator, PlainSession};
 use orc_ids::{DylibId, GenId, Items, NameId, OrderItem, Scope, TrackId};
@@ -89,24 +89,31 @@ pub fn spend<U: UnitKind>(s: &mut PlainSession<U>, g: GenId)
 }
 
 fn replace_order(d: &mut Dylib, order: Order)
-    ensures { d.new ≡ record d.old { order = order } }
+    ensures { d.new ≡ ordered order d.old }
 {
     d.order = order;
 }
 
+#[tactic(auto, using(crate::proofs::ListLemmas::set_changed, crate::proofs::ListLemmas::changed_past))]
+fn order_in(dylibs: &mut Vec<Dylib>, d: DylibId, order: Order)
+    ensures { dylibs.new.items ≡ changed_at d.0 (ordered order) dylibs.old.items }
+{
+    if (d.0 as usize) < dylibs.len() {
+        replace_order(&mut dylibs[d.0 as usize], order);
+    }
+}
+
 /// The dylib's order is itself, and then these.
-#[tactic(auto, using(crate::proofs::ListLemmas::set_changed))]
 pub fn set_order<U: UnitKind>(
     alloc: Global,
     s: &mut PlainSession<U>,
     d: DylibId,
     order: &[OrderItem],
 ) -> Result<(), AllocError>
-    requires { d.0 < length s.old.dylibs.items }
     ensures made { OnOk result (meant U.meaning s.new ≡ changed (SetOrder d.0 order.now) (meant U.meaning s.old)) }
     ensures err { OnErr result (meant U.meaning s.new ≡ meant U.meaning s.old) }
 {
     let all = link_order(alloc, d, order)?;
-    replace_order(&mut s.dylibs[d.0 as usize], all);
+    order_in(&mut s.dylibs, d, all);
     Ok(())
 }

@@ -141,12 +141,13 @@ fn end_unit<U: UnitKind>(x: &mut PlainUnit<U>)
     x.seat = None;
 }
 
-#[tactic(auto, using(crate::proofs::ListLemmas::map_set))]
+#[tactic(auto, using(crate::proofs::ListLemmas::map_set, crate::proofs::ListLemmas::map_past))]
 fn end_in<U: UnitKind>(units: &mut Vec<PlainUnit<U>>, u: UnitId)
-    requires { u.0 < length units.old.items }
     ensures { map (unit_row U.meaning) units.new.items ≡ changed_at u.0 done_unit (map (unit_row U.meaning) units.old.items) }
 {
-    end_unit(&mut units[u.0 as usize]);
+    if (u.0 as usize) < units.as_slice().len() {
+        end_unit(&mut units[u.0 as usize]);
+    }
 }
 
 /// Each of the unit's instances is Emitted, with its group's dependencies.
@@ -156,7 +157,6 @@ pub fn emit<U: UnitKind>(
     u: UnitId,
     groups: &[Group],
 ) -> Result<(), AllocError>
-    requires { u.0 < length s.old.units.items }
     ensures emitted { OnOk result (meant U.meaning s.new ≡ changed (Emit u.0 groups.now) (meant U.meaning s.old)) }
     ensures err { OnErr result (meant U.meaning s.new ≡ meant U.meaning s.old) }
 {

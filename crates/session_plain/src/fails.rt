@@ -135,13 +135,14 @@ fn fail_unit<U: UnitKind>(x: &mut PlainUnit<U>)
     x.base = None;
 }
 
-/// The unit is given up.
-#[tactic(auto, using(crate::proofs::ListLemmas::map_set))]
+/// The unit is given up, if there is one of this number.
+#[tactic(auto, using(crate::proofs::ListLemmas::map_set, crate::proofs::ListLemmas::map_past))]
 fn fail_in<U: UnitKind>(units: &mut Vec<PlainUnit<U>>, u: UnitId)
-    requires { u.0 < length units.old.items }
     ensures { map (unit_row U.meaning) units.new.items ≡ changed_at u.0 failed_unit (map (unit_row U.meaning) units.old.items) }
 {
-    fail_unit(&mut units[u.0 as usize]);
+    if (u.0 as usize) < units.as_slice().len() {
+        fail_unit(&mut units[u.0 as usize]);
+    }
 }
 
 /// The unit is given up, and with it go the unready instances that reach one of its own.
@@ -150,7 +151,6 @@ pub fn fail<U: UnitKind>(
     s: &mut PlainSession<U>,
     u: UnitId,
 ) -> Result<(), AllocError>
-    requires { u.0 < length s.old.units.items }
     ensures failed { OnOk result (meant U.meaning s.new ≡ changed (Fail u.0) (meant U.meaning s.old)) }
     ensures err { OnErr result (meant U.meaning s.new ≡ meant U.meaning s.old) }
 {

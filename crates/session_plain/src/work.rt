@@ -1,4 +1,4 @@
-ghost use Rattle.std.specs.Prelude.{◌≡◌, ◌<◌, length, map, OnOk, OnErr};
+ghost use Rattle.std.specs.Prelude.{◌≡◌, ◌<◌, drop, length, map, OnOk, OnErr};
 ghost use Rattle.session_model.specs.Lists.{changed_at};
 ghost use Rattle.session_plain.specs.Rows.{claimed_row};
 ghost use Rattle.session_model.specs.Change.{changed, Start, Finish, Place, LetGo, claimed, bindings_of, finish_listed};
@@ -19,15 +19,30 @@ fn start_unit<U: UnitKind>(x: &mut PlainUnit<U>, seat: SeatNo)
     x.seat = Some(seat.0);
 }
 
+#[tactic(auto, using(crate::proofs::ListLemmas::map_set, crate::proofs::ListLemmas::map_past))]
+fn start_in<U: UnitKind>(units: &mut Vec<PlainUnit<U>>, u: UnitId, seat: SeatNo)
+    ensures { map (unit_row U.meaning) units.new.items ≡ changed_at u.0 (started seat.0) (map (unit_row U.meaning) units.old.items) }
+{
+    if (u.0 as usize) < units.as_slice().len() {
+        start_unit(&mut units[u.0 as usize], seat);
+    }
+}
+
+/// The oldest job is handed out.
+fn drop_job(jobs: &mut Vec<Job>)
+    ensures { jobs.new.items ≡ drop 1 jobs.old.items }
+{
+    if !jobs.is_empty() {
+        let _job = jobs.remove(0);
+    }
+}
+
 /// The oldest job, a Start of this unit, is handed out to the seat.
-#[tactic(auto, using(crate::proofs::ListLemmas::map_set))]
 pub fn take_start<U: UnitKind>(s: &mut PlainSession<U>, seat: SeatNo, u: UnitId)
-    requires unit { u.0 < length s.old.units.items }
-    requires job { 0 < length s.old.jobs.items }
     ensures { meant U.meaning s.new ≡ changed (Start seat.0 u.0) (meant U.meaning s.old) }
 {
-    let _job = s.jobs.remove(0);
-    start_unit(&mut s.units[u.0 as usize], seat);
+    drop_job(&mut s.jobs);
+    start_in(&mut s.units, u, seat);
 }
 
 fn finish_unit<U: UnitKind>(x: &mut PlainUnit<U>, seat: SeatNo, bound: Option<Matches>)
@@ -38,21 +53,32 @@ fn finish_unit<U: UnitKind>(x: &mut PlainUnit<U>, seat: SeatNo, bound: Option<Ma
     x.bound = bound;
 }
 
+#[tactic(auto, using(crate::proofs::ListLemmas::map_set, crate::proofs::ListLemmas::map_past))]
+fn finish_in<U: UnitKind>(
+    units: &mut Vec<PlainUnit<U>>,
+    u: UnitId,
+    seat: SeatNo,
+    bound: Option<Matches>,
+)
+    ensures { map (unit_row U.meaning) units.new.items ≡ changed_at u.0 (finishing seat.0 bound) (map (unit_row U.meaning) units.old.items) }
+{
+    if (u.0 as usize) < units.as_slice().len() {
+        finish_unit(&mut units[u.0 as usize], seat, bound);
+    }
+}
+
 /// The oldest job, a Finish of this unit, is handed out to the seat, with the bindings if there are
 /// some.
-#[tactic(auto, using(crate::proofs::ListLemmas::map_set))]
 pub fn take_finish<U: UnitKind>(
     s: &mut PlainSession<U>,
     seat: SeatNo,
     u: UnitId,
     bound: Option<Matches>,
 )
-    requires unit { u.0 < length s.old.units.items }
-    requires job { 0 < length s.old.jobs.items }
     ensures { (how : Finishing) → bindings_of how ≡ bound → meant U.meaning s.new ≡ changed (Finish seat.0 u.0 how) (meant U.meaning s.old) }
 {
-    let _job = s.jobs.remove(0);
-    finish_unit(&mut s.units[u.0 as usize], seat, bound);
+    drop_job(&mut s.jobs);
+    finish_in(&mut s.units, u, seat, bound);
 }
 
 fn place_unit<U: UnitKind>(x: &mut PlainUnit<U>, base: u64)
@@ -62,15 +88,22 @@ fn place_unit<U: UnitKind>(x: &mut PlainUnit<U>, base: u64)
     x.base = Some(base);
 }
 
+#[tactic(auto, using(crate::proofs::ListLemmas::map_set, crate::proofs::ListLemmas::map_past))]
+fn place_in<U: UnitKind>(units: &mut Vec<PlainUnit<U>>, u: UnitId, base: u64)
+    ensures { map (unit_row U.meaning) units.new.items ≡ changed_at u.0 (placed_at base) (map (unit_row U.meaning) units.old.items) }
+{
+    if (u.0 as usize) < units.as_slice().len() {
+        place_unit(&mut units[u.0 as usize], base);
+    }
+}
+
 /// The unit is placed at this base.
-#[tactic(auto, using(crate::proofs::ListLemmas::map_set))]
 pub fn place<U: UnitKind>(
     s: &mut PlainSession<U>,
     u: UnitId,
     shape: Shape,
     base: u64,
 ) -> Result<(), AllocError>
-    requires { u.0 < length s.old.units.items }
     ensures placed { OnOk result (meant U.meaning s.new ≡ changed (Place u.0 shape base) (meant U.meaning s.old)) }
     ensures err { OnErr result (meant U.meaning s.new ≡ meant U.meaning s.old) }
 {
@@ -78,7 +111,7 @@ pub fn place<U: UnitKind>(
         base,
         need: shape.need,
     })?;
-    place_unit(&mut s.units[u.0 as usize], base);
+    place_in(&mut s.units, u, base);
     Ok(())
 }
 
@@ -92,13 +125,20 @@ fn release_unit<U: UnitKind>(x: &mut PlainUnit<U>, seat: SeatNo)
     }
 }
 
+#[tactic(auto, using(crate::proofs::ListLemmas::map_set, crate::proofs::ListLemmas::map_past))]
+fn release_in<U: UnitKind>(units: &mut Vec<PlainUnit<U>>, u: UnitId, seat: SeatNo)
+    ensures { map (unit_row U.meaning) units.new.items ≡ changed_at u.0 (let_go_of seat.0) (map (unit_row U.meaning) units.old.items) }
+{
+    if (u.0 as usize) < units.as_slice().len() {
+        release_unit(&mut units[u.0 as usize], seat);
+    }
+}
+
 /// A seat that was told that a unit is gone no longer holds it.
-#[tactic(auto, using(crate::proofs::ListLemmas::map_set))]
 pub fn let_go<U: UnitKind>(s: &mut PlainSession<U>, seat: SeatNo, u: UnitId)
-    requires { u.0 < length s.old.units.items }
     ensures { meant U.meaning s.new ≡ changed (LetGo seat.0 u.0) (meant U.meaning s.old) }
 {
-    release_unit(&mut s.units[u.0 as usize], seat);
+    release_in(&mut s.units, u, seat);
 }
 
 fn list_unit<U: UnitKind>(x: &mut PlainUnit<U>)
