@@ -1,0 +1,19 @@
+use Rattle.std.proofs.Common.{◌≡◌, ℕ, slice_get, refl, ap, sym, subst, ◌∙◌}
+use Rattle.std.proofs.lemmas.Option.{get_or_from_slice_get}
+use Rattle.session_model.specs.Query.{is_met}
+use Rattle.session_core.specs.declared.tables.OpenQuery.{OpenQuery}
+use Rattle.session_core.specs.Settles.{SettlesAt}
+use Rattle.session_core.proofs.SettleSteps.{place_is, unmet_step}
+use Rattle.session_core.proofs.tables.Tables.settle_one.Goals as goal
+
+pub returns-else-query_met-clause-settles : goal.returns-else-query_met-clause-settles
+returns-else-query_met-clause-settles g c = λ o t.
+    let means = g.U.UnitKind.meaning in
+    let old = c.args.self.now in
+    let q = c.requires.0 in
+    let can = c.requires.1 in
+    let k : c.index.result.now.query ≡ can.place.query = ap (λ (p : OpenQuery). p.query) (c.index.ensures ∙ get_or_from_slice_get old.unsettled.items c.args.at can.place _ can.there) in
+    let its : c.index-2.result.now ≡ q = c.index-2.ensures ∙ get_or_from_slice_get old.queries.items c.index.result.now.query q _ (ap (slice_get old.queries.items) k ∙ can.query) in
+    subst (λ (p : OpenQuery). SettlesAt means p.query old old) (place_is old c.args.at q can o t)
+    (unmet_step means old c.args.at q can
+    (sym (c.query_met.ensures.told ∙ ap (λ rows. is_met rows c.index-2.result.now) c.deref.ensures.value ∙ ap (is_met old.rows.items) its) ∙ c.if-query_met.false))

@@ -1,0 +1,19 @@
+use Rattle.std.proofs.Common.{◌≡◌, true, false, sym, ap, ◌∙◌, rules}
+use Rattle.session_model.specs.Answer.{answer_ask}
+use Rattle.session_core.specs.Kinds.{is_lodged}
+use Rattle.session_core.specs.Meant.{meant}
+use Rattle.session_core.proofs.Stepping.{lodged_is}
+use Rattle.session_core.proofs.Called.{ask_made, ask_told}
+use Rattle.session_core.proofs.tables.Tables.step_ask.Goals as goal
+use Rattle.session_core.proofs.tables.Tables.step_ask.Goals.{then-is_lodged+in_ok-ask, else-is_lodged}
+
+pub ask-requires-clause-answer : goal.ask-requires-clause-answer
+ask-requires-clause-answer g c = lodged_is _ (ap is_lodged (sym (c.in_ok-said.ensures.reply ∙ c.in_ok-reply_ask.ensures)) ∙ search rules)
+
+pub returns-clause-steps : goal.returns-clause-steps
+returns-clause-steps g c =
+    let is : c.in_ok-said.said.reply ≡ answer_ask (meant g.U.UnitKind.meaning c.args.self.now) c.args.order.now c.args.wanted.now c.args.level = c.in_ok-said.ensures.reply ∙ c.in_ok-reply_ask.ensures in
+    elim c.if-is_lodged.branch [
+      | then-is_lodged+in_ok-ask w ↦ ask_made g.U.UnitKind.meaning c.args.s c.args.order.now c.args.wanted.now c.args.level c.args.note c.in_ok-said.said.reply c.args.self.now c.if-is_lodged.self is (search rules) (search rules)
+      | else-is_lodged w ↦ ask_told g.U.UnitKind.meaning c.args.s c.args.order.now c.args.wanted.now c.args.level c.args.note c.in_ok-said.said.reply c.args.self.now c.if-is_lodged.self is (search rules) (search rules)
+    ]
