@@ -1,13 +1,12 @@
 -- A closed graph, all of whose names are live, has no externals, cells and stubs.
-use Rattle.std.proofs.Common.{◌≡◌, ◌≢◌, ℕ, zero, suc, ◌+◌, ◌<◌, ◌≤◌, Bool, true, false, cond, not, ◌&&◌, ◌||◌, ◌==◌, List, [], ◌∷◌, length, map, get_or, refl, sym, ap, subst, ◌∙◌, inl, inr, arith}
-use Rattle.std.specs.List.{All, filter, list_any}
+use Rattle.std.proofs.Common.{◌≡◌, ◌≢◌, ℕ, zero, suc, ◌+◌, ◌<◌, Bool, true, false, cond, not, ◌&&◌, ◌||◌, ◌==◌, List, [], ◌∷◌, length, map, get_or, refl, ap, subst, ◌∙◌, inl, inr, arith}
+use Rattle.std.specs.List.{All, filter}
 use Rattle.std.proofs.lemmas.Bool.{eqb-true, ne_eqb, and_parts, and_left, and_right, or_from, or_cases, or_left, or_right, not_from_true, cond_both}
 use Rattle.std.proofs.lemmas.List.Elements.{All-head, All-tail}
 use Rattle.std.proofs.lemmas.List.Folds.{list_any_none, Any-from_list_any}
 use Rattle.link_model.specs.Graph.{is_defined, is_offered, first_flag, other_flags, own_symbols, is_referred, numbers_where, external_symbols}
 use Rattle.link_model.specs.Image.{at_or, place_of}
 use Rattle.link_model.specs.Layout.{needs_cell, needs_stub, some_edge, cell_symbols, stub_symbols, in_turn, layout_of, cells_start, stubs_start, CELL_SIZE, STUB_SIZE}
-use Rattle.link_model.specs.Offers.{offered_symbols}
 use Rattle.link_model.specs.declared.graph.Edge.{Edge}
 use Rattle.link_model.specs.declared.graph.GPlace.TheVariants.{Abs}
 use Rattle.link_model.specs.declared.graph.GSym.{GSym}

@@ -3,9 +3,8 @@ ghost use Rattle.link_model.specs.Layout.{layout_of};
 ghost use Rattle.link_model.specs.declared.graph.Edge.{Edge as EdgeSeen};
 ghost use Rattle.fixups.specs.Sound.{Alone, Closed, AllLive};
 
+use link_model::kinds::GOT_HI20;
 use link_model::{Edge, Layout, LinkGraph};
-
-const GOT_HI20: u32 = 20;
 
 fn names_no_cell(edges: &[Edge]) -> bool
     ensures { IsTrue result ↔ All (λ (e : EdgeSeen). e.kind ≢ 20) edges.now }

@@ -5,12 +5,14 @@ ghost use Rattle.link_model.specs.Sound.{EdgeFits};
 ghost use Rattle.fixups.specs.Sound.{Lies};
 ghost use Rattle.fixups.specs.Refusal.{Refuses};
 ghost use Rattle.fixups.specs.Tables.{own, upper_value, same_place};
+ghost use Rattle.fixups.specs.declared.apply.FixError.TheVariants.{NoMemory};
 
 use crate::place::edge_offset;
 use crate::upper::edge_value;
 use link_model::{Edge, Layout, LinkGraph};
 use orc_ids::Place;
 use reloc_table::{OutOfRange, patch_at};
+use std::alloc::AllocError;
 use std::collections::HashMap;
 use thiserror::Error;
 
@@ -22,6 +24,14 @@ pub enum FixError {
     OutOfRange(Place, u32, i64),
     #[error("no memory")]
     NoMemory,
+}
+
+impl From<AllocError> for FixError {
+    ghost from_gives = { λ _ e. e ≡ NoMemory };
+
+    fn from(_: AllocError) -> FixError {
+        FixError::NoMemory
+    }
 }
 
 /// Applies every edge, in file order.
@@ -39,9 +49,8 @@ pub fn apply_edges(
     ensures refused { IfErr result (λ e. Refuses e (first_refused g.now l.now base (own g.now l.now base) g.now.edges)) }
 {
     for e in g.edges.as_slice() {
-        match apply_edge(g, l, base, uppers, e, image) {
-            Ok(()) => {}
-            Err(why) => return Err(refusal(e, why)),
+        if let Err(why) = apply_edge(g, l, base, uppers, e, image) {
+            return Err(refusal(e, why));
         }
     }
     Ok(())

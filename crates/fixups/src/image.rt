@@ -24,16 +24,8 @@ pub fn fix(
     ensures done { IfOk result (λ image. image ≡ image_of g.now l.now base bound.now) }
     ensures refused { IfErr result (λ e. Refuses e (refused_edge g.now l.now base bound.now)) }
 {
-    let values = match uppers(alloc, g, l, base) {
-        Ok(values) => values,
-        Err(_) => return Err(FixError::NoMemory),
-    };
-    let mut image = match raw_image(alloc, g, l, base) {
-        Ok(image) => image,
-        Err(_) => return Err(FixError::NoMemory),
-    };
-    match apply_edges(g, l, base, &values, image.as_mut_slice()) {
-        Ok(()) => Ok(Bytes::from_vec(image)),
-        Err(why) => Err(why),
-    }
+    let values = uppers(alloc, g, l, base)?;
+    let mut image = raw_image(alloc, g, l, base)?;
+    apply_edges(g, l, base, &values, image.as_mut_slice())?;
+    Ok(Bytes::from_vec(image))
 }

@@ -6,17 +6,10 @@ ghost use Rattle.fixups.specs.Sound.{Lies};
 ghost use Rattle.fixups.specs.Tables.{own, is_upper_at, upper_value, same_place};
 
 use crate::place::lone_value;
+use link_model::kinds::{GOT_HI20, PCREL_HI20, PCREL_LO12_I, PCREL_LO12_S};
 use link_model::{Edge, GPlace, Layout, LinkGraph};
 use std::alloc::{AllocError, Global};
 use std::collections::HashMap;
-
-const GOT_HI20: u32 = 20;
-
-const PCREL_HI20: u32 = 23;
-
-const PCREL_LO12_I: u32 = 24;
-
-const PCREL_LO12_S: u32 = 25;
 
 /// The values of the upper parts by the places at which they stand, the first of each place.
 pub fn uppers(

@@ -1,6 +1,5 @@
 -- One symbol more of a walk over the symbols that have a part.
-use Rattle.std.proofs.Common.{◌≡◌, ℕ, zero, suc, ◌+◌, ◌-◌, ◌*◌, ◌<◌, Bool, true, false, cond, List, ◌∷◌, length, get_or, drop, Option, max, refl, sym, ap, ◌∙◌, arith}
-use Rattle.std.specs.Prelude.{slice_get}
+use Rattle.std.proofs.Common.{◌≡◌, ℕ, ◌+◌, ◌*◌, ◌<◌, Bool, true, false, cond, List, ◌∷◌, length, get_or, drop, max, refl, sym, ap, ◌∙◌, arith}
 use Rattle.std.proofs.lemmas.List.{at_drop_more, get_or_default}
 use Rattle.link_model.specs.Graph.{is_defined, is_offered, first_flag, other_flags, own_symbols, numbers_where}
 use Rattle.link_model.specs.Layout.{aligned, cell_symbols, stub_symbols, layout_of, CELL_SIZE, STUB_SIZE}
@@ -14,7 +13,7 @@ use Rattle.got_stubs.specs.Plan.{IsPlan}
 use Rattle.got_stubs.proofs.Flags.{other_flags-drop, length-own_symbols}
 use Rattle.got_stubs.proofs.Noted.{part_test, part_symbols}
 
-owner_first : (b : Bool) (s : GSym) (ss : List GSym) (live : List Bool) (n : ℕ) → cond b (first_flag (drop n live) ∷ own_symbols ss (other_flags (drop n live))) (is_defined s.place ∷ own_symbols ss (drop n live)) ≡ cond b (first_flag (drop n live)) (is_defined s.place) ∷ own_symbols ss (drop (cond b (n + 1) n) live)
+pub owner_first : (b : Bool) (s : GSym) (ss : List GSym) (live : List Bool) (n : ℕ) → cond b (first_flag (drop n live) ∷ own_symbols ss (other_flags (drop n live))) (is_defined s.place ∷ own_symbols ss (drop n live)) ≡ cond b (first_flag (drop n live)) (is_defined s.place) ∷ own_symbols ss (drop (cond b (n + 1) n) live)
 owner_first true s ss live n = ap (λ (fs : List Bool). first_flag (drop n live) ∷ own_symbols ss fs) (other_flags-drop live n)
 owner_first false s ss live n = refl
 
@@ -51,22 +50,6 @@ count_passed part marks ss live k n n' count d m own took total lt whole is e ne
     let all : left_of part marks ss live k n ≡ rest = walked part marks ss live k n n' d m own took lt whole is e next ∙ ap (λ (b : Bool). cond b (k ∷ rest) rest) lacks in
     let more = ap (λ (xs : List ℕ). length xs) all in
     omega (arith, more, before)
-
-later : (k left : ℕ) (xs : List ℕ) → (left ≡ 0 → ⊥) → slice_get (k ∷ xs) left ≡ slice_get xs (left - 1)
-later k zero xs h = absurd (h refl)
-later k (suc left) xs h = ap (slice_get xs) (omega arith)
-
-pub nth_took : (part : Part) (marks : List Mark) (ss : List GSym) (live : List Bool) (k n n' left : ℕ) (d : GSym) (m : Mark) (own took : Bool) (found : Option ℕ) → k < length ss → length marks ≡ length ss → own ≡ owner_of (get_or ss k d) (drop n live) → took ≡ has_part part own (get_or marks k m) → n' ≡ next_offer (get_or ss k d) n → took ≡ true → (left ≡ 0 → ⊥) → slice_get (left_of part marks ss live k n) left ≡ found → slice_get (left_of part marks ss live (k + 1) n') (left - 1) ≡ found
-nth_took part marks ss live k n n' left d m own took found lt whole is e next has some before =
-    let rest : List ℕ = left_of part marks ss live (k + 1) n' in
-    let all : left_of part marks ss live k n ≡ k ∷ rest = walked part marks ss live k n n' d m own took lt whole is e next ∙ ap (λ (b : Bool). cond b (k ∷ rest) rest) has in
-    sym (later k left rest some) ∙ ap (λ (xs : List ℕ). slice_get xs left) (sym all) ∙ before
-
-pub nth_passed : (part : Part) (marks : List Mark) (ss : List GSym) (live : List Bool) (k n n' left : ℕ) (d : GSym) (m : Mark) (own took : Bool) (found : Option ℕ) → k < length ss → length marks ≡ length ss → own ≡ owner_of (get_or ss k d) (drop n live) → took ≡ has_part part own (get_or marks k m) → n' ≡ next_offer (get_or ss k d) n → took ≡ false → slice_get (left_of part marks ss live k n) left ≡ found → slice_get (left_of part marks ss live (k + 1) n') left ≡ found
-nth_passed part marks ss live k n n' left d m own took found lt whole is e next lacks before =
-    let rest : List ℕ = left_of part marks ss live (k + 1) n' in
-    let all : left_of part marks ss live k n ≡ rest = walked part marks ss live k n n' d m own took lt whole is e next ∙ ap (λ (b : Bool). cond b (k ∷ rest) rest) lacks in
-    ap (λ (xs : List ℕ). slice_get xs left) (sym all) ∙ before
 
 -- ---- by a plan
 

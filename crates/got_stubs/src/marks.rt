@@ -4,16 +4,9 @@ ghost use Rattle.link_model.specs.Sound.{Sound};
 ghost use Rattle.link_model.specs.declared.graph.Edge.{Edge as EdgeSeen};
 ghost use Rattle.got_stubs.specs.Marks.{no_mark, marked, AreMarks};
 
+use link_model::kinds::{CALL, CALL_PLT, GOT_HI20, PLT32};
 use link_model::{Edge, LinkGraph};
 use std::alloc::{AllocError, Global};
-
-const GOT_HI20: u32 = 20;
-
-const CALL: u32 = 18;
-
-const CALL_PLT: u32 = 19;
-
-const PLT32: u32 = 59;
 
 /// How edges refer to a symbol.
 #[derive(Clone, Copy)]

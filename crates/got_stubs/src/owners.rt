@@ -5,20 +5,20 @@ ghost use Rattle.link_model.specs.Graph.{is_defined, is_offered, first_flag, own
 use link_model::{GPlace, GSym};
 use std::alloc::{AllocError, Global};
 
-fn defined(place: GPlace) -> bool
+pub(crate) fn defined(place: GPlace) -> bool
     ensures { result ≡ is_defined place }
 {
     !matches!(place, GPlace::External(_))
 }
 
-fn offers(s: &GSym) -> bool
+pub(crate) fn offers(s: &GSym) -> bool
     ensures { result ≡ is_offered s.now }
 {
     s.global && defined(s.place)
 }
 
 /// The flag of the offered symbol of this number; one that isn't there isn't live.
-fn is_live(live: &[bool], offer: usize) -> bool
+pub(crate) fn is_live(live: &[bool], offer: usize) -> bool
     ensures { result ≡ first_flag (drop offer live.now) }
 {
     match live.get(offer) {

@@ -5,19 +5,22 @@ ghost use Rattle.link_model.specs.Sound.{Sound, IsSized};
 ghost use Rattle.got_stubs.specs.Plan.{IsPlan};
 
 use crate::blocks::{PlacedBlocks, greatest_align, place_blocks};
+use crate::candidates::{Candidates, candidates_of, nth_external};
 use crate::marks::{Mark, marks_of};
 use crate::parts::Part;
 use crate::turns::align_up;
-use crate::walks::{count_with, nth_with};
+use crate::walks::count_with;
 use link_model::LinkGraph;
 use orc_ids::Shape;
 use std::alloc::{AllocError, Global};
 
-/// What is prepared of a graph, so that its shape and its externals with any live names take one pass
-/// over its symbols and no memory.
+/// What is prepared of a graph, so that its shape and the count of its externals with any live names
+/// take one pass over its symbols and no memory, and an external by its number no more than one over
+/// the offered symbols that edges refer to.
 #[derive(Drop)]
 pub struct Plan {
     marks: Vec<Mark>,
+    candidates: Candidates,
     offsets: Vec<u64>,
     end: u64,
     align: u64,
@@ -30,9 +33,11 @@ pub fn plan_of(alloc: Global, g: &LinkGraph) -> Result<Plan, AllocError>
     ensures { IfOk result (λ plan. IsPlan g.now plan) }
 {
     let marks = marks_of(alloc, g)?;
+    let candidates = candidates_of(alloc, g.symbols.as_slice(), &marks)?;
     let PlacedBlocks { offsets, end } = place_blocks(alloc, g)?;
     Ok(Plan {
         marks,
+        candidates,
         offsets,
         end,
         align: greatest_align(g),
@@ -79,7 +84,11 @@ impl Plan {
         requires { IsPlan g.now self.now }
         ensures { result ≡ slice_get (external_symbols g.now live.now) k }
     {
-        nth_with(Part::External, &self.marks, g.symbols.as_slice(), live, k)
+        let Candidates {
+            missing,
+            replaceable,
+        } = &self.candidates;
+        nth_external(missing, replaceable, live, k)
     }
 
     /// The offsets of the blocks.

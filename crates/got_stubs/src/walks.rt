@@ -1,4 +1,4 @@
-ghost use Rattle.std.specs.Prelude.{◌≡◌, ◌≤◌, length, slice_get};
+ghost use Rattle.std.specs.Prelude.{◌≡◌, ◌≤◌, length};
 ghost use Rattle.got_stubs.specs.Marks.{symbols_with};
 
 use crate::marks::Mark;
@@ -22,30 +22,4 @@ pub(crate) fn count_with(part: Part, marks: &[Mark], symbols: &[GSym], live: &[b
         offer = offer_behind(symbol, offer);
     }
     count
-}
-
-/// The symbol that is the one of number `k` among those that have the part, if there are so many.
-pub(crate) fn nth_with(
-    part: Part,
-    marks: &[Mark],
-    symbols: &[GSym],
-    live: &[bool],
-    k: usize,
-) -> Option<u32>
-    requires few { length symbols.now ≤ 65536 }
-    requires whole { length marks.now ≡ length symbols.now }
-    ensures { result ≡ slice_get (symbols_with part marks.now symbols.now live.now) k }
-{
-    let mut left = k;
-    let mut offer: usize = 0;
-    for (s, symbol) in symbols.iter().enumerate() {
-        if takes_part(part, owns(symbol, live, offer), marks[s]) {
-            if left == 0 {
-                return Some(s as u32);
-            }
-            left -= 1;
-        }
-        offer = offer_behind(symbol, offer);
-    }
-    None
 }

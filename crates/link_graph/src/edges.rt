@@ -3,12 +3,8 @@ ghost use Rattle.link_graph.specs.Object.{is_mark, edge_of, section_edges, edges
 
 use elf_read::{Reloc, Section};
 use link_model::Edge;
+use link_model::kinds::{NONE, RELAX};
 use std::alloc::{AllocError, Global};
-
-/// `R_RISCV_NONE` and `R_RISCV_RELAX`.
-const NONE: u32 = 0;
-
-const RELAX: u32 = 51;
 
 /// Whether a relocation only marks a place, so that no edge stands for it.
 pub(crate) fn marks_only(r: &Reloc) -> bool

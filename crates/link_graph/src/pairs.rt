@@ -5,18 +5,11 @@ ghost use Rattle.link_graph.specs.Checks.{first_error};
 ghost use Rattle.link_graph.specs.Parts.{AreUppers, is_labelled, label_error, place_error};
 
 use crate::error::GraphError;
+use link_model::kinds::{GOT_HI20, PCREL_HI20, PCREL_LO12_I, PCREL_LO12_S};
 use link_model::{Edge, GPlace};
 use orc_ids::Place;
 use std::alloc::{AllocError, Global};
 use std::collections::HashSet;
-
-const GOT_HI20: u32 = 20;
-
-const PCREL_HI20: u32 = 23;
-
-const PCREL_LO12_I: u32 = 24;
-
-const PCREL_LO12_S: u32 = 25;
 
 /// A place as a key.
 #[derive(Clone, Copy, PartialEq, Eq, Hash)]

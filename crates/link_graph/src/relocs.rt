@@ -5,6 +5,7 @@ ghost use Rattle.link_graph.specs.Checks.{first_error, symbol_error, reloc_place
 use crate::edges::marks_only;
 use crate::error::GraphError;
 use elf_read::{Reloc, Section, SymPlace, Symbol};
+use link_model::kinds::ALIGN;
 use orc_ids::Place;
 
 /// `STT_TLS` and `STT_GNU_IFUNC`.
@@ -14,9 +15,6 @@ const IFUNC: u8 = 10;
 
 /// `SHT_NOBITS`.
 const NOBITS: u32 = 8;
-
-/// `R_RISCV_ALIGN`.
-const ALIGN: u32 = 43;
 
 /// The first symbol that is thread-local or an indirect function.
 pub(crate) fn symbols_refused(symbols: &[Symbol]) -> Option<GraphError>

@@ -1,3 +1,33 @@
+/// `R_RISCV_NONE`.
+pub const NONE: u32 = 0;
+
+/// `R_RISCV_CALL`.
+pub const CALL: u32 = 18;
+
+/// `R_RISCV_CALL_PLT`.
+pub const CALL_PLT: u32 = 19;
+
+/// `R_RISCV_GOT_HI20`.
+pub const GOT_HI20: u32 = 20;
+
+/// `R_RISCV_PCREL_HI20`.
+pub const PCREL_HI20: u32 = 23;
+
+/// `R_RISCV_PCREL_LO12_I`.
+pub const PCREL_LO12_I: u32 = 24;
+
+/// `R_RISCV_PCREL_LO12_S`.
+pub const PCREL_LO12_S: u32 = 25;
+
+/// `R_RISCV_ALIGN`.
+pub const ALIGN: u32 = 43;
+
+/// `R_RISCV_RELAX`.
+pub const RELAX: u32 = 51;
+
+/// `R_RISCV_PLT32`.
+pub const PLT32: u32 = 59;
+
 /// What the value of a relocation is, from the symbol's address S, the addend A and the address P of
 /// the patched place (RISC-V ELF psABI, "Calculation Symbols").
 #[derive(Clone, Copy, Debug, PartialEq, Eq)]

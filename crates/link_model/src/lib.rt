@@ -8,7 +8,7 @@
 #![tactic(auto)]
 
 mod graph;
-mod kinds;
+pub mod kinds;
 
 pub use graph::{Block, Edge, GPlace, GSym, Layout, LinkGraph};
 pub use kinds::{Form, Formula, Rule, Span};

@@ -31,12 +31,8 @@ fn image_alone(
     ensures done { IfOk result (λ image. image ≡ image_of g.now (layout_of g.now live.now) base (addresses bound.now)) }
     ensures refused { IfErr result (λ e. Refuses e (refused_edge g.now (layout_of g.now live.now) base (addresses bound.now))) }
 {
-    let Ok(layout) = synthesise(alloc, g, live) else {
-        return Err(FixError::NoMemory);
-    };
-    let Ok(told) = bound_addresses(alloc, bound) else {
-        return Err(FixError::NoMemory);
-    };
+    let layout = synthesise(alloc, g, live)?;
+    let told = bound_addresses(alloc, bound)?;
     fix(alloc, g, &layout, base, &told)
 }
 
@@ -60,12 +56,7 @@ pub fn finish(
     ensures refused { IfErr result (λ e. Refuses e ((meaning_of unit.now).refusal live.now base bound.now)) }
 {
     unit.parts.known();
-    let image = match image_alone(alloc, unit.parts.graph(), live, base, bound) {
-        Ok(image) => image,
-        Err(why) => return Err(why),
-    };
-    let Ok(groups) = one_group(alloc, own, bound) else {
-        return Err(FixError::NoMemory);
-    };
+    let image = image_alone(alloc, unit.parts.graph(), live, base, bound)?;
+    let groups = one_group(alloc, own, bound)?;
     Ok((groups, image))
 }

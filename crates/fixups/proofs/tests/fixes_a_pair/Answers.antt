@@ -1,5 +1,5 @@
 -- The graph of the test is sound, and its layout is that of the definition.
-use Rattle.std.proofs.Common.{◌≡◌, ℕ, ◌<◌, ◌≤◌, ◌≢◌, Bool, false, pos, None, List, [], ◌∷◌, ◌++◌, length, refl, sym, subst, ◌∙◌, ap, arith}
+use Rattle.std.proofs.Common.{◌≡◌, ℕ, ◌<◌, ◌≤◌, false, pos, None, List, [], ◌∷◌, ◌++◌, length, refl, sym, subst, ◌∙◌, ap, arith}
 use Rattle.std.proofs.lemmas.List.Elements.{All-nil, All-cons}
 use Rattle.link_model.specs.Kinds.{row_of}
 use Rattle.link_model.specs.declared.graph.Block.{Block}
@@ -8,7 +8,6 @@ use Rattle.link_model.specs.declared.graph.GPlace.TheVariants.{In}
 use Rattle.link_model.specs.declared.graph.GSym.{GSym}
 use Rattle.link_model.specs.declared.graph.LinkGraph.{LinkGraph}
 use Rattle.link_model.specs.Sound.{EdgeFits, PlaceFits, Sound, IsSized, IsAlignment}
-use Rattle.fixups.specs.Sound.{Placed}
 use Rattle.fixups.proofs.tests.fixes_a_pair.Goals as goal
 
 abbrev block_of : List ℕ → Block
