@@ -20,7 +20,7 @@ use Rattle.session_core.specs.declared.tables.QueryEnd.{QueryEnd}
 use Rattle.session_core.specs.declared.tables.Tables.{Tables}
 use Rattle.session_core.specs.Ends.{AreEnds}
 use Rattle.session_core.specs.Kinds.{is_unsettled}
-use Rattle.session_core.specs.Performs.{Collects, Enters, HasOpen, IsStopped, state_of}
+use Rattle.session_core.specs.Performs.{Collects, Enters, HasOpen, IsStopped, state_of, lacks_places}
 use Rattle.session_core.specs.Replies.{collect_reply, end_reply}
 use Rattle.session_core.specs.Whole.{AreOne}
 use Rattle.session_core.proofs.Called.{collect_open, none_behind}
@@ -46,9 +46,9 @@ not_open means jmax t h q r one is settled o = split (slice_get t.ends.items q.0
 
 -- it found the journal full
 pub collects_full : {U : Type 0} (means : U → Meaning) (jmax : ℕ) (t : Tables U) (h : List (Entry U)) (s : SeatNo) (q : QueryId) (r : Reply) (why : Stop) → AreOne means jmax t h → r ≡ collect_reply t.ends.items q → is_unsettled r ≡ false →
-    (why ≡ JournalFull (length h)) × (nat_lt jmax (length h + t.held + 1) ≡ true) → Collects means jmax h h s q (Err why)
+    (why ≡ JournalFull (length h)) × (lacks_places means jmax h 1 ≡ true) → Collects means jmax h h s q (Err why)
 collects_full means jmax t h s q r why one is settled full = subst (λ w. Collects means jmax h h s q (Err w)) (sym full.0)
-    (stopped_full means jmax t h s (event.Collect q) 1 (JournalFull (length h)) one refl (refl, full.1), not_open means jmax t h q r one is settled)
+    (stopped_full means jmax h s (event.Collect q) 1 (JournalFull (length h)) refl (refl, full.1), not_open means jmax t h q r one is settled)
 
 pub collects_entered : {U : Type 0} (means : U → Meaning) (jmax : ℕ) (old new : List (Entry U)) (s : SeatNo) (q : QueryId) (r : Reply) → is_unsettled r ≡ false → Enters means jmax old new (record { seat = s; event = event.Collect q; reply = r }) → Collects means jmax old new s q (Ok r)
 collects_entered means jmax old new s q reply.Open e x = absurd (both_ways true e refl)

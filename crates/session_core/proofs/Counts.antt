@@ -1,6 +1,5 @@
 -- What the counts of a session's code say of its journal's places.
 use Rattle.std.proofs.Common.{◌≡◌, ℕ, suc, ◌+◌, ◌≤◌, ◌<◌, ◌^◌, Bool, true, false, nat_lt, List, [], ◌∷◌, ◌++◌, length, subst, sym, refl, ap, ◌∙◌, arith, le_refl}
-use Rattle.std.proofs.lemmas.Bool.{ltb-false}
 use Rattle.orc_ids.specs.declared.ids.SeatNo.{SeatNo}
 use Rattle.orc_ids.specs.declared.lookup.Stop.{Stop}
 use Rattle.orc_ids.specs.declared.lookup.Stop.TheVariants as stop
@@ -14,7 +13,7 @@ use Rattle.session_model.specs.declared.entry.Event.{Event}
 use Rattle.session_model.specs.declared.entry.Reply.{Reply}
 use Rattle.session_laws.proofs.Placing.{kept_within}
 use Rattle.session_core.specs.declared.tables.Tables.{Tables}
-use Rattle.session_core.specs.Performs.{state_of, IsStopped}
+use Rattle.session_core.specs.Performs.{state_of, lacks_places, IsStopped}
 use Rattle.session_core.specs.Whole.{AreOne}
 use Rattle.session_core.proofs.Joining.{entries_counted}
 
@@ -34,29 +33,21 @@ entries_within means jmax t h one = omega (arith, counted_within means jmax t h 
 pub can_be_numbered : {U : Type 0} (means : U → Meaning) (jmax : ℕ) (t : Tables U) (h : List (Entry U)) → AreOne means jmax t h → t.entries + 1 < 2 ^ 32
 can_be_numbered means jmax t h one = omega (arith, entries_within means jmax t h one, entries_counted means jmax t h one)
 
--- whether the journal is full, by the counts
-pub full_is : {U : Type 0} (means : U → Meaning) (jmax : ℕ) (t : Tables U) (h : List (Entry U)) (s : SeatNo) (e : Event U) → AreOne means jmax t h →
-    is_full jmax (state_of means h) s.0 (plain_event means e) ≡ nat_lt jmax (length h + t.held + places (state_of means h) s.0 (plain_event means e))
-full_is means jmax t h s e one =
-    sym (ap (λ n. nat_lt jmax (n + kept (state_of means h) + places (state_of means h) s.0 (plain_event means e))) (sym (entries_counted means jmax t h one) ∙ ap (λ (m : Plain). m.entries) one.leads))
-    ∙ sym (ap (λ n. nat_lt jmax (length h + n + places (state_of means h) s.0 (plain_event means e))) (held_counted means jmax t h one))
-
--- one more entry has its place in the journal's memory
-pub room_for : {U : Type 0} (means : U → Meaning) (jmax : ℕ) (t : Tables U) (h : List (Entry U)) (n capacity : ℕ) → nat_lt jmax (length h + t.held + suc n) ≡ false → jmax ≤ capacity → length h < capacity
-room_for means jmax t h n capacity f c = omega (arith, ltb-false jmax (length h + t.held + suc n) f, c)
+-- whether there are no places for so many more, by the counts
+pub lacks_is : {U : Type 0} (means : U → Meaning) (jmax : ℕ) (t : Tables U) (h : List (Entry U)) (n : ℕ) → AreOne means jmax t h → lacks_places means jmax h n ≡ nat_lt jmax (length h + t.held + n)
+lacks_is means jmax t h n one =
+    sym (ap (λ k. nat_lt jmax (k + kept (state_of means h) + n)) (sym (entries_counted means jmax t h one) ∙ ap (λ (m : Plain). m.entries) one.leads))
+    ∙ sym (ap (λ k. nat_lt jmax (length h + k + n)) (held_counted means jmax t h one))
 
 -- a call that found the journal full
-pub stopped_full : {U : Type 0} (means : U → Meaning) (jmax : ℕ) (t : Tables U) (h : List (Entry U)) (s : SeatNo) (e : Event U) (n : ℕ) (why : Stop) → AreOne means jmax t h → places (state_of means h) s.0 (plain_event means e) ≡ n →
-    (why ≡ stop.JournalFull (length h)) × (nat_lt jmax (length h + t.held + n) ≡ true) → IsStopped means jmax h h s e why
-stopped_full means jmax t h s e n why one count full = subst (λ w. IsStopped means jmax h h s e w) (sym full.0) (
+pub stopped_full : {U : Type 0} (means : U → Meaning) (jmax : ℕ) (h : List (Entry U)) (s : SeatNo) (e : Event U) (n : ℕ) (why : Stop) → places (state_of means h) s.0 (plain_event means e) ≡ n →
+    (why ≡ stop.JournalFull (length h)) × (lacks_places means jmax h n ≡ true) → IsStopped means jmax h h s e why
+stopped_full means jmax h s e n why count full = subst (λ w. IsStopped means jmax h h s e w) (sym full.0) (
   refl,
-  record {
-    length = refl;
-    full = full_is means jmax t h s e one ∙ (ap (λ k. nat_lt jmax (length h + t.held + k)) count ∙ full.1);
-  },
+  record { length = refl; full = ap (lacks_places means jmax h) count ∙ full.1 },
 )
 
 -- and one that didn't
-pub not_full : {U : Type 0} (means : U → Meaning) (jmax : ℕ) (t : Tables U) (h : List (Entry U)) (s : SeatNo) (e : Event U) (n : ℕ) → AreOne means jmax t h → places (state_of means h) s.0 (plain_event means e) ≡ n →
-    nat_lt jmax (length h + t.held + n) ≡ false → is_full jmax (state_of means h) s.0 (plain_event means e) ≡ false
-not_full means jmax t h s e n one count f = full_is means jmax t h s e one ∙ (ap (λ k. nat_lt jmax (length h + t.held + k)) count ∙ f)
+pub not_full : {U : Type 0} (means : U → Meaning) (jmax : ℕ) (h : List (Entry U)) (s : SeatNo) (e : Event U) (n : ℕ) → places (state_of means h) s.0 (plain_event means e) ≡ n →
+    lacks_places means jmax h n ≡ false → is_full jmax (state_of means h) s.0 (plain_event means e) ≡ false
+not_full means jmax h s e n count f = ap (lacks_places means jmax h) count ∙ f

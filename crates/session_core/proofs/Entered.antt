@@ -3,7 +3,7 @@ use Rattle.std.proofs.lemmas.Bool.{both_ways}
 use Rattle.session_core.specs.Tied.{WaitsOpen}
 use Rattle.session_core.proofs.Calm.{is_waiting_phase}
 use Rattle.std.proofs.Common.{◌≡◌, ℕ, suc, ◌+◌, ◌<◌, ◌≤◌, ◌^◌, true, false, map, List, [], ◌∷◌, ◌++◌, length, slice_get, ◌⊎◌, inl, inr, arith, subst, sym, refl, ap, ◌∙◌, Option, Some, None, is_some, length-append}
-use Rattle.std.specs.Prelude.{cond}
+use Rattle.std.specs.Prelude.{cond, count_by, Bool}
 use Rattle.std.proofs.lemmas.List.{map-append}
 use Rattle.std.specs.Option.{option_map_or}
 use Rattle.std.proofs.lemmas.Bool.{cases_lt}
@@ -12,7 +12,7 @@ use Rattle.std.proofs.lemmas.List.Sums.{sum_by_push}
 use Rattle.orc_ids.specs.declared.flags.SymFlags.{SymFlags}
 use Rattle.orc_ids.specs.declared.ids.NameId.{NameId}
 use Rattle.session_model.specs.Meaning.{Meaning, IsLawful}
-use Rattle.session_model.specs.Plain.{Plain, UnitRow, kept, is_failed, is_emitted, phase_address, phase_deps}
+use Rattle.session_model.specs.Plain.{Plain, UnitRow, kept, own_rows, is_failed, is_emitted, phase_address, phase_deps}
 use Rattle.session_model.specs.Change.{is_strong, settled, waits_for, Define}
 use Rattle.session_model.specs.declared.rows.InstRow.{InstRow}
 use Rattle.session_model.specs.declared.rows.Phase.TheVariants as phase
@@ -26,6 +26,7 @@ use Rattle.session_core.specs.declared.tables.TableUnit.{TableUnit}
 use Rattle.session_core.specs.declared.tables.Tables.{Tables}
 use Rattle.session_core.proofs.DefineLemmas.{with_unit, made_unit, defined_is}
 use Rattle.session_core.proofs.Kept.{kept_length}
+use Rattle.session_core.proofs.Owning.{own_before, own_new, all_live_count}
 use Rattle.session_core.proofs.Present.{named_entered, offered_parts, offered_length}
 use Rattle.session_core.proofs.Quiet.{StandsAs, stays_unmet, still_waits, reached_waits, settles_nothing, notes_none}
 use Rattle.session_core.proofs.Waits.{waiting_from}
@@ -168,6 +169,19 @@ module _ {U : Type 0} (means : U → Meaning) where
       split (inl h) = old_span h
       split (inr h) = new_span h.0 h.1
 
+  owned_entered : (d t : ℕ) (v : Meaning) (x : TableUnit U) (old new : Tables U) → IsTied means old → IsEntered d t v x old new → (u : ℕ) (y : TableUnit U) → slice_get new.units.items u ≡ Some y → length (own_rows u 0 new.rows.items) ≡ count_by (λ (b : Bool). b) y.live
+  owned_entered d t v x old new tied e u y at = subst (λ rows. length (own_rows u 0 rows) ≡ count_by (λ (b : Bool). b) y.live) (sym e.rows) (split (pushed_cases old.units.items x u y (ap (λ l. slice_get l u) (sym e.units) ∙ at)))
+    where
+      fits : (i : ℕ) (r : InstRow) → slice_get old.rows.items i ≡ Some r → r.unit.0 < length old.units.items
+      fits i r h = let f : RowFits means old.units.items r = tied.rows i r h in element_below old.units.items r.unit.0 f.unit f.there
+
+      split : (slice_get old.units.items u ≡ Some y) ⊎ ((u ≡ length old.units.items) × (y ≡ x)) → length (own_rows u 0 (old.rows.items ++ offered_rows d (length old.units.items) 0 v.offers)) ≡ count_by (λ (b : Bool). b) y.live
+      split (inl h) = ap length (own_before d u (length old.units.items) old.rows.items v.offers (λ is. absurd (omega (arith, is, element_below old.units.items u y h)))) ∙ tied.owned u y h
+      split (inr h) =
+          ap (λ n. length (own_rows n 0 (old.rows.items ++ offered_rows d (length old.units.items) 0 v.offers))) h.0
+          ∙ own_new d (length old.units.items) old.rows.items v.offers fits
+          ∙ sym (ap (λ (z : TableUnit U). count_by (λ (b : Bool). b) z.live) h.1 ∙ ap (λ (z : UnitRow). count_by (λ (b : Bool). b) z.live) e.made ∙ all_live_count v.offers)
+
   rows_entered : (d t : ℕ) (v : Meaning) (x : TableUnit U) (old new : Tables U) → IsTied means old → IsEntered d t v x old new → (i : ℕ) (r : InstRow) → slice_get new.rows.items i ≡ Some r → RowFits means new.units.items r
   rows_entered d t v x old new tied e i r at = split (appended_cases old.rows.items (offered_rows d (length old.units.items) 0 v.offers) i r (ap (λ l. slice_get l i) (sym e.rows) ∙ at))
     where
@@ -256,6 +270,7 @@ module _ {U : Type 0} (means : U → Meaning) where
     sized = sized_entered d t v x old new tied numbered fits e;
     lives = lives_entered d t v x old new tied e;
     spans = spans_entered d t v x old new tied e;
+    owned = owned_entered d t v x old new tied e;
     rows = rows_entered d t v x old new tied e;
     homes = all_rows (λ r. r.dylib.0 < length new.dylibs.items) d t v x old new e (λ i r h. dylib_below d t v x old new e r.dylib.0 (tied.homes i r h))
         (λ k o h. dylib_below d t v x old new e d (subst (λ n. d < n) (dylibs_count old) fits.dylib));

@@ -2,11 +2,13 @@
 use Rattle.session_model.specs.Plain.{Plain}
 use Rattle.session_core.specs.Tied.{WaitsOpen}
 use Rattle.std.proofs.Common.{◌≡◌, ℕ, ◌+◌, ◌<◌, ◌≤◌, Bool, false, map, List, [], ◌∷◌, length, slice_get, subst, sym, refl, ap, ◌∙◌, Some, None, option_map, arith}
+use Rattle.std.specs.Prelude.{count_by}
 use Rattle.std.specs.Bool.{if◌then◌else◌}
+use Rattle.orc_ids.specs.declared.ids.InstId.{InstId}
 use Rattle.std.specs.Vec.{vec_capacity}
 use Rattle.std.specs.VecDeque.{deque_len, deque_capacity}
 use Rattle.session_model.specs.Meaning.{Meaning}
-use Rattle.session_model.specs.Plain.{kept}
+use Rattle.session_model.specs.Plain.{kept, is_owned, own_rows}
 use Rattle.session_model.specs.Match.{first_row}
 use Rattle.session_model.specs.Query.{is_met}
 use Rattle.session_model.specs.Change.{is_strong}
@@ -52,6 +54,14 @@ named_still d name k (r ∷ rs) = ap (λ o. if is_named d name r then Some (reco
 pub named_kept : (rows new : List InstRow) (d name : ℕ) → KeepsRows rows new → present_row new d name ≡ present_row rows d name
 named_kept rows new d name same = ap (option_map (λ (r : Row). r.inst.0)) (sym (named_still d name 0 new) ∙ (ap (first_row (is_named d name) 0) same ∙ named_still d name 0 rows))
 
+-- a unit's instances, whatever their phases
+own_still : (u k : ℕ) (rows : List InstRow) → own_rows u k (map still rows) ≡ own_rows u k rows
+own_still u k [] = refl
+own_still u k (r ∷ rs) = ap (λ (xs : List InstId). if is_owned u r then record { 0 = k } ∷ xs else xs) (own_still u (k + 1) rs)
+
+own_kept : (rows new : List InstRow) (u : ℕ) → KeepsRows rows new → own_rows u 0 new ≡ own_rows u 0 rows
+own_kept rows new u same = sym (own_still u 0 new) ∙ (ap (own_rows u 0) same ∙ own_still u 0 rows)
+
 -- a span of rows that stay
 pub span_kept : (rows new : List InstRow) (u first count : ℕ) → KeepsRows rows new → IsSpan rows u first count → IsSpan new u first count
 span_kept rows new u first count same s = record {
@@ -92,6 +102,8 @@ module _ {U : Type 0} (means : U → Meaning) where
     spans = λ u y e. let p = kept_at (unit_still means) old.units.items new.units.items k.units u y e in
         span_kept old.rows.items new.rows.items u y.first y.count k.rows
         (subst (λ (z : Meaning × List Bool × ℕ × ℕ). IsSpan old.rows.items u z.2 z.3) (sym p.2) (t.spans u p.0 p.1));
+    owned = λ u y e. let p = kept_at (unit_still means) old.units.items new.units.items k.units u y e in
+        ap length (own_kept old.rows.items new.rows.items u k.rows) ∙ (t.owned u p.0 p.1 ∙ ap (λ (z : Meaning × List Bool × ℕ × ℕ). count_by (λ (b : Bool). b) z.1) (sym p.2));
     rows = λ i r e. let p = kept_at still old.rows.items new.rows.items k.rows i r e in
         let f : RowFits means new.units.items p.0 = row_kept old.units.items new.units.items p.0 k.units (t.rows i p.0 p.1) in
         record {

@@ -9,7 +9,7 @@ use Rattle.std.proofs.lemmas.List.{length-set}
 use Rattle.std.proofs.lemmas.List.Sums.{sum_by-cons}
 use Rattle.session_model.specs.Meaning.{Meaning}
 use Rattle.session_model.specs.Lists.{changed_at}
-use Rattle.session_model.specs.Plain.{Plain, UnitRow, kept}
+use Rattle.session_model.specs.Plain.{Plain, UnitRow, kept, own_rows}
 use Rattle.session_model.specs.declared.rows.InstRow.{InstRow}
 use Rattle.session_core.specs.declared.tables.TableUnit.{TableUnit}
 use Rattle.session_core.specs.declared.tables.Tables.{Tables}
@@ -113,6 +113,8 @@ tied_kept means old new t same rows dylibs queries ends waiting more below track
   lives = λ u y e. let x = before u y e in let s = same.each u x.0 y x.1 e in ap length s.live ∙ t.lives u x.0 x.1 ∙ ap (λ (m : Meaning). length m.offers) (sym s.meaning);
   spans = λ u y e. let x = before u y e in let s = same.each u x.0 y x.1 e in
       subst (λ xs. IsSpan xs u y.first y.count) (sym rows) (subst (λ n. IsSpan old.rows.items u n y.count) (sym s.first) (subst (λ n. IsSpan old.rows.items u x.0.first n) (sym s.count) (t.spans u x.0 x.1)));
+  owned = λ u y e. let x = before u y e in let s = same.each u x.0 y x.1 e in
+      ap (λ xs. length (own_rows u 0 xs)) rows ∙ t.owned u x.0 x.1 ∙ ap (count_by (λ (b : Bool). b)) (sym s.live);
   rows = λ i r e. rows_fit means old.units.items new.units.items r same (t.rows i r (ap (λ xs. slice_get xs i) (sym rows) ∙ e));
   homes = λ i r e. subst (λ n. r.dylib.0 < n) (ap length (sym dylibs)) (t.homes i r (ap (λ xs. slice_get xs i) (sym rows) ∙ e));
   strong = λ i r e. t.strong i r (ap (λ xs. slice_get xs i) (sym rows) ∙ e);

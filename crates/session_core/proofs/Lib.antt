@@ -4,6 +4,7 @@ pub mod EmitLemmas
 pub mod EmitSteps
 pub mod KeptUnits
 pub mod Owned
+pub mod Owning
 pub mod QuietSteps
 pub mod Resolves
 pub mod RightCalls
@@ -44,4 +45,6 @@ pub mod Counts
 pub mod PlacedUnits
 pub mod Collecting
 pub mod TakenJobs
+pub mod HeldCalls
+pub mod Growing
 pub mod EmittedUnits

@@ -16,7 +16,7 @@ drop_one xs k x h = rw (add-one k) (by_number xs k h)
     by_number (y ∷ ys) zero h = ap (λ z. z ∷ ys) (same_Some y x h)
     by_number (y ∷ ys) (suc k) h = by_number ys k h
 
-own_none : (u k : ℕ) (rows : List InstRow) → ((i : ℕ) (r : InstRow) → slice_get rows i ≡ Some r → is_owned u r ≡ false) → own_rows u k rows ≡ []
+pub own_none : (u k : ℕ) (rows : List InstRow) → ((i : ℕ) (r : InstRow) → slice_get rows i ≡ Some r → is_owned u r ≡ false) → own_rows u k rows ≡ []
 own_none u k [] h = refl
 own_none u k (r ∷ rs) h = ap (λ b. if b then record { 0 = k } ∷ own_rows u (k + 1) rs else own_rows u (k + 1) rs) (h 0 r refl) ∙ own_none u (k + 1) rs (λ i. h (suc i))
 

@@ -25,7 +25,7 @@ use Rattle.session_core.specs.declared.tables.TableDylib.{TableDylib}
 use Rattle.session_core.specs.declared.tables.TableUnit.{TableUnit}
 use Rattle.session_core.specs.Ends.{open_numbers}
 use Rattle.session_model.specs.Meaning.{Meaning}
-use Rattle.session_model.specs.Plain.{Plain, UnitRow, kept, is_defunct, has_dylib}
+use Rattle.session_model.specs.Plain.{Plain, UnitRow, kept, own_rows, is_defunct, has_dylib}
 use Rattle.session_model.specs.Change.{Change, LetGo, changed}
 use Rattle.session_model.specs.declared.rows.Job.{Job}
 use Rattle.session_model.specs.declared.rows.Job.TheVariants as job
@@ -149,6 +149,7 @@ tied_dylib means old new x t none left dylibs units rows queries ends waiting jo
   };
   lives = subst (λ v. (u : ℕ) (y : TableUnit _) → slice_get v.items u ≡ Some y → length y.live ≡ length (means y.unit).offers) (sym units) t.lives;
   spans = λ u y e. subst (λ v. IsSpan v.items u y.first y.count) (sym rows) (t.spans u y (ap (λ v. slice_get v.items u) (sym units) ∙ e));
+  owned = λ u y e. ap (λ v. length (own_rows u 0 v.items)) rows ∙ t.owned u y (ap (λ v. slice_get v.items u) (sym units) ∙ e);
   rows = λ i r e. subst (λ v. RowFits means v.items r) (sym units) (t.rows i r (ap (λ v. slice_get v.items i) (sym rows) ∙ e));
   homes = λ i r e. omega (arith, t.homes i r (ap (λ v. slice_get v.items i) (sym rows) ∙ e), ap length dylibs, length-append old.dylibs.items (x ∷ []));
   strong = λ i r e. t.strong i r (ap (λ v. slice_get v.items i) (sym rows) ∙ e);

@@ -10,7 +10,9 @@ use Rattle.orc_ids.specs.declared.ids.InstId.{InstId}
 use Rattle.orc_ids.specs.declared.lookup.Level.{Level}
 use Rattle.orc_ids.specs.declared.lookup.Level.TheVariants.{Ready}
 use Rattle.session_model.specs.Meaning.{Meaning}
+use Rattle.std.specs.Prelude.{count_by}
 use Rattle.session_model.specs.Plain.{Plain, UnitRow, empty, kept, emitted_at}
+use Rattle.session_core.proofs.Owning.{own_phased}
 use Rattle.session_model.specs.Match.{first_row}
 use Rattle.session_model.specs.Query.{is_met, all_at, first_lost}
 use Rattle.session_model.specs.Reach.{within, is_ready, deps_at}
@@ -187,6 +189,8 @@ settling_moves means c old mid new t reached leads phased same waits queries end
         lives = λ u y e. let x = unit_before units u y e in let z = units.each u x.0 y x.1 e in ap length z.live ∙ t.lives u x.0 x.1 ∙ ap (λ (a : Meaning). length a.offers) (sym z.meaning);
         spans = λ u y e. let x = unit_before units u y e in let z = units.each u x.0 y x.1 e in
             phased_span old.rows.items new.rows.items u y.first y.count now_phased (subst (λ n. IsSpan old.rows.items u n y.count) (sym z.first) (subst (λ n. IsSpan old.rows.items u x.0.first n) (sym z.count) (t.spans u x.0 x.1)));
+        owned = λ u y e. let x = unit_before units u y e in let z = units.each u x.0 y x.1 e in
+            ap length (own_phased u 0 old.rows.items new.rows.items now_phased) ∙ t.owned u x.0 x.1 ∙ ap (count_by (λ (b : Bool). b)) (sym z.live);
         rows = λ i q e. let r = before old.rows.items new.rows.items i q now_phased e in subst (RowFits means new.units.items) (sym r.2) (fit units r.0 q (t.rows i r.0 r.1));
         homes = λ i q e. let r = before old.rows.items new.rows.items i q now_phased e in subst (λ n. q.dylib.0 < n) (ap length (sym now_dylibs)) (subst (λ (x : InstRow). x.dylib.0 < length old.dylibs.items) (sym r.2) (t.homes i r.0 r.1));
         strong = λ i q e. let r = before old.rows.items new.rows.items i q now_phased e in ap (λ (x : InstRow). is_strong x.flags) r.2 ∙ t.strong i r.0 r.1;

@@ -1,15 +1,19 @@
 -- Handing out a job.
-use Rattle.std.proofs.Common.{◌≡◌, ℕ, suc, ◌+◌, ◌<◌, nat_lt, Ok, Err, Bool, true, false, List, [], ◌∷◌, slice_get, length, Option, Some, None, subst, sym, refl, ap, ◌∙◌, arith}
+use Rattle.std.proofs.Common.{◌≡◌, ◌⊎◌, inl, inr, ℕ, suc, ◌+◌, ◌<◌, nat_lt, Ok, Err, Bool, true, false, List, [], ◌∷◌, slice_get, length, Option, Some, None, subst, sym, refl, ap, ◌∙◌, arith}
+use Rattle.std.specs.Prelude.{count_by}
 use Rattle.std.specs.Option.{option_map_or}
-use Rattle.std.proofs.lemmas.Bool.{both_ways}
+use Rattle.std.proofs.lemmas.Bool.{both_ways, cases_eq}
 use Rattle.std.proofs.lemmas.Option.{none-some}
 use Rattle.orc_ids.specs.declared.ids.SeatNo.{SeatNo}
 use Rattle.orc_ids.specs.declared.ids.UnitId.{UnitId}
 use Rattle.session_model.specs.Meaning.{Meaning}
-use Rattle.session_model.specs.Plain.{Plain, UnitRow}
+use Rattle.session_model.specs.Lists.{changed_at}
+use Rattle.session_model.specs.Plain.{Plain, UnitRow, own_rows}
+use Rattle.session_model.specs.Query.{is_met}
+use Rattle.session_model.specs.declared.rows.UnitPhase.TheVariants as stage
 use Rattle.session_model.specs.declared.rows.Ending.{Ending}
 use Rattle.session_model.specs.State.{state, plain_history, IsEnd}
-use Rattle.session_model.specs.Change.{change_of}
+use Rattle.session_model.specs.Change.{Change, Finish, bindings_of, change_of, changed, finish_listed, settled, taken_finish, waits_for}
 use Rattle.session_model.specs.Answer.{AnswersTake, AnswersFinish, LinkEnded}
 use Rattle.session_model.specs.declared.entry.Entry.{Entry}
 use Rattle.session_model.specs.declared.entry.Event.TheVariants as event
@@ -21,20 +25,26 @@ use Rattle.session_model.specs.declared.rows.Ending.TheVariants.{Found, Lost}
 use Rattle.session_model.specs.declared.rows.Job.{Job}
 use Rattle.session_model.specs.declared.rows.Job.TheVariants as job
 use Rattle.session_model.specs.declared.rows.Query.{Query}
-use Rattle.session_laws.proofs.Elements.{element_below, none_past}
+use Rattle.session_laws.proofs.Elements.{changed_elsewhere, changed_some, element_below, none_past, mapped_parts, same_element}
+use Rattle.session_laws.proofs.Settling.{settled_rows, settling_keeps}
 use Rattle.session_laws.proofs.Facts.{due_start, jobs_head_same}
 use Rattle.session_laws.proofs.Invariant.{legal_is_sound}
 use Rattle.session_laws.specs.Sound.{IsSound, its_jobs}
 use Rattle.session_core.specs.declared.tables.QueryEnd.{QueryEnd}
 use Rattle.session_core.specs.declared.tables.Tables.{Tables}
+use Rattle.session_core.specs.declared.taken.TakenUnit.{TakenUnit}
 use Rattle.session_core.specs.Ends.{AreEnds}
-use Rattle.session_core.specs.Meant.{meant}
+use Rattle.session_core.specs.Given.{IsUnitOf}
+use Rattle.session_core.specs.Facts.{AreFacts}
+use Rattle.session_core.specs.Meant.{meant, unit_row}
+use Rattle.session_core.specs.Tied.{IsTied}
+use Rattle.session_core.specs.declared.facts.UnitFacts.{UnitFacts}
 use Rattle.session_core.specs.Moves.{IsReached, Moves}
 use Rattle.session_core.specs.Replies.{TakeReply, FinishesWith, kept_end, finishing_of}
 use Rattle.session_core.specs.Steps.{Steps}
 use Rattle.orc_ids.specs.declared.lookup.Stop.{Stop}
 use Rattle.orc_ids.specs.declared.lookup.Stop.TheVariants.{JournalFull}
-use Rattle.session_core.specs.Performs.{Enters, Takes, state_of}
+use Rattle.session_core.specs.Performs.{Enters, Takes, lacks_places, state_of}
 use Rattle.session_core.specs.Whole.{AreOne}
 use Rattle.session_core.proofs.Called.{none_behind}
 use Rattle.session_core.proofs.Counts.{stopped_full}
@@ -98,9 +108,9 @@ not_idle : (jobs : List Job) → (j : Job) × (js : List Job) × (jobs ≡ j ∷
 not_idle jobs some none = both_ways true (ap (λ xs. elim xs [ [] ↦ true | x ∷ rest ↦ false ]) (sym none ∙ some.2)) refl
 
 pub takes_full : {U : Type 0} (means : U → Meaning) (jmax : ℕ) (t : Tables U) (h : List (Entry U)) (s : SeatNo) (why : Stop) → AreOne means jmax t h → (j : Job) × (js : List Job) × ((meant means t).jobs ≡ j ∷ js) →
-    (why ≡ JournalFull (length h)) × (nat_lt jmax (length h + t.held + 2) ≡ true) → Takes means jmax h h s (Err why)
+    (why ≡ JournalFull (length h)) × (lacks_places means jmax h 2 ≡ true) → Takes means jmax h h s (Err why)
 takes_full means jmax t h s why one some full = subst (λ w. Takes means jmax h h s (Err w)) (sym full.0)
-    (stopped_full means jmax t h s event.Take 2 (JournalFull (length h)) one refl (refl, full.1), λ none. not_idle (meant means t).jobs some (ap (λ (m : Plain). m.jobs) one.leads ∙ none))
+    (stopped_full means jmax h s event.Take 2 (JournalFull (length h)) refl (refl, full.1), λ none. not_idle (meant means t).jobs some (ap (λ (m : Plain). m.jobs) one.leads ∙ none))
 
 pub takes_entered : {U : Type 0} (means : U → Meaning) (jmax : ℕ) (old new : List (Entry U)) (s : SeatNo) (r : Reply) → Enters means jmax old new (record { seat = s; event = event.Take; reply = r }) → Takes means jmax old new s (Ok r)
 takes_entered means jmax old new s (reply.Idle held) x = absurd (never_idle (state_of means old).jobs x.answered)
@@ -110,3 +120,65 @@ takes_entered means jmax old new s (reply.Idle held) x = absurd (never_idle (sta
     never_idle (job.Start u ∷ js) a = both_ways true (sym (ap is_start a)) refl
     never_idle (job.Finish u ∷ js) a = a
 takes_entered means jmax old new s _ x = x
+
+-- The unit that is handed out
+
+pub taken_is : {U : Type 0} (means : U → Meaning) (t : Tables U) (u : UnitId) (x : UnitRow) (f : UnitFacts U) → IsTied means t → slice_get (meant means t).units u.0 ≡ Some x → AreFacts means (meant means t) u.0 x f →
+    IsUnitOf means (meant means t) u (record { share = f.unit; live = f.live; instances = f.own; base = f.base })
+taken_is means t u x f tied there facts =
+    let y = mapped_parts (unit_row means) t.units.items u.0 x there in
+    record {
+      unit = x;
+      there = there;
+      share = facts.meaning;
+      live = facts.live;
+      instances = facts.own;
+      base = facts.base;
+      flags = ap length (facts.live ∙ ap (λ (z : UnitRow). z.live) y.2) ∙ tied.lives u.0 y.0 y.1 ∙ sym (ap (λ (v : Meaning). length v.offers) (facts.meaning ∙ ap (λ (z : UnitRow). z.meaning) y.2));
+      owned = ap length facts.own ∙ tied.owned u.0 y.0 y.1 ∙ sym (ap (count_by (λ (b : Bool). b)) (facts.live ∙ ap (λ (z : UnitRow). z.live) y.2));
+    }
+
+-- settling changes no more of a unit than its phase
+settled_unit : (m : Plain) (u : ℕ) (x : UnitRow) → slice_get m.units u ≡ Some x → (y : UnitRow) × (slice_get (settled m).units u ≡ Some y) × (y ≡ record x { phase = y.phase })
+settled_unit m u x t = settling_keeps Stays step 0 m.queries m (x, t, refl)
+  where
+    Stays : Plain → Type 0
+    Stays n = (y : UnitRow) × (slice_get n.units u ≡ Some y) × (y ≡ record x { phase = y.phase })
+
+    step : (v k : ℕ) (q : Query) (n : Plain) → Stays n → waits_for n v k ≡ true → is_met n.rows q ≡ true → q.unit ≡ Some v → Stays (finish_listed v n)
+    step v k q n p w b e = split (cases_eq u v)
+      where
+        split : (u ≡ v) ⊎ (u ≡ v → ⊥) → Stays (finish_listed v n)
+        split (inl is) = (
+          record (p.0) { phase = stage.Linked },
+          subst (λ w. slice_get (finish_listed w n).units u ≡ Some (record (p.0) { phase = stage.Linked })) is (changed_some u (λ y. record y { phase = stage.Linked }) n.units p.0 p.1),
+          ap (λ (y : UnitRow). record y { phase = stage.Linked }) p.2,
+        )
+        split (inr apart) = (p.0, changed_elsewhere v (λ y. record y { phase = stage.Linked }) n.units u apart ∙ p.1, p.2)
+
+-- a change that leaves the rows, and of the unit its meaning, its live names and its base
+pub taken_still : {U : Type 0} (means : U → Meaning) (c : Change) (f : UnitRow → UnitRow) (u : UnitId) (old new : Tables U) (taken : TakenUnit U) → Moves means c old new →
+    (changed c (meant means old)).rows ≡ (meant means old).rows → (changed c (meant means old)).units ≡ changed_at u.0 f (meant means old).units →
+    ((x : UnitRow) → (f x).meaning ≡ x.meaning) → ((x : UnitRow) → (f x).live ≡ x.live) → ((x : UnitRow) → (f x).base ≡ x.base) → IsUnitOf means (meant means old) u taken → IsUnitOf means (meant means new) u taken
+taken_still means c f u old new taken moves rows units meaning live base k =
+    let m : Plain = changed c (meant means old) in
+    let p = settled_unit m u.0 (f k.unit) (ap (λ xs. slice_get xs u.0) units ∙ changed_some u.0 f (meant means old).units k.unit k.there) in
+    record {
+      unit = p.0;
+      there = ap (λ (n : Plain). slice_get n.units u.0) moves.leads ∙ p.1;
+      share = k.share ∙ sym (ap (λ (y : UnitRow). y.meaning) p.2 ∙ meaning k.unit);
+      live = k.live ∙ sym (ap (λ (y : UnitRow). y.live) p.2 ∙ live k.unit);
+      instances = k.instances ∙ sym (ap (λ (n : Plain). own_rows u.0 0 n.rows) moves.leads ∙ ap (own_rows u.0 0) (settled_rows m ∙ rows));
+      base = k.base ∙ sym (ap (λ (y : UnitRow). y.base) p.2 ∙ base k.unit);
+      flags = k.flags;
+      owned = k.owned;
+    }
+
+-- the bindings of a unit that is handed out to be finished
+pub taken_bound : {U : Type 0} (means : U → Meaning) (s : ℕ) (u : UnitId) (how : Finishing) (old new : Tables U) (x : UnitRow) → Moves means (Finish s u.0 how) old new → slice_get (meant means old).units u.0 ≡ Some x →
+    (y : UnitRow) → slice_get (meant means new).units u.0 ≡ Some y → y.bound ≡ bindings_of how
+taken_bound means s u how old new x moves there y at =
+    let m : Plain = taken_finish s u.0 how (meant means old) in
+    let f : UnitRow → UnitRow = λ z. record z { phase = stage.Finishing; seat = Some s; bound = bindings_of how } in
+    let p = settled_unit m u.0 (f x) (changed_some u.0 f (meant means old).units x there) in
+    ap (λ (z : UnitRow). z.bound) (same_element (slice_get (meant means new).units u.0) y p.0 at (ap (λ (n : Plain). slice_get n.units u.0) moves.leads ∙ p.1) ∙ p.2)

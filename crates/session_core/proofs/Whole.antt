@@ -19,7 +19,7 @@ use Rattle.session_core.specs.declared.tables.Tables.{Tables}
 use Rattle.session_core.specs.Ends.{AreEnds}
 use Rattle.session_core.specs.Meant.{meant}
 use Rattle.session_core.specs.Moves.{IsSame}
-use Rattle.session_core.specs.Performs.{state_of, Enters}
+use Rattle.session_core.specs.Performs.{state_of, lacks_places, Enters}
 use Rattle.session_core.specs.Steps.{Steps}
 use Rattle.session_core.specs.Stored.{IsStored, keeps_memory}
 use Rattle.session_core.specs.Whole.{AreOne, IsWhole}
@@ -43,16 +43,12 @@ whole_with means jmax t new h room p q s e r whole place steps stored = record {
   stored = stored;
 }
 
--- one more entry, which leaves the memory
-pub whole_more : {U : Type 0} (means : U → Meaning) (jmax : ℕ) (t new : Tables U) (h : List (Entry U)) (room : ℕ) (p : Placements) (s : SeatNo) (e : Event U) (r : Reply) → IsWhole means jmax t h room p →
-    is_full jmax (state_of means h) s.0 (plain_event means e) ≡ false → Steps means s (plain_event means e) r t new → keeps_memory (plain_event means e) r ≡ true → IsWhole means jmax new (h ++ record { seat = s; event = e; reply = r } ∷ []) room p
-whole_more {U} means jmax t new h room p s e r whole place steps keeps = record {
-  one = one_more means jmax t new h (record { seat = s; event = e; reply = r }) whole.one place (said_right means jmax t new h s e r whole.one steps) steps.moves;
-  room = whole.room;
-  stored = subst (λ m. IsStored m p) (sym steps.moves.leads)
-      (stored_after jmax (plain_history means h) (meant means t) (record { seat = s; event = plain_event means e; reply = r }) p whole.one.legal (sym whole.one.leads)
-      (steps.answered jmax (plain_history means h) (sym whole.one.leads) whole.one.ends) keeps whole.stored);
-}
+-- an entry that leaves the memory
+stored_still : {U : Type 0} (means : U → Meaning) (jmax : ℕ) (t new : Tables U) (h : List (Entry U)) (p : Placements) (s : SeatNo) (e : Event U) (r : Reply) → AreOne means jmax t h →
+    Steps means s (plain_event means e) r t new → keeps_memory (plain_event means e) r ≡ true → IsStored (meant means t) p → IsStored (meant means new) p
+stored_still means jmax t new h p s e r one steps keeps stored = subst (λ m. IsStored m p) (sym steps.moves.leads)
+    (stored_after jmax (plain_history means h) (meant means t) (record { seat = s; event = plain_event means e; reply = r }) p one.legal (sym one.leads)
+    (steps.answered jmax (plain_history means h) (sym one.leads) one.ends) keeps stored)
 
 -- a call that changed nothing
 pub whole_still : {U : Type 0} (means : U → Meaning) (jmax : ℕ) (t new : Tables U) (h : List (Entry U)) (room : ℕ) (p : Placements) → IsWhole means jmax t h room p → IsSame means t new → IsWhole means jmax new h room p
@@ -67,23 +63,37 @@ pub enters : {U : Type 0} (means : U → Meaning) (jmax : ℕ) (t new : Tables U
     is_full jmax (state_of means h) s.0 (plain_event means e) ≡ false → Steps means s (plain_event means e) r t new → Enters means jmax h (h ++ record { seat = s; event = e; reply = r } ∷ []) (record { seat = s; event = e; reply = r })
 enters means jmax t new h s e r one place steps = record { place = place; answered = said_right means jmax t new h s e r one steps; grown = refl }
 
--- a call that was answered by an entry, which left the memory
-pub entered : {U : Type 0} (means : U → Meaning) (jmax : ℕ) (t new : Tables U) (h grown : List (Entry U)) (room capacity : ℕ) (p : Placements) (s : SeatNo) (e : Event U) (r noted : Reply) (n : ℕ) → IsWhole means jmax t h room p →
-    places (state_of means h) s.0 (plain_event means e) ≡ n → nat_lt jmax (length h + t.held + n) ≡ false → Steps means s (plain_event means e) r t new → keeps_memory (plain_event means e) r ≡ true → noted ≡ r →
-    grown ≡ h ++ record { seat = s; event = e; reply = noted } ∷ [] → capacity ≡ room → IsWhole means jmax new grown capacity p × Enters means jmax h grown (record { seat = s; event = e; reply = r })
-entered {U} means jmax t new h grown room capacity p s e r noted n whole count place steps keeps same is wide = subst Goal (sym all) (whole_as, enters means jmax t new h s e r whole.one fits steps)
+-- A call that was answered by an entry, with the memory after it. The view of the session before is
+-- its journal.
+pub entered_with : {U : Type 0} (means : U → Meaning) (jmax : ℕ) (t new : Tables U) (h view grown : List (Entry U)) (room capacity : ℕ) (p q : Placements) (s : SeatNo) (e : Event U) (r noted told : Reply) (n : ℕ) → h ≡ view → IsWhole means jmax t h room p →
+    places (state_of means view) s.0 (plain_event means e) ≡ n → lacks_places means jmax view n ≡ false → Steps means s (plain_event means e) r t new → IsStored (meant means new) q → noted ≡ r →
+    grown ≡ h ++ record { seat = s; event = e; reply = noted } ∷ [] → capacity ≡ room → told ≡ r → IsWhole means jmax new grown capacity q × Enters means jmax view grown (record { seat = s; event = e; reply = told })
+entered_with {U} means jmax t new h view grown room capacity p q s e r noted told n seen whole count place steps stored same is wide heard = subst Goal (sym all) (whole_as, heard_as)
   where
-    fits : is_full jmax (state_of means h) s.0 (plain_event means e) ≡ false
-    fits = not_full means jmax t h s e n whole.one count place
+    whole_here : IsWhole means jmax t view room p
+    whole_here = subst (λ g. IsWhole means jmax t g room p) seen whole
 
-    whole_as : IsWhole means jmax new (h ++ record { seat = s; event = e; reply = r } ∷ []) capacity p
-    whole_as = subst (λ k. IsWhole means jmax new (h ++ record { seat = s; event = e; reply = r } ∷ []) k p) (sym wide) (whole_more means jmax t new h room p s e r whole fits steps keeps)
+    fits : is_full jmax (state_of means view) s.0 (plain_event means e) ≡ false
+    fits = not_full means jmax view s e n count place
+
+    whole_as : IsWhole means jmax new (view ++ record { seat = s; event = e; reply = r } ∷ []) capacity q
+    whole_as = subst (λ k. IsWhole means jmax new (view ++ record { seat = s; event = e; reply = r } ∷ []) k q) (sym wide) (whole_with means jmax t new view room p q s e r whole_here fits steps stored)
+
+    heard_as : Enters means jmax view (view ++ record { seat = s; event = e; reply = r } ∷ []) (record { seat = s; event = e; reply = told })
+    heard_as = subst (λ w. Enters means jmax view (view ++ record { seat = s; event = e; reply = r } ∷ []) (record { seat = s; event = e; reply = w })) (sym heard) (enters means jmax t new view s e r whole_here.one fits steps)
 
     Goal : List (Entry U) → Type 0
-    Goal g = IsWhole means jmax new g capacity p × Enters means jmax h g (record { seat = s; event = e; reply = r })
+    Goal g = IsWhole means jmax new g capacity q × Enters means jmax view g (record { seat = s; event = e; reply = told })
 
-    all : grown ≡ h ++ record { seat = s; event = e; reply = r } ∷ []
-    all = is ∙ ap (λ q. h ++ record { seat = s; event = e; reply = q } ∷ []) same
+    all : grown ≡ view ++ record { seat = s; event = e; reply = r } ∷ []
+    all = is ∙ (ap (λ w. h ++ record { seat = s; event = e; reply = w } ∷ []) same ∙ ap (λ g. g ++ record { seat = s; event = e; reply = r } ∷ []) seen)
+
+-- and one that left the memory
+pub entered : {U : Type 0} (means : U → Meaning) (jmax : ℕ) (t new : Tables U) (h view grown : List (Entry U)) (room capacity : ℕ) (p : Placements) (s : SeatNo) (e : Event U) (r noted told : Reply) (n : ℕ) → h ≡ view → IsWhole means jmax t h room p →
+    places (state_of means view) s.0 (plain_event means e) ≡ n → lacks_places means jmax view n ≡ false → Steps means s (plain_event means e) r t new → keeps_memory (plain_event means e) r ≡ true → noted ≡ r →
+    grown ≡ h ++ record { seat = s; event = e; reply = noted } ∷ [] → capacity ≡ room → told ≡ r → IsWhole means jmax new grown capacity p × Enters means jmax view grown (record { seat = s; event = e; reply = told })
+entered means jmax t new h view grown room capacity p s e r noted told n seen whole count place steps keeps same is wide heard =
+    entered_with means jmax t new h view grown room capacity p p s e r noted told n seen whole count place steps (stored_still means jmax t new h p s e r whole.one steps keeps whole.stored) same is wide heard
 
 -- before the first entry
 pub whole_new : {U : Type 0} (means : U → Meaning) (jmax : ℕ) (t : Tables U) (capacity : ℕ) → jmax ≤ 1048576 → meant means t ≡ empty → IsTied means t → jmax ≤ capacity → IsWhole means jmax t [] capacity nothing_placed
@@ -99,24 +109,6 @@ whole_new means jmax t capacity limit none tied room = record {
   room = room;
   stored = subst (λ m. IsStored m nothing_placed) (sym none) stored_empty;
 }
-
--- a call that was answered by an entry, with the memory after it
-pub entered_with : {U : Type 0} (means : U → Meaning) (jmax : ℕ) (t new : Tables U) (h grown : List (Entry U)) (room capacity : ℕ) (p q : Placements) (s : SeatNo) (e : Event U) (r noted : Reply) (n : ℕ) → IsWhole means jmax t h room p →
-    places (state_of means h) s.0 (plain_event means e) ≡ n → nat_lt jmax (length h + t.held + n) ≡ false → Steps means s (plain_event means e) r t new → IsStored (meant means new) q → noted ≡ r →
-    grown ≡ h ++ record { seat = s; event = e; reply = noted } ∷ [] → capacity ≡ room → IsWhole means jmax new grown capacity q × Enters means jmax h grown (record { seat = s; event = e; reply = r })
-entered_with {U} means jmax t new h grown room capacity p q s e r noted n whole count place steps stored same is wide = subst Goal (sym all) (whole_as, enters means jmax t new h s e r whole.one fits steps)
-  where
-    fits : is_full jmax (state_of means h) s.0 (plain_event means e) ≡ false
-    fits = not_full means jmax t h s e n whole.one count place
-
-    whole_as : IsWhole means jmax new (h ++ record { seat = s; event = e; reply = r } ∷ []) capacity q
-    whole_as = subst (λ k. IsWhole means jmax new (h ++ record { seat = s; event = e; reply = r } ∷ []) k q) (sym wide) (whole_with means jmax t new h room p q s e r whole fits steps stored)
-
-    Goal : List (Entry U) → Type 0
-    Goal g = IsWhole means jmax new g capacity q × Enters means jmax h g (record { seat = s; event = e; reply = r })
-
-    all : grown ≡ h ++ record { seat = s; event = e; reply = r } ∷ []
-    all = is ∙ ap (λ q. h ++ record { seat = s; event = e; reply = q } ∷ []) same
 
 -- the whole, where the tables' meaning is asked
 pub ends_known : {U : Type 0} (means : U → Meaning) (jmax : ℕ) (t : Tables U) (h : List (Entry U)) → AreOne means jmax t h → (k : ℕ) × (past : List (Entry Meaning)) × IsLegal k past × (state past ≡ meant means t) × AreEnds past t.ends.items

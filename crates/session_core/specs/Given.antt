@@ -1,9 +1,10 @@
 -- What a session gives beside its answers.
-use Rattle.std.specs.Prelude.{◌≡◌, ⊤, ℕ, unwrap_or, slice_get, [], List, Option, Some, None, Result, Ok, Err}
+use Rattle.std.specs.Prelude.{◌≡◌, ⊤, ℕ, Bool, count_by, length, unwrap_or, slice_get, [], List, Option, Some, None, Result, Ok, Err}
 use Rattle.orc_ids.specs.declared.lookup.Stop.{Stop}
 use Rattle.session_model.specs.Meaning.{Meaning}
 use Rattle.orc_ids.specs.declared.place.Shape.{Shape}
 use Rattle.session_model.specs.Answer.{aligned, taken_end}
+use Rattle.session_model.specs.Change.{bindings_of}
 use Rattle.orc_ids.specs.declared.groups.Group.{Group}
 use Rattle.orc_ids.specs.declared.ids.UnitId.{UnitId}
 use Rattle.session_model.specs.Plain.{Plain, UnitRow, own_rows}
@@ -38,7 +39,8 @@ pub record IsFinish (m : Plain) (u : UnitId) (x : UnitRow) (groups : List Group)
   pub allowed : x.meaning.refusal x.live (unwrap_or x.base 0) (unwrap_or x.bound []) ≡ None
   pub image : bytes ≡ unit_image x
 
--- a share of the unit, its live names, its instances and its base
+-- a share of the unit, its live names, its instances and its base: a flag for each name that it
+-- offers, and an instance for each live one
 pub record IsUnitOf {U : Type 0} (means : U → Meaning) (m : Plain) (u : UnitId) (taken : TakenUnit U) : Type 0 where
   pub unit : UnitRow
   pub there : slice_get m.units u.0 ≡ Some unit
@@ -46,6 +48,8 @@ pub record IsUnitOf {U : Type 0} (means : U → Meaning) (m : Plain) (u : UnitId
   pub live : taken.live ≡ unit.live
   pub instances : taken.instances ≡ own_rows u.0 0 m.rows
   pub base : taken.base ≡ unit.base
+  pub flags : length taken.live ≡ length (means taken.share).offers
+  pub owned : length taken.instances ≡ count_by (λ (b : Bool). b) taken.live
 
 abbrev IfSomeUnit : {U : Type 0} → (U → Meaning) → Plain → UnitId → Option (TakenUnit U) → Type 0
 IfSomeUnit means m u (Some taken) = IsUnitOf means m u taken
@@ -56,3 +60,8 @@ abbrev pub GivesUnit : {U : Type 0} → (U → Meaning) → Plain → Result Rep
 GivesUnit means m (Ok (reply.Start u)) given = IfSomeUnit means m u given
 GivesUnit means m (Ok (reply.Finish u how)) given = IfSomeUnit means m u given
 GivesUnit means m answer given = given ≡ None
+
+-- the unit that is handed out to be finished has the bindings of the reply
+abbrev pub BindsUnit : Plain → Result Reply Stop → Type 0
+BindsUnit m (Ok (reply.Finish u how)) = (x : UnitRow) → slice_get m.units u.0 ≡ Some x → x.bound ≡ bindings_of how
+BindsUnit m answer = ⊤

@@ -23,3 +23,5 @@ pub mod Stored
 pub mod Steps
 pub mod Kinds
 pub mod Given
+pub mod Holding
+pub mod Plays

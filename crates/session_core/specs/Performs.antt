@@ -1,5 +1,5 @@
 -- What one call of a session does: a step of the definitions, or nothing.
-use Rattle.std.specs.Prelude.{◌≡◌, ℕ, Bool, true, false, List, [], ◌∷◌, ◌++◌, length, slice_get, Some, Result, Ok, Err}
+use Rattle.std.specs.Prelude.{◌≡◌, ℕ, ◌+◌, nat_lt, Bool, true, false, List, [], ◌∷◌, ◌++◌, length, slice_get, Some, Result, Ok, Err}
 use Rattle.orc_ids.specs.declared.ids.QueryId.{QueryId}
 use Rattle.orc_ids.specs.declared.ids.SeatNo.{SeatNo}
 use Rattle.orc_ids.specs.declared.lookup.Stop.{Stop}
@@ -20,6 +20,10 @@ use Rattle.session_model.specs.declared.rows.Query.{Query}
 -- the session after a journal
 abbrev pub state_of : {U : Type 0} → (U → Meaning) → List (Entry U) → Plain
 state_of means h = state (plain_history means h)
+
+-- there are no places for so many more entries, beside those of the held units
+abbrev pub lacks_places : {U : Type 0} → (U → Meaning) → ℕ → List (Entry U) → ℕ → Bool
+lacks_places means jmax h n = nat_lt jmax ((state_of means h).entries + kept (state_of means h) + n)
 
 -- the journal has a place for the entry, whose reply is a right one, and has gained just it
 pub record Enters {U : Type 0} (means : U → Meaning) (jmax : ℕ) (old new : List (Entry U)) (e : Entry U) : Type 0 where

@@ -1,10 +1,10 @@
 -- What keeps the tables of a session together.
-use Rattle.std.specs.Prelude.{◌≡◌, ℕ, ◌+◌, ◌<◌, ◌≤◌, ◌^◌, true, false, Bool, ◌&&◌, ◌==◌, List, length, slice_get, map, Option, Some, None, option_map, nat_eq}
+use Rattle.std.specs.Prelude.{◌≡◌, ℕ, ◌+◌, ◌<◌, ◌≤◌, ◌^◌, true, false, Bool, ◌&&◌, ◌==◌, List, length, slice_get, map, count_by, Option, Some, None, option_map, nat_eq}
 use Rattle.std.specs.HashMap.{get}
 use Rattle.std.specs.Vec.{vec_capacity}
 use Rattle.std.specs.VecDeque.{deque_len, deque_capacity}
 use Rattle.session_model.specs.Meaning.{Meaning}
-use Rattle.session_model.specs.Plain.{Plain, UnitRow, kept}
+use Rattle.session_model.specs.Plain.{Plain, UnitRow, kept, own_rows}
 use Rattle.session_model.specs.declared.rows.Query.{Query}
 use Rattle.session_model.specs.Match.{first_row}
 use Rattle.session_model.specs.Query.{is_met}
@@ -56,6 +56,8 @@ pub record IsTied {U : Type 0} (means : U → Meaning) (t : Tables U) : Type 0 w
   -- a unit has a flag for each name that it offers, and its instances stand together
   pub lives : (u : ℕ) (x : TableUnit U) → slice_get t.units.items u ≡ Some x → length x.live ≡ length (means x.unit).offers
   pub spans : (u : ℕ) (x : TableUnit U) → slice_get t.units.items u ≡ Some x → IsSpan t.rows.items u x.first x.count
+  -- and it has an instance for each live name
+  pub owned : (u : ℕ) (x : TableUnit U) → slice_get t.units.items u ≡ Some x → length (own_rows u 0 t.rows.items) ≡ count_by (λ (b : Bool). b) x.live
   pub rows : (i : ℕ) (r : InstRow) → slice_get t.rows.items i ≡ Some r → RowFits means t.units.items r
   -- each instance is of a dylib that exists, and of a strong definition: none is ever replaced
   pub homes : (i : ℕ) (r : InstRow) → slice_get t.rows.items i ≡ Some r → r.dylib.0 < length t.dylibs.items

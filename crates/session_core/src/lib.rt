@@ -8,7 +8,7 @@
 //!
 //! Inside, `Tables` has the session's things as vectors by their numbers and a hashed table of the
 //! present names of each dylib; `specs/Meant` says what it stands for, `specs/Tied` what keeps it
-//! together. //! Read `session_model` first, for the definitions.
+//! together. Read `session_model` first, for the definitions.
 #![tactic(auto)]
 
 mod calls;
@@ -18,6 +18,7 @@ mod dylibs;
 mod emitting;
 mod entering;
 mod facts;
+mod holding;
 mod jobs;
 mod kinds;
 mod linking;
@@ -25,6 +26,7 @@ mod lodging;
 mod lookups;
 mod names;
 mod placing;
+mod playing;
 mod ready;
 mod replies;
 mod resolving;
@@ -35,7 +37,11 @@ mod stores;
 mod tables;
 mod taken;
 mod taking;
+#[cfg(test)]
+mod tests;
 mod units;
 
+pub use holding::{Finished, Finishes, emit_taken, place_taken};
+pub use playing::{Call, Command, play};
 pub use session::{Imaged, JOURNAL_LIMIT, Offered, Session, Taken};
-pub use taken::{Flags, TakenUnit};
+pub use taken::{Flags, TakenUnit, Told};

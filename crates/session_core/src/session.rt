@@ -1,4 +1,5 @@
-ghost use Rattle.std.specs.Prelude.{◌≡◌, ℕ, Some, Ok, ◌≤◌, ◌+◌, [], length, true, false, nat_lt, IfOk, OnOk, IfErr};
+ghost use Rattle.std.specs.Prelude.{◌≡◌, ℕ, Some, None, Ok, ◌<◌, ◌≤◌, [], ◌∷◌, ◌++◌, length, true, false, IfOk, OnOk, IfErr};
+ghost use Rattle.std.specs.Vec.{vec_len, vec_capacity};
 ghost use Rattle.orc_ids.specs.declared.lookup.Stop.TheVariants as stop;
 ghost use Rattle.session_model.specs.State.{plain_history};
 ghost use Rattle.session_model.specs.History.{IsLegal, HasPlaces};
@@ -6,15 +7,17 @@ ghost use Rattle.session_model.specs.declared.entry.Event.TheVariants as event;
 ghost use Rattle.session_model.specs.Plain.{UnitRow};
 ghost use Rattle.session_model.specs.Answer.{called, Right, unit_shape};
 ghost use Rattle.session_model.specs.declared.entry.Reply.TheVariants as reply;
-ghost use Rattle.session_core.specs.Performs.{state_of, Performs, Collects, Takes};
+ghost use Rattle.session_core.specs.Performs.{state_of, lacks_places, Performs, Collects, Takes};
 ghost use Rattle.session_core.specs.Replies.{may_place, may_emit};
-ghost use Rattle.session_core.specs.Given.{GivesUnit, HandsBack, IsCopied, IsFinish, IsLowest};
+ghost use Rattle.session_core.specs.Given.{BindsUnit, GivesUnit, HandsBack, IsCopied, IsFinish, IsLowest};
+ghost use Rattle.session_core.specs.Holding.{Tells};
 ghost use Rattle.session_core.specs.Strong.{AreStrong};
 
 use crate::kinds::is_unsettled;
+use crate::steps::Said;
 use crate::stores::{step_emit, step_place};
 use crate::tables::Tables;
-use crate::taken::TakenUnit;
+use crate::taken::{TakenUnit, Told};
 use code_memory::{Image, Space};
 use orc_ids::{
     Bytes, DylibId, Groups, Items, Level, NameId, OrderItem, QueryId, SeatNo, Shape, Stop, TrackId,
@@ -49,17 +52,24 @@ impl<U: UnitKind, const JMAX: usize> Model for Session<U, JMAX> {
     ghost invariant = { λ s. IsWhole U.meaning JMAX s.tables s.journal.items (vec_capacity s.journal) s.space };
 }
 
-/// The journal has places for so many more, beside those of the held units.
-fn check_places(limit: usize, entries: usize, held: u32, places: usize) -> Result<(), Stop>
-    requires entries { entries ≤ JOURNAL_LIMIT }
-    requires places { places ≤ 2 }
-    ensures room { OnOk result (nat_lt limit (entries + held + places) ≡ false) }
-    ensures full { IfErr result (λ s. (s ≡ stop.JournalFull entries) × (nat_lt limit (entries + held + places) ≡ true)) }
+/// The entry is written into its place, and the reply handed out.
+fn enter<U: UnitKind>(
+    journal: &mut Vec<Entry<U>>,
+    seat: SeatNo,
+    event: Event<U>,
+    said: Said,
+) -> Reply
+    requires { vec_len journal.old < vec_capacity journal.old }
+    ensures items { journal.new.items ≡ journal.old.items ++ record { seat = seat; event = event; reply = said.entry } ∷ [] }
+    ensures capacity { vec_capacity journal.new ≡ vec_capacity journal.old }
+    ensures reply { result ≡ said.reply }
 {
-    if limit < entries + held as usize + places {
-        return Err(Stop::JournalFull(entries as u64));
-    }
-    Ok(())
+    journal.push_reserved(Entry {
+        seat,
+        event,
+        reply: said.entry,
+    });
+    said.reply
 }
 
 /// The event of an ask, as the journal has it.
@@ -98,6 +108,29 @@ pub struct Imaged {
     pub image: Option<Image>,
 }
 
+impl<U: UnitKind> Taken<U> {
+    /// No job was handed out.
+    fn without(answer: Result<Reply, Stop>) -> Taken<U>
+        ensures answer { result.answer ≡ answer }
+        ensures unit { result.unit ≡ None }
+    {
+        Taken { answer, unit: None }
+    }
+}
+
+impl Imaged {
+    /// No memory was copied.
+    fn without(answer: Result<Reply, Stop>) -> Imaged
+        ensures answer { result.answer ≡ answer }
+        ensures image { result.image ≡ None }
+    {
+        Imaged {
+            answer,
+            image: None,
+        }
+    }
+}
+
 impl<U: UnitKind, const JMAX: usize> Session<U, JMAX> {
     /// An empty session; all places of its journal are taken now.
     pub fn open(alloc: Global) -> Result<Session<U, JMAX>, AllocError>
@@ -122,40 +155,47 @@ impl<U: UnitKind, const JMAX: usize> Session<U, JMAX> {
         self.journal.as_slice()
     }
 
+    /// The journal has places for so many more entries, beside those of the held units.
+    fn check_places(&self, places: usize) -> Result<(), Stop>
+        requires { (1 ≤ places) × (places ≤ 2) }
+        ensures free { OnOk result (length self.now < JMAX) }
+        ensures places { OnOk result (lacks_places U.meaning JMAX self.now places ≡ false) }
+        ensures full { IfErr result (λ why. (why ≡ stop.JournalFull (length self.now)) × (lacks_places U.meaning JMAX self.now places ≡ true)) }
+    {
+        let entries = self.journal.as_slice().len();
+        if JMAX < entries + self.tables.held as usize + places {
+            return Err(Stop::JournalFull(entries as u64));
+        }
+        Ok(())
+    }
+
+    /// What is told of the unit of this number, as it stands, if there is one.
+    pub fn told(&self, u: UnitId) -> Result<Option<Told<U>>, AllocError>
+        ensures { IfOk result (Tells U.meaning (state_of U.meaning self.now) u) }
+    {
+        self.tables.told(u)
+    }
+
     /// Makes a dylib of this name.
     pub fn dylib(&mut self, s: SeatNo, name: NameId) -> Result<Reply, Stop>
         ensures { Performs U.meaning JMAX self.old self.new s (event.Dylib name) result }
     {
-        if let Err(stop) = check_places(JMAX, self.journal.as_slice().len(), self.tables.held, 1) {
-            return Err(stop);
-        }
+        self.check_places(1)?;
         let Ok(said) = self.tables.step_dylib(s, name) else {
             return Err(Stop::NoMemory);
         };
-        self.journal.push_reserved(Entry {
-            seat: s,
-            event: Event::Dylib(name),
-            reply: said.entry,
-        });
-        Ok(said.reply)
+        Ok(enter(&mut self.journal, s, Event::Dylib(name), said))
     }
 
     /// Makes a tracker of the dylib.
     pub fn tracker(&mut self, s: SeatNo, d: DylibId) -> Result<Reply, Stop>
         ensures { Performs U.meaning JMAX self.old self.new s (event.Tracker d) result }
     {
-        if let Err(stop) = check_places(JMAX, self.journal.as_slice().len(), self.tables.held, 1) {
-            return Err(stop);
-        }
+        self.check_places(1)?;
         let Ok(said) = self.tables.step_tracker(s, d) else {
             return Err(Stop::NoMemory);
         };
-        self.journal.push_reserved(Entry {
-            seat: s,
-            event: Event::Tracker(d),
-            reply: said.entry,
-        });
-        Ok(said.reply)
+        Ok(enter(&mut self.journal, s, Event::Tracker(d), said))
     }
 
     /// Looks the wanted names up, in the order of the search order's items (ORC:
@@ -170,57 +210,36 @@ impl<U: UnitKind, const JMAX: usize> Session<U, JMAX> {
     ) -> Result<Reply, Stop>
         ensures { Performs U.meaning JMAX self.old self.new s (event.Ask order.now wanted.now level note) result }
     {
-        if let Err(stop) = check_places(JMAX, self.journal.as_slice().len(), self.tables.held, 1) {
-            return Err(stop);
-        }
+        self.check_places(1)?;
         let Ok(event) = ask_event(self.tables.alloc, order, wanted, level, note) else {
             return Err(Stop::NoMemory);
         };
         let Ok(said) = self.tables.step_ask(s, order, wanted, level, note) else {
             return Err(Stop::NoMemory);
         };
-        self.journal.push_reserved(Entry {
-            seat: s,
-            event,
-            reply: said.entry,
-        });
-        Ok(said.reply)
+        Ok(enter(&mut self.journal, s, event, said))
     }
 
     /// Gives the unit's instances their addresses (ORC: `notifyResolved`).
     pub fn resolve(&mut self, s: SeatNo, u: UnitId) -> Result<Reply, Stop>
         ensures { Performs U.meaning JMAX self.old self.new s (event.Resolve u) result }
     {
-        if let Err(stop) = check_places(JMAX, self.journal.as_slice().len(), self.tables.held, 1) {
-            return Err(stop);
-        }
+        self.check_places(1)?;
         let Ok(said) = self.tables.step_resolve(s, u) else {
             return Err(Stop::NoMemory);
         };
-        self.journal.push_reserved(Entry {
-            seat: s,
-            event: Event::Resolve(u),
-            reply: said.entry,
-        });
-        Ok(said.reply)
+        Ok(enter(&mut self.journal, s, Event::Resolve(u), said))
     }
 
     /// Looks the unit's externals up in the link order of its dylib.
     pub fn link(&mut self, s: SeatNo, u: UnitId) -> Result<Reply, Stop>
         ensures { Performs U.meaning JMAX self.old self.new s (event.Link u) result }
     {
-        if let Err(stop) = check_places(JMAX, self.journal.as_slice().len(), self.tables.held, 1) {
-            return Err(stop);
-        }
+        self.check_places(1)?;
         let Ok(said) = self.tables.step_link(s, u) else {
             return Err(Stop::NoMemory);
         };
-        self.journal.push_reserved(Entry {
-            seat: s,
-            event: Event::Link(u),
-            reply: said.entry,
-        });
-        Ok(said.reply)
+        Ok(enter(&mut self.journal, s, Event::Link(u), said))
     }
 
     /// Defines the unit's symbols in the dylib (ORC: `JITDylib::define`). Each of them is strong and
@@ -230,7 +249,7 @@ impl<U: UnitKind, const JMAX: usize> Session<U, JMAX> {
         ensures performs { (share : U) × (U.meaning share ≡ U.meaning unit) × Performs U.meaning JMAX self.old self.new s (event.Define d t share) result.answer }
         ensures back { HandsBack U.meaning unit result.answer result.back }
     {
-        if let Err(stop) = check_places(JMAX, self.journal.as_slice().len(), self.tables.held, 1) {
+        if let Err(stop) = self.check_places(1) {
             return Offered {
                 answer: Err(stop),
                 back: Some(unit),
@@ -242,13 +261,9 @@ impl<U: UnitKind, const JMAX: usize> Session<U, JMAX> {
                 back: Some(unit),
             },
             Ok(defined) => {
-                self.journal.push_reserved(Entry {
-                    seat: s,
-                    event: Event::Define(d, t, defined.share),
-                    reply: defined.said.entry,
-                });
+                let event = Event::Define(d, t, defined.share);
                 Offered {
-                    answer: Ok(defined.said.reply),
+                    answer: Ok(enter(&mut self.journal, s, event, defined.said)),
                     back: defined.back,
                 }
             }
@@ -259,33 +274,21 @@ impl<U: UnitKind, const JMAX: usize> Session<U, JMAX> {
     /// entry.
     pub fn take(&mut self, s: SeatNo) -> Taken<U>
         ensures performs { Takes U.meaning JMAX self.old self.new s result.answer }
-        ensures unit { GivesUnit U.meaning (state_of U.meaning self.old) result.answer result.unit }
+        ensures unit_before { GivesUnit U.meaning (state_of U.meaning self.old) result.answer result.unit }
+        ensures unit { GivesUnit U.meaning (state_of U.meaning self.new) result.answer result.unit }
+        ensures bound { BindsUnit (state_of U.meaning self.new) result.answer }
     {
         if !self.tables.has_job() {
-            return Taken {
-                answer: Ok(Reply::Idle(self.tables.held)),
-                unit: None,
-            };
+            return Taken::without(Ok(Reply::Idle(self.tables.held)));
         }
-        if let Err(stop) = check_places(JMAX, self.journal.as_slice().len(), self.tables.held, 2) {
-            return Taken {
-                answer: Err(stop),
-                unit: None,
-            };
+        if let Err(stop) = self.check_places(2) {
+            return Taken::without(Err(stop));
         }
         let Ok(taken) = self.tables.step_take(s) else {
-            return Taken {
-                answer: Err(Stop::NoMemory),
-                unit: None,
-            };
+            return Taken::without(Err(Stop::NoMemory));
         };
-        self.journal.push_reserved(Entry {
-            seat: s,
-            event: Event::Take,
-            reply: taken.said.entry,
-        });
         Taken {
-            answer: Ok(taken.said.reply),
+            answer: Ok(enter(&mut self.journal, s, Event::Take, taken.said)),
             unit: Some(taken.unit),
         }
     }
@@ -303,9 +306,7 @@ impl<U: UnitKind, const JMAX: usize> Session<U, JMAX> {
         requires { (x : UnitRow) → called (state_of U.meaning self.old) s.0 u may_emit ≡ Right x → IsFinish (state_of U.meaning self.old) u x groups bytes }
         ensures { Performs U.meaning JMAX self.old self.new s (event.Emit u groups) result }
     {
-        if let Err(stop) = check_places(JMAX, self.journal.as_slice().len(), self.tables.held, 1) {
-            return Err(stop);
-        }
+        self.check_places(1)?;
         let Ok(said) = step_emit(
             &mut self.tables,
             &mut self.space,
@@ -316,12 +317,7 @@ impl<U: UnitKind, const JMAX: usize> Session<U, JMAX> {
         ) else {
             return Err(Stop::NoMemory);
         };
-        self.journal.push_reserved(Entry {
-            seat: s,
-            event: Event::Emit(u, groups),
-            reply: said.entry,
-        });
-        Ok(said.reply)
+        Ok(enter(&mut self.journal, s, Event::Emit(u, groups), said))
     }
 
     /// Takes the end of the query. `Open` comes exactly while it hasn't settled, and makes no entry.
@@ -334,18 +330,11 @@ impl<U: UnitKind, const JMAX: usize> Session<U, JMAX> {
         if is_unsettled(&reply) {
             return Ok(reply);
         }
-        if let Err(stop) = check_places(JMAX, self.journal.as_slice().len(), self.tables.held, 1) {
-            return Err(stop);
-        }
+        self.check_places(1)?;
         let Ok(said) = self.tables.step_collect(s, q, reply) else {
             return Err(Stop::NoMemory);
         };
-        self.journal.push_reserved(Entry {
-            seat: s,
-            event: Event::Collect(q),
-            reply: said.entry,
-        });
-        Ok(said.reply)
+        Ok(enter(&mut self.journal, s, Event::Collect(q), said))
     }
 
     /// Copies the memory for a run.
@@ -353,26 +342,19 @@ impl<U: UnitKind, const JMAX: usize> Session<U, JMAX> {
         ensures performs { Performs U.meaning JMAX self.old self.new s event.Image result.answer }
         ensures image { IsCopied U.meaning self.old result.answer result.image }
     {
-        if let Err(stop) = check_places(JMAX, self.journal.as_slice().len(), self.tables.held, 1) {
-            return Imaged {
-                answer: Err(stop),
-                image: None,
-            };
+        if let Err(stop) = self.check_places(1) {
+            return Imaged::without(Err(stop));
         }
         let Ok(image) = self.space.image() else {
-            return Imaged {
-                answer: Err(Stop::NoMemory),
-                image: None,
-            };
+            return Imaged::without(Err(Stop::NoMemory));
         };
         self.tables.count_entry();
-        self.journal.push_reserved(Entry {
-            seat: s,
-            event: Event::Image,
+        let said = Said {
             reply: Reply::Image,
-        });
+            entry: Reply::Image,
+        };
         Imaged {
-            answer: Ok(Reply::Image),
+            answer: Ok(enter(&mut self.journal, s, Event::Image, said)),
             image: Some(image),
         }
     }
@@ -383,17 +365,10 @@ impl<U: UnitKind, const JMAX: usize> Session<U, JMAX> {
         ensures performs { Performs U.meaning JMAX self.old self.new s (event.Place u shape) result }
         ensures lowest { IfOk result (λ r. IsLowest (state_of U.meaning self.old) shape r) }
     {
-        if let Err(stop) = check_places(JMAX, self.journal.as_slice().len(), self.tables.held, 1) {
-            return Err(stop);
-        }
+        self.check_places(1)?;
         let Ok(said) = step_place(&mut self.tables, &mut self.space, s, u, shape) else {
             return Err(Stop::NoMemory);
         };
-        self.journal.push_reserved(Entry {
-            seat: s,
-            event: Event::Place(u, shape),
-            reply: said.entry,
-        });
-        Ok(said.reply)
+        Ok(enter(&mut self.journal, s, Event::Place(u, shape), said))
     }
 }

@@ -1,6 +1,6 @@
 ghost use Rattle.std.specs.Prelude.{◌≡◌, ◌+◌, ◌<◌, ◌^◌, true, false, ◌∷◌, List, slice_get, Some, Ok, IfOk, OnErr, IfErr};
 ghost use Rattle.session_model.specs.declared.entry.Event.TheVariants as event;
-ghost use Rattle.session_core.specs.Given.{GivesUnit, HandsBack};
+ghost use Rattle.session_core.specs.Given.{BindsUnit, GivesUnit, HandsBack};
 ghost use Rattle.session_core.specs.Ends.{AreEnds};
 ghost use Rattle.session_model.specs.State.{state};
 ghost use Rattle.session_model.specs.declared.entry.Entry.{Entry};
@@ -275,7 +275,9 @@ impl<U: UnitKind> Tables<U> {
         requires jobs { (j : Job) × (js : List Job) × ((meant U.meaning self.old).jobs ≡ j ∷ js) }
         ensures steps { IfOk result (λ x. Steps U.meaning s event.Take x.said.reply self.old self.new) }
         ensures entry { IfOk result (λ x. x.said.entry ≡ x.said.reply) }
-        ensures unit { IfOk result (λ x. GivesUnit U.meaning (meant U.meaning self.old) (Ok x.said.reply) (Some x.unit)) }
+        ensures unit_before { IfOk result (λ x. GivesUnit U.meaning (meant U.meaning self.old) (Ok x.said.reply) (Some x.unit)) }
+        ensures unit { IfOk result (λ x. GivesUnit U.meaning (meant U.meaning self.new) (Ok x.said.reply) (Some x.unit)) }
+        ensures bound { IfOk result (λ x. BindsUnit (meant U.meaning self.new) (Ok x.said.reply)) }
         ensures err { OnErr result (IsSame U.meaning self.old self.new) }
     {
         let said = self.said(self.reply_take()?)?;

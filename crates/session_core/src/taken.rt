@@ -1,6 +1,7 @@
 ghost use Rattle.std.specs.Prelude.{◌≡◌, true, false, [], ◌∷◌, List, slice_get, Some, is_some, IfOk};
 ghost use Rattle.session_model.specs.Change.{bindings_of};
 ghost use Rattle.session_core.specs.Given.{IsUnitOf};
+ghost use Rattle.session_core.specs.Holding.{Tells};
 ghost use Rattle.session_core.specs.Tied.{IsTied};
 ghost use Rattle.session_model.specs.Plain.{UnitRow};
 ghost use Rattle.session_model.specs.declared.rows.Job.{Job};
@@ -11,7 +12,7 @@ use crate::replies::copy_matches;
 use crate::tables::Tables;
 use orc_ids::{InstList, Items, UnitId};
 use session_model::{Finishing, Matches, UnitKind};
-use std::alloc::AllocError;
+use std::alloc::{AllocError, Global};
 
 /// For each name that a unit offers whether it is live.
 pub type Flags = Items<bool>;
@@ -26,6 +27,22 @@ pub struct TakenUnit<U> {
     pub instances: InstList,
     /// Where it is placed, if it is.
     pub base: Option<u64>,
+}
+
+/// A unit as it stands, with its bindings once its job Finish was handed out with them.
+#[derive(Drop)]
+pub struct Told<U> {
+    pub unit: TakenUnit<U>,
+    pub bound: Option<Matches>,
+}
+
+fn copy_bound(alloc: Global, bound: &Option<Matches>) -> Result<Option<Matches>, AllocError>
+    ensures { IfOk result (λ copy. copy ≡ bound.now) }
+{
+    match bound {
+        Some(found) => Ok(Some(copy_matches(alloc, found)?)),
+        None => Ok(None),
+    }
 }
 
 impl<U: UnitKind> Tables<U> {
@@ -65,6 +82,19 @@ impl<U: UnitKind> Tables<U> {
             instances: own,
             base,
         })
+    }
+
+    /// What is told of the unit of this number, if there is one.
+    pub fn told(&self, u: UnitId) -> Result<Option<Told<U>>, AllocError>
+        requires { IsTied U.meaning self.now }
+        ensures { IfOk result (Tells U.meaning (meant U.meaning self.now) u) }
+    {
+        let Some(x) = self.units.get(u.0 as usize) else {
+            return Ok(None);
+        };
+        let bound = copy_bound(self.alloc, &x.bound)?;
+        let unit = self.taken_unit(u)?;
+        Ok(Some(Told { unit, bound }))
     }
 
     /// A copy of the bindings that a link query's end gives.

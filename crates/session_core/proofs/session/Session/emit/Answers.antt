@@ -1,4 +1,4 @@
-use Rattle.std.proofs.Common.{◌≡◌, Some, ◌≤◌, ◌∙◌, List, length, subst, sym, ap, refl, rules}
+use Rattle.std.proofs.Common.{◌≡◌, subst, sym, refl, rules}
 use Rattle.session_model.specs.declared.entry.Event.TheVariants as event
 use Rattle.session_model.specs.Plain.{UnitRow}
 use Rattle.session_model.specs.Answer.{called, Right}
@@ -6,18 +6,10 @@ use Rattle.session_core.specs.Given.{IsFinish}
 use Rattle.session_core.specs.Meant.{meant}
 use Rattle.session_core.specs.Steps.{Steps}
 use Rattle.session_core.specs.Replies.{may_emit}
-use Rattle.session_core.specs.Performs.{state_of, IsStopped, Enters}
-use Rattle.session_core.proofs.Counts.{entries_within, can_be_numbered, stopped_full}
+use Rattle.session_core.specs.Performs.{state_of}
+use Rattle.session_core.proofs.Counts.{can_be_numbered}
 use Rattle.session_core.proofs.Whole.{entered_with, whole_still_with}
 use Rattle.session_core.proofs.session.Session.emit.Goals as goal
-
-pub check_places-requires-clause-entries : goal.check_places-requires-clause-entries
-check_places-requires-clause-entries g c = subst (λ n. n ≤ 1048576) (sym (search rules)) (entries_within g.U.UnitKind.meaning g.row.JMAX c.self.inside.tables c.self.inside.journal.items c.self.invariant.one)
-
-pub returns-in-Err : goal.returns-in-Err
-returns-in-Err g c = subst (λ h. IsStopped g.U.UnitKind.meaning g.row.JMAX h h c.args.s (event.Emit c.args.u c.args.groups) c.in-Err.stop) c.self.view_is
-    (stopped_full g.U.UnitKind.meaning g.row.JMAX c.self.inside.tables c.self.inside.journal.items c.args.s (event.Emit c.args.u c.args.groups) 1 c.in-Err.stop c.self.invariant.one refl
-    (search rules))
 
 pub step_emit-requires-clause-numbered : goal.step_emit-requires-clause-numbered
 step_emit-requires-clause-numbered g c = can_be_numbered g.U.UnitKind.meaning g.row.JMAX c.self.inside.tables c.self.inside.journal.items c.self.invariant.one
@@ -31,10 +23,9 @@ pub invariant_of-self : goal.invariant_of-self
 invariant_of-self g c = whole_still_with g.U.UnitKind.meaning g.row.JMAX c.self.inside.tables c.step_emit.new.t c.self.inside.journal.items _ c.self.inside.space c.step_emit.new.space c.self.invariant (search rules) c.step_emit.ensures.stored
 
 pub invariant_of-self-2 : goal.invariant_of-self-2
-invariant_of-self-2 g c = (entered_with g.U.UnitKind.meaning g.row.JMAX c.self.inside.tables c.step_emit.new.t c.self.inside.journal.items c.push_reserved.new.self.items _ _ c.self.inside.space c.step_emit.new.space c.args.s (event.Emit c.args.u c.args.groups) c.in-Ok.said.reply c.in-Ok.said.entry 1 c.self.invariant refl
-    (search rules) (subst (λ bs. Steps g.U.UnitKind.meaning c.args.s (event.Emit c.args.u bs) c.in-Ok.said.reply c.self.inside.tables c.step_emit.new.t) (search rules) c.in-Ok.ensures.steps) c.step_emit.ensures.stored c.in-Ok.ensures.entry c.push_reserved.ensures.items c.push_reserved.ensures.capacity).0
+invariant_of-self-2 g c = (entered_with g.U.UnitKind.meaning g.row.JMAX c.self.inside.tables c.step_emit.new.t c.self.inside.journal.items _ c.enter.new.journal.items _ _ c.self.inside.space c.step_emit.new.space c.args.s (event.Emit c.args.u c.args.groups) c.in-Ok.said.reply c.in-Ok.said.entry _ 1 c.self.view_is c.self.invariant refl
+    (search rules) (subst (λ bs. Steps g.U.UnitKind.meaning c.args.s (event.Emit c.args.u bs) c.in-Ok.said.reply c.self.inside.tables c.step_emit.new.t) (search rules) c.in-Ok.ensures.steps) c.step_emit.ensures.stored c.in-Ok.ensures.entry c.enter.ensures.items c.enter.ensures.capacity c.enter.ensures.reply).0
 
 pub returns : goal.returns
-returns g c = subst (λ h. Enters g.U.UnitKind.meaning g.row.JMAX h c.push_reserved.new.self.items (record { seat = c.args.s; event = event.Emit c.args.u c.args.groups; reply = c.in-Ok.said.reply })) c.self.view_is
-    (entered_with g.U.UnitKind.meaning g.row.JMAX c.self.inside.tables c.step_emit.new.t c.self.inside.journal.items c.push_reserved.new.self.items _ _ c.self.inside.space c.step_emit.new.space c.args.s (event.Emit c.args.u c.args.groups) c.in-Ok.said.reply c.in-Ok.said.entry 1 c.self.invariant refl
-    (search rules) (subst (λ bs. Steps g.U.UnitKind.meaning c.args.s (event.Emit c.args.u bs) c.in-Ok.said.reply c.self.inside.tables c.step_emit.new.t) (search rules) c.in-Ok.ensures.steps) c.step_emit.ensures.stored c.in-Ok.ensures.entry c.push_reserved.ensures.items c.push_reserved.ensures.capacity).1
+returns g c = (entered_with g.U.UnitKind.meaning g.row.JMAX c.self.inside.tables c.step_emit.new.t c.self.inside.journal.items _ c.enter.new.journal.items _ _ c.self.inside.space c.step_emit.new.space c.args.s (event.Emit c.args.u c.args.groups) c.in-Ok.said.reply c.in-Ok.said.entry _ 1 c.self.view_is c.self.invariant refl
+    (search rules) (subst (λ bs. Steps g.U.UnitKind.meaning c.args.s (event.Emit c.args.u bs) c.in-Ok.said.reply c.self.inside.tables c.step_emit.new.t) (search rules) c.in-Ok.ensures.steps) c.step_emit.ensures.stored c.in-Ok.ensures.entry c.enter.ensures.items c.enter.ensures.capacity c.enter.ensures.reply).1

@@ -1,0 +1,21 @@
+use Rattle.std.proofs.Common.{◌≡◌, ℕ, zero, suc, List, [], ◌∷◌, slice_get, Some, refl, subst, sym, ◌∙◌, append-nil, arith, rules}
+use Rattle.std.specs.Prelude.{IsPermutation}
+use Rattle.std.proofs.lemmas.List.{length-replicate}
+use Rattle.std.proofs.lemmas.List.Sorted.{IsPermutation-refl}
+use Rattle.std.proofs.lemmas.Option.{none-some}
+use Rattle.orc_ids.specs.declared.ids.InstId.{InstId}
+use Rattle.session_core.proofs.tests.MainUnitKind.known.Goals as goal
+
+-- a list of one has no other place
+first_place : {X : Type 0} (x a : X) (k : ℕ) → slice_get (x ∷ []) k ≡ Some a → k ≡ 0
+first_place x a zero e = refl
+first_place x a (suc k) e = absurd (none-some a e)
+
+pub returns : goal.returns
+returns c = record {
+  differ = λ j k a b e f same. first_place _ a j e ∙ sym (first_place _ b k f);
+  members = λ live base bound own fits. subst (λ (xs : List InstId). IsPermutation xs own) (sym (append-nil own)) (IsPermutation-refl own);
+  deps = λ live base bound own fits. search rules;
+  shape = λ live. ((omega arith), (4, refl));
+  image = λ live base bound. length-replicate {A = ℕ} 48 7;
+}

@@ -1,0 +1,102 @@
+//! What the holder of a unit calls: its own place, and its own emission.
+
+ghost use Rattle.std.specs.Prelude.{◌≡◌, List, length, slice_get, Some, IfOk, IfSome, IfNone, unwrap_or};
+ghost use Rattle.orc_ids.specs.declared.groups.Group.{Group};
+ghost use Rattle.session_model.specs.Plain.{UnitRow};
+ghost use Rattle.session_model.specs.declared.entry.Event.TheVariants as event;
+ghost use Rattle.session_core.specs.Given.{IsUnitOf};
+ghost use Rattle.session_core.specs.Holding.{IsFinished, own_shape};
+ghost use Rattle.session_core.specs.Performs.{state_of, Performs};
+
+use crate::session::Session;
+use crate::taken::TakenUnit;
+use orc_ids::{Bytes, Groups, InstId, SeatNo, Shape, Stop, UnitId};
+use session_model::{Matches, Reply, UnitKind};
+use std::alloc::{AllocError, Global};
+
+/// What an emission hands in.
+#[derive(Drop)]
+pub struct Finished {
+    pub groups: Groups,
+    pub bytes: Bytes,
+}
+
+/// A unit that makes what its emission hands in.
+pub trait Finishes: UnitKind {
+    /// The unit's groups and bytes for these live names, this base, these bindings and these
+    /// instances; none where it can't be finished so.
+    fn finish(
+        &self,
+        alloc: Global,
+        live: &[bool],
+        base: u64,
+        bound: &[Option<(InstId, u64)>],
+        own: &[InstId],
+    ) -> Result<Option<Finished>, AllocError>
+        ensures { IfOk result (λ made. IfSome made (IsFinished (Self.meaning self.now) live.now base bound.now own.now)) };
+}
+
+/// No memory.
+const NOTHING: Shape = Shape { need: 0, align: 1 };
+
+/// The memory that the unit needs, which may be none.
+fn shape_of<U: UnitKind>(taken: &TakenUnit<U>) -> Shape
+    requires { length taken.now.live ≡ length (U.meaning taken.now.share).offers }
+    ensures { result ≡ own_shape U.meaning taken.now }
+{
+    taken.share.shape(taken.live.as_slice()).unwrap_or(NOTHING)
+}
+
+/// The unit's groups and bytes.
+fn finish_taken<U: Finishes>(
+    alloc: Global,
+    taken: &TakenUnit<U>,
+    bound: &Matches,
+) -> Result<Option<Finished>, AllocError>
+    ensures { IfOk result (λ made. IfSome made (IsFinished (U.meaning taken.now.share) taken.now.live (unwrap_or taken.now.base 0) bound.now taken.now.instances)) }
+{
+    taken.share.finish(
+        alloc,
+        taken.live.as_slice(),
+        taken.base.unwrap_or(0),
+        bound.as_slice(),
+        taken.instances.as_slice(),
+    )
+}
+
+/// Places a unit that was taken, in its own shape.
+pub fn place_taken<U: UnitKind, const JMAX: usize>(
+    session: &mut Session<U, JMAX>,
+    s: SeatNo,
+    u: UnitId,
+    taken: &TakenUnit<U>,
+) -> Result<Reply, Stop>
+    requires { IsUnitOf U.meaning (state_of U.meaning session.old) u taken.now }
+    ensures { Performs U.meaning JMAX session.old session.new s (event.Place u (own_shape U.meaning taken.now)) result }
+{
+    session.place(s, u, shape_of(taken))
+}
+
+/// Emits a unit that was taken with these bindings, with its own groups and bytes. There is no answer
+/// where it can't be finished so.
+pub fn emit_taken<U: Finishes, const JMAX: usize>(
+    alloc: Global,
+    session: &mut Session<U, JMAX>,
+    s: SeatNo,
+    u: UnitId,
+    taken: &TakenUnit<U>,
+    bound: &Matches,
+) -> Option<Result<Reply, Stop>>
+    requires unit { IsUnitOf U.meaning (state_of U.meaning session.old) u taken.now }
+    requires bound { (x : UnitRow) → slice_get (state_of U.meaning session.old).units u.0 ≡ Some x → x.bound ≡ Some bound.now }
+    ensures performs { IfSome result (λ answer. (groups : List Group) × Performs U.meaning JMAX session.old session.new s (event.Emit u groups) answer) }
+    ensures unfinished { IfNone result (session.new ≡ session.old) }
+{
+    let Ok(finished) = finish_taken(alloc, taken, bound) else {
+        return Some(Err(Stop::NoMemory));
+    };
+    let Some(made) = finished else {
+        return None;
+    };
+    Some(session.emit(s, u, made.groups, made.bytes))
+}

@@ -1,0 +1,167 @@
+//! Lists of calls, whose replies are read in the journal.
+
+ghost use Rattle.std.specs.Prelude.{◌≡◌};
+
+use super::{Main, OTHER, SEAT, asks, emits, resolves};
+use crate::{Call, Command, Session, play};
+use orc_ids::{DylibId, Items, Level, NameId, OrderItem, QueryId, Scope, TrackId, UnitId, Wanted};
+use session_model::{Entry, Event, Order, Reply, WantedList};
+use std::alloc::{AllocError, Global};
+use std::test::Fail;
+
+/// The replies of one lookup.
+const LOOKUP: [&str; 12] = [
+    "Made(DylibId(0))",
+    "Tracker(TrackId(0))",
+    "Defined(UnitId(0), InstId(0), 1)",
+    "Pending(QueryId(0))",
+    "Start(UnitId(0))",
+    "Placed(268435456)",
+    "Resolved",
+    "Done(QueryId(1))",
+    "Finish(UnitId(0), Bound(Items { items: [] }))",
+    "Emitted",
+    "Found(10, Items { items: [Some((InstId(0), 268435456))] })",
+    "Image",
+];
+
+/// The replies where another seat places and emits the unit before its holder does.
+const HELD: [&str; 8] = [
+    "Start(UnitId(0))",
+    "WrongPhase(UnitId(0))",
+    "Placed(268435456)",
+    "Resolved",
+    "Done(QueryId(1))",
+    "Finish(UnitId(0), Bound(Items { items: [] }))",
+    "WrongPhase(UnitId(0))",
+    "Emitted",
+];
+
+/// A call of the seat.
+fn call(command: Command<Main>) -> Call<Main>
+    ensures { result ≡ record { seat = SEAT; command = command } }
+{
+    Call {
+        seat: SEAT,
+        command,
+    }
+}
+
+/// A call of the other seat.
+fn other(command: Command<Main>) -> Call<Main>
+    ensures { result ≡ record { seat = OTHER; command = command } }
+{
+    Call {
+        seat: OTHER,
+        command,
+    }
+}
+
+/// The first dylib, and `main`.
+fn lookup(alloc: Global) -> Result<(Order, WantedList), AllocError> {
+    let item = OrderItem {
+        dylib: DylibId(0),
+        scope: Scope::All,
+    };
+    let name = Wanted {
+        name: NameId(0),
+        weak: false,
+    };
+    let order = Items::from_vec(vec![in alloc; item]?);
+    Ok((order, Items::from_vec(vec![in alloc; name]?)))
+}
+
+/// The replies from this entry on read so.
+fn reply_so<const JMAX: usize>(
+    alloc: Global,
+    session: &Session<Main, JMAX>,
+    from: usize,
+    replies: &[&str],
+) -> Result<bool, Fail> {
+    for (entry, reply) in session.journal().iter().skip(from).zip(replies) {
+        if format!(in alloc; "{:?}", entry.reply)?.as_str() != *reply {
+            return Ok(false);
+        }
+    }
+    Ok(true)
+}
+
+#[test]
+fn the_lookup_as_a_list(rt: HostRuntime) -> Result<(), Fail> {
+    let alloc = rt.alloc();
+    let mut session = Session::<Main, 64>::open(alloc)?;
+    let (order, wanted) = lookup(alloc)?;
+    let calls = [
+        call(Command::Dylib(NameId(7))),
+        call(Command::Tracker(DylibId(0))),
+        call(Command::Define(DylibId(0), TrackId(0), Main)),
+        call(Command::Ask(order, wanted, Level::Ready, None)),
+        call(Command::Take),
+        call(Command::Place(UnitId(0))),
+        call(Command::Resolve(UnitId(0))),
+        call(Command::Link(UnitId(0))),
+        call(Command::Take),
+        call(Command::Emit(UnitId(0))),
+        call(Command::Collect(QueryId(0))),
+        call(Command::Image),
+    ];
+    assert_eq!(rt; play(alloc, &mut session, &calls), 12);
+    assert!(rt; reply_so(alloc, &session, 0, &LOOKUP)?);
+    Ok(())
+}
+
+#[test]
+fn another_seat_does_not_hold_the_unit(rt: HostRuntime) -> Result<(), Fail> {
+    let alloc = rt.alloc();
+    let mut session = Session::<Main, 64>::open(alloc)?;
+    assert!(rt; asks(&mut session));
+    let calls = [
+        call(Command::Take),
+        other(Command::Place(UnitId(0))),
+        call(Command::Place(UnitId(0))),
+        call(Command::Resolve(UnitId(0))),
+        call(Command::Link(UnitId(0))),
+        call(Command::Take),
+        other(Command::Emit(UnitId(0))),
+        call(Command::Emit(UnitId(0))),
+    ];
+    assert_eq!(rt; play(alloc, &mut session, &calls), 12);
+    assert!(rt; reply_so(alloc, &session, 4, &HELD)?);
+    Ok(())
+}
+
+/// The unit is neither placed nor emitted now.
+fn has_no_turn<const JMAX: usize>(alloc: Global, session: &mut Session<Main, JMAX>) -> bool {
+    let calls = [
+        call(Command::Place(UnitId(0))),
+        call(Command::Emit(UnitId(0))),
+    ];
+    play(alloc, session, &calls);
+    let [.., placed, emitted] = session.journal() else {
+        return false;
+    };
+    is_wrong_place(placed) && is_wrong_emit(emitted)
+}
+
+fn is_wrong_place(entry: &Entry<Main>) -> bool {
+    matches!(entry.event, Event::Place(UnitId(0), _))
+        && matches!(entry.reply, Reply::WrongPhase(UnitId(0)))
+}
+
+fn is_wrong_emit(entry: &Entry<Main>) -> bool {
+    matches!(entry.event, Event::Emit(UnitId(0), _))
+        && matches!(entry.reply, Reply::WrongPhase(UnitId(0)))
+}
+
+#[test]
+fn places_and_emissions_out_of_turn(rt: HostRuntime) -> Result<(), Fail> {
+    let mut session = Session::<Main, 64>::open(rt.alloc())?;
+    assert!(rt; asks(&mut session));
+    assert!(rt; has_no_turn(rt.alloc(), &mut session));
+    assert!(rt; resolves(&mut session));
+    assert!(rt; has_no_turn(rt.alloc(), &mut session));
+    assert!(rt; emits(rt.alloc(), &mut session));
+    assert!(rt; has_no_turn(rt.alloc(), &mut session));
+    assert_eq!(rt; session.journal().len(), 16);
+    Ok(())
+}
