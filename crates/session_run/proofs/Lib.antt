@@ -1,0 +1,11 @@
+pub mod Rows
+pub mod Onward
+pub mod Right
+pub mod Named
+pub mod Runs
+pub mod Calling
+pub mod Stepping
+pub mod Determined
+pub mod Places
+pub mod Wents
+pub mod Driving
