@@ -1,6 +1,6 @@
 //! One lookup of a unit of 48 bytes, call by call, and the other replies of the same calls.
 
-ghost use Rattle.std.specs.Prelude.{false, true, [], ◌∷◌, cond, slice_get, unwrap_or, replicate, Some, None};
+ghost use Rattle.std.specs.Prelude.{false, true, [], ◌∷◌, replicate, Some, None, cond, slice_get, unwrap_or};
 ghost use Rattle.orc_ids.specs.declared.ids.UnitName.TheVariants.{Absolute};
 
 mod lists;
@@ -117,25 +117,54 @@ fn ask<const JMAX: usize>(
     session.ask(SEAT, &[item], &[wanted], Level::Ready, None)
 }
 
+/// The answer is printed so.
+fn reads(alloc: Global, answer: Result<Reply, Stop>, text: &str) -> bool {
+    let Ok(printed) = format!(in alloc; "{answer:?}") else {
+        return false;
+    };
+    printed.as_str() == text
+}
+
+/// The definition's answer is printed so, and the unit comes back.
+fn is_refused(alloc: Global, offered: Offered<Main>, text: &str) -> bool {
+    offered.back.is_some() && reads(alloc, offered.answer, text)
+}
+
+/// The take's answer is printed so, and it hands out no unit.
+fn takes_none(alloc: Global, taken: Taken<Main>, text: &str) -> bool {
+    taken.unit.is_none() && reads(alloc, taken.answer, text)
+}
+
 /// The first four calls: a dylib, a tracker, a definition and a lookup.
-fn asks<const JMAX: usize>(session: &mut Session<Main, JMAX>) -> bool {
-    matches!(session.dylib(SEAT, NameId(7)), Ok(Reply::Made(DylibId(0))))
-        && matches!(
-            session.tracker(SEAT, DylibId(0)),
-            Ok(Reply::Tracker(TrackId(0)))
-        )
-        && matches!(
-            session.define(SEAT, DylibId(0), TrackId(0), Main).answer,
-            Ok(Reply::Defined(UnitId(0), InstId(0), 1))
-        )
-        && matches!(
+fn asks<const JMAX: usize>(alloc: Global, session: &mut Session<Main, JMAX>) -> bool {
+    reads(
+        alloc,
+        session.dylib(SEAT, NameId(7)),
+        "Ok(Made(DylibId(0)))",
+    ) && reads(
+        alloc,
+        session.tracker(SEAT, DylibId(0)),
+        "Ok(Tracker(TrackId(0)))",
+    ) && defines(alloc, session)
+        && reads(
+            alloc,
             ask(session, DylibId(0), NameId(0)),
-            Ok(Reply::Pending(QueryId(0)))
+            "Ok(Pending(QueryId(0)))",
         )
 }
 
+/// The unit is defined.
+fn defines<const JMAX: usize>(alloc: Global, session: &mut Session<Main, JMAX>) -> bool {
+    let offered = session.define(SEAT, DylibId(0), TrackId(0), Main);
+    reads(
+        alloc,
+        offered.answer,
+        "Ok(Defined(UnitId(0), InstId(0), 1))",
+    )
+}
+
 /// The next three: the unit is taken, placed and resolved.
-fn resolves<const JMAX: usize>(session: &mut Session<Main, JMAX>) -> bool {
+fn resolves<const JMAX: usize>(alloc: Global, session: &mut Session<Main, JMAX>) -> bool {
     let Taken { answer, unit } = session.take(SEAT);
     let Ok(Reply::Start(u)) = answer else {
         return false;
@@ -143,53 +172,43 @@ fn resolves<const JMAX: usize>(session: &mut Session<Main, JMAX>) -> bool {
     let Some(taken) = unit else {
         return false;
     };
-    matches!(
-        place_taken(session, SEAT, u, &taken),
-        Ok(Reply::Placed(0x1000_0000))
-    ) && matches!(session.resolve(SEAT, u), Ok(Reply::Resolved))
+    let placed = place_taken(session, SEAT, u, &taken);
+    reads(alloc, placed, "Ok(Placed(268435456))")
+        && reads(alloc, session.resolve(SEAT, u), "Ok(Resolved)")
 }
 
 /// The next three: it is linked, taken again and emitted.
 fn emits<const JMAX: usize>(alloc: Global, session: &mut Session<Main, JMAX>) -> bool {
-    if !matches!(session.link(SEAT, UnitId(0)), Ok(Reply::Done(QueryId(1)))) {
-        return false;
-    }
+    reads(alloc, session.link(SEAT, UnitId(0)), "Ok(Done(QueryId(1)))") && finishes(alloc, session)
+}
+
+/// The unit is taken with its bindings, and emitted.
+fn finishes<const JMAX: usize>(alloc: Global, session: &mut Session<Main, JMAX>) -> bool {
     let Taken { answer, unit } = session.take(SEAT);
-    let Ok(Reply::Finish(u, how)) = answer else {
-        return false;
-    };
-    let Finishing::Bound(bound) = how else {
+    let Ok(Reply::Finish(u, Finishing::Bound(bound))) = answer else {
         return false;
     };
     let Some(taken) = unit else {
         return false;
     };
-    matches!(
-        emit_taken(alloc, session, SEAT, u, &taken, &bound),
-        Some(Ok(Reply::Emitted))
-    )
-}
-
-/// The lookup's end, at entry 10.
-fn collects<const JMAX: usize>(session: &mut Session<Main, JMAX>) -> bool {
-    match session.collect(SEAT, QueryId(0)) {
-        Ok(Reply::Found(10, found)) => {
-            found.len() == 1 && matches!(found.as_slice()[0], Some((InstId(0), 0x1000_0000)))
-        }
-        _ => false,
-    }
+    let Some(emitted) = emit_taken(alloc, session, SEAT, u, &taken, &bound) else {
+        return false;
+    };
+    reads(alloc, emitted, "Ok(Emitted)")
 }
 
 #[test]
 fn one_lookup_is_twelve_entries(rt: HostRuntime) -> Result<(), Fail> {
-    let mut session = Session::<Main, 64>::open(rt.alloc())?;
-    assert!(rt; asks(&mut session));
+    let alloc = rt.alloc();
+    let mut session = Session::<Main, 64>::open(alloc)?;
+    assert!(rt; asks(alloc, &mut session));
     assert_eq!(rt; session.journal().len(), 4);
-    assert!(rt; resolves(&mut session));
+    assert!(rt; resolves(alloc, &mut session));
     assert_eq!(rt; session.journal().len(), 7);
-    assert!(rt; emits(rt.alloc(), &mut session));
+    assert!(rt; emits(alloc, &mut session));
     assert_eq!(rt; session.journal().len(), 10);
-    assert!(rt; collects(&mut session));
+    let found = "Ok(Found(10, Items { items: [Some((InstId(0), 268435456))] }))";
+    assert!(rt; reads(alloc, session.collect(SEAT, QueryId(0)), found));
     let image = session.image(SEAT).image.ok_or("no image")?;
     assert_eq!(rt; image.count(), 1);
     assert_eq!(rt; image.base(0), 0x1000_0000);
@@ -200,132 +219,104 @@ fn one_lookup_is_twelve_entries(rt: HostRuntime) -> Result<(), Fail> {
 
 #[test]
 fn calls_before_there_is_anything(rt: HostRuntime) -> Result<(), Fail> {
-    let mut session = Session::<Main, 64>::open(rt.alloc())?;
-    assert!(rt; matches!(session.take(SEAT).answer, Ok(Reply::Idle(0))));
-    assert!(rt;
-        matches!(
-            session.tracker(SEAT, DylibId(0)),
-            Ok(Reply::NoDylib(DylibId(0)))
-        )
-    );
-    assert!(rt;
-        matches!(
-            ask(&mut session, DylibId(4), NameId(0)),
-            Ok(Reply::NoDylib(DylibId(4)))
-        )
-    );
-    assert!(rt;
-        matches!(
-            session.resolve(SEAT, UnitId(0)),
-            Ok(Reply::WrongPhase(UnitId(0)))
-        )
-    );
-    assert!(rt;
-        matches!(
-            session.link(SEAT, UnitId(0)),
-            Ok(Reply::WrongPhase(UnitId(0)))
-        )
-    );
-    assert!(rt;
-        matches!(
-            session.collect(SEAT, QueryId(0)),
-            Ok(Reply::Unknown(QueryId(0)))
-        )
-    );
+    let alloc = rt.alloc();
+    let mut session = Session::<Main, 64>::open(alloc)?;
+    let (d, u, q) = (DylibId(0), UnitId(0), QueryId(0));
+    assert!(rt; takes_none(alloc, session.take(SEAT), "Ok(Idle(0))"));
+    assert!(rt; reads(alloc, session.tracker(SEAT, d), "Ok(NoDylib(DylibId(0)))"));
+    let asked = ask(&mut session, DylibId(4), NameId(0));
+    assert!(rt; reads(alloc, asked, "Ok(NoDylib(DylibId(4)))"));
+    assert!(rt; reads(alloc, session.resolve(SEAT, u), "Ok(WrongPhase(UnitId(0)))"));
+    assert!(rt; reads(alloc, session.link(SEAT, u), "Ok(WrongPhase(UnitId(0)))"));
+    assert!(rt; reads(alloc, session.collect(SEAT, q), "Ok(Unknown(QueryId(0)))"));
     assert_eq!(rt; session.journal().len(), 5);
-    Ok(())
-}
-
-/// A definition is refused, and the unit comes back.
-fn is_refused(offered: &Offered<Main>) -> bool {
-    offered.back.is_some()
-}
-
-#[test]
-fn names_and_units_that_are_there(rt: HostRuntime) -> Result<(), Fail> {
-    let mut session = Session::<Main, 64>::open(rt.alloc())?;
-    assert!(rt; asks(&mut session));
-    assert!(rt;
-        matches!(
-            session.dylib(SEAT, NameId(7)),
-            Ok(Reply::NameTaken(DylibId(0)))
-        )
-    );
-    assert!(rt;
-        matches!(
-            ask(&mut session, DylibId(0), NameId(9)),
-            Ok(Reply::Missing(NameId(9)))
-        )
-    );
-    let again = session.define(SEAT, DylibId(0), TrackId(0), Main);
-    assert!(rt; matches!(again.answer, Ok(Reply::Duplicate(NameId(0), InstId(0)))));
-    assert!(rt; is_refused(&again));
-    let gone = session.define(SEAT, DylibId(0), TrackId(1), Main);
-    assert!(rt; matches!(gone.answer, Ok(Reply::TrackerGone(TrackId(1)))));
-    assert!(rt; is_refused(&gone));
-    assert!(rt;
-        matches!(
-            session.resolve(SEAT, UnitId(0)),
-            Ok(Reply::WrongPhase(UnitId(0)))
-        )
-    );
-    assert!(rt; matches!(session.collect(SEAT, QueryId(0)), Ok(Reply::Open)));
-    assert!(rt; resolves(&mut session));
-    assert!(rt; matches!(session.take(SEAT).answer, Ok(Reply::Idle(1))));
-    Ok(())
-}
-
-#[test]
-fn a_full_journal_stops_the_calls(rt: HostRuntime) -> Result<(), Fail> {
-    let mut session = Session::<Main, 4>::open(rt.alloc())?;
-    assert!(rt; asks(&mut session));
-    assert!(rt; matches!(session.dylib(SEAT, NameId(8)), Err(Stop::JournalFull(4))));
-    assert!(rt; matches!(session.take(SEAT).answer, Err(Stop::JournalFull(4))));
-    assert!(rt; matches!(session.image(SEAT).answer, Err(Stop::JournalFull(4))));
-    assert!(rt; matches!(session.collect(SEAT, QueryId(0)), Ok(Reply::Open)));
-    assert!(rt; matches!(session.collect(SEAT, QueryId(1)), Err(Stop::JournalFull(4))));
-    assert!(rt; is_refused(&session.define(SEAT, DylibId(0), TrackId(0), Main)));
-    assert_eq!(rt; session.journal().len(), 4);
-    Ok(())
-}
-
-#[test]
-fn a_journal_of_eight_is_full_at_the_link(rt: HostRuntime) -> Result<(), Fail> {
-    let mut session = Session::<Main, 8>::open(rt.alloc())?;
-    assert!(rt; asks(&mut session));
-    assert!(rt; resolves(&mut session));
-    assert!(rt; matches!(session.link(SEAT, UnitId(0)), Err(Stop::JournalFull(7))));
-    assert_eq!(rt; session.journal().len(), 7);
     Ok(())
 }
 
 #[test]
 fn a_definition_in_no_dylib(rt: HostRuntime) -> Result<(), Fail> {
-    let mut session = Session::<Main, 64>::open(rt.alloc())?;
+    let alloc = rt.alloc();
+    let mut session = Session::<Main, 64>::open(alloc)?;
     let offered = session.define(SEAT, DylibId(5), TrackId(0), Main);
-    assert!(rt; matches!(offered.answer, Ok(Reply::NoDylib(DylibId(5)))));
-    assert!(rt; is_refused(&offered));
+    assert!(rt; is_refused(alloc, offered, "Ok(NoDylib(DylibId(5)))"));
     assert_eq!(rt; session.journal().len(), 1);
     Ok(())
 }
 
 #[test]
-fn another_seat_is_idle_too(rt: HostRuntime) -> Result<(), Fail> {
-    let mut session = Session::<Main, 64>::open(rt.alloc())?;
-    assert!(rt; asks(&mut session));
-    assert!(rt; resolves(&mut session));
-    assert!(rt; matches!(session.take(OTHER).answer, Ok(Reply::Idle(1))));
-    assert_eq!(rt; session.journal().len(), 7);
+fn names_that_are_there(rt: HostRuntime) -> Result<(), Fail> {
+    let alloc = rt.alloc();
+    let mut session = Session::<Main, 64>::open(alloc)?;
+    assert!(rt; asks(alloc, &mut session));
+    let again = session.dylib(SEAT, NameId(7));
+    assert!(rt; reads(alloc, again, "Ok(NameTaken(DylibId(0)))"));
+    let missing = ask(&mut session, DylibId(0), NameId(9));
+    assert!(rt; reads(alloc, missing, "Ok(Missing(NameId(9)))"));
+    let twice = session.define(SEAT, DylibId(0), TrackId(0), Main);
+    assert!(rt; is_refused(alloc, twice, "Ok(Duplicate(NameId(0), InstId(0)))"));
+    let gone = session.define(SEAT, DylibId(0), TrackId(1), Main);
+    assert!(rt; is_refused(alloc, gone, "Ok(TrackerGone(TrackId(1)))"));
+    assert_eq!(rt; session.journal().len(), 8);
+    Ok(())
+}
+
+#[test]
+fn a_unit_that_waits(rt: HostRuntime) -> Result<(), Fail> {
+    let alloc = rt.alloc();
+    let mut session = Session::<Main, 64>::open(alloc)?;
+    assert!(rt; asks(alloc, &mut session));
+    let resolved = session.resolve(SEAT, UnitId(0));
+    assert!(rt; reads(alloc, resolved, "Ok(WrongPhase(UnitId(0)))"));
+    assert!(rt; reads(alloc, session.collect(SEAT, QueryId(0)), "Ok(Open)"));
+    assert!(rt; resolves(alloc, &mut session));
+    assert!(rt; takes_none(alloc, session.take(SEAT), "Ok(Idle(1))"));
+    assert!(rt; takes_none(alloc, session.take(OTHER), "Ok(Idle(1))"));
+    assert_eq!(rt; session.journal().len(), 8);
+    Ok(())
+}
+
+#[test]
+fn a_full_journal_stops_the_calls(rt: HostRuntime) -> Result<(), Fail> {
+    let alloc = rt.alloc();
+    let mut session = Session::<Main, 4>::open(alloc)?;
+    let full = "Err(JournalFull(4))";
+    assert!(rt; asks(alloc, &mut session));
+    assert!(rt; reads(alloc, session.dylib(SEAT, NameId(8)), full));
+    assert!(rt; takes_none(alloc, session.take(SEAT), full));
+    assert!(rt; reads(alloc, session.image(SEAT).answer, full));
+    assert!(rt; reads(alloc, session.collect(SEAT, QueryId(0)), "Ok(Open)"));
+    assert!(rt; reads(alloc, session.collect(SEAT, QueryId(1)), full));
+    let offered = session.define(SEAT, DylibId(0), TrackId(0), Main);
+    assert!(rt; is_refused(alloc, offered, full));
+    assert_eq!(rt; session.journal().len(), 4);
     Ok(())
 }
 
 #[test]
 fn a_journal_of_five_has_one_place_left(rt: HostRuntime) -> Result<(), Fail> {
-    let mut session = Session::<Main, 5>::open(rt.alloc())?;
-    assert!(rt; asks(&mut session));
-    assert!(rt; matches!(session.take(SEAT).answer, Err(Stop::JournalFull(4))));
-    assert!(rt; matches!(session.dylib(SEAT, NameId(8)), Ok(Reply::Made(DylibId(1)))));
-    assert!(rt; matches!(session.dylib(SEAT, NameId(9)), Err(Stop::JournalFull(5))));
+    let alloc = rt.alloc();
+    let mut session = Session::<Main, 5>::open(alloc)?;
+    assert!(rt; asks(alloc, &mut session));
+    assert!(rt; takes_none(alloc, session.take(SEAT), "Err(JournalFull(4))"));
+    assert!(rt;
+        reads(
+            alloc,
+            session.dylib(SEAT, NameId(8)),
+            "Ok(Made(DylibId(1)))"
+        )
+    );
+    assert!(rt; reads(alloc, session.dylib(SEAT, NameId(9)), "Err(JournalFull(5))"));
     assert_eq!(rt; session.journal().len(), 5);
+    Ok(())
+}
+
+#[test]
+fn a_journal_of_eight_is_full_at_the_link(rt: HostRuntime) -> Result<(), Fail> {
+    let alloc = rt.alloc();
+    let mut session = Session::<Main, 8>::open(alloc)?;
+    assert!(rt; asks(alloc, &mut session));
+    assert!(rt; resolves(alloc, &mut session));
+    assert!(rt; reads(alloc, session.link(SEAT, UnitId(0)), "Err(JournalFull(7))"));
+    assert_eq!(rt; session.journal().len(), 7);
     Ok(())
 }

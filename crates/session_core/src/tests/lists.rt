@@ -114,7 +114,7 @@ fn the_lookup_as_a_list(rt: HostRuntime) -> Result<(), Fail> {
 fn another_seat_does_not_hold_the_unit(rt: HostRuntime) -> Result<(), Fail> {
     let alloc = rt.alloc();
     let mut session = Session::<Main, 64>::open(alloc)?;
-    assert!(rt; asks(&mut session));
+    assert!(rt; asks(rt.alloc(), &mut session));
     let calls = [
         call(Command::Take),
         other(Command::Place(UnitId(0))),
@@ -156,9 +156,9 @@ fn is_wrong_emit(entry: &Entry<Main>) -> bool {
 #[test]
 fn places_and_emissions_out_of_turn(rt: HostRuntime) -> Result<(), Fail> {
     let mut session = Session::<Main, 64>::open(rt.alloc())?;
-    assert!(rt; asks(&mut session));
+    assert!(rt; asks(rt.alloc(), &mut session));
     assert!(rt; has_no_turn(rt.alloc(), &mut session));
-    assert!(rt; resolves(&mut session));
+    assert!(rt; resolves(rt.alloc(), &mut session));
     assert!(rt; has_no_turn(rt.alloc(), &mut session));
     assert!(rt; emits(rt.alloc(), &mut session));
     assert!(rt; has_no_turn(rt.alloc(), &mut session));
