@@ -4,5 +4,7 @@ mod Digits
 mod OtherWords
 mod Unnamed
 mod Alone
-mod Entry
 mod Static
+mod Lonely
+mod Entries
+mod Carrying

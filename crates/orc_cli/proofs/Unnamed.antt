@@ -1,6 +1,6 @@
 -- The numbers that names have in a table matter to no part of a unit alone: a graph without them has the same checks,
 -- form, image, refusal and addresses.
-use Rattle.std.proofs.Common.{◌≡◌, ℕ, ℤ, pos, ◌+◌, Bool, true, false, cond, ◌&&◌, not, List, [], ◌∷◌, ◌++◌, length, map, Option, Some, None, refl, sym, ap, ◌∙◌, inl, inr}
+use Rattle.std.proofs.Common.{◌≡◌, ℕ, ℤ, pos, ◌+◌, Bool, true, false, cond, ◌&&◌, not, List, [], ◌∷◌, ◌++◌, length, map, Option, Some, None, refl, sym, ap, ◌∙◌, inl, inr, ◌%◌, ◌^◌}
 use Rattle.std.specs.Prelude.{find, option_map, unwrap_or, is_none, nat_le, Ok, Err, if◌then◌else◌}
 use Rattle.std.specs.List.{list_all, list_any}
 use Rattle.std.specs.Option.{option_map_or}
@@ -127,7 +127,7 @@ lone_refusal_bare g =
 
 lone_address_bare : (g : LinkGraph) → lone_address (bared g) ≡ lone_address g
 lone_address_bare g =
-    ap (λ (l : Layout). told_address (bared g) l UNIT_BASE []) (layout_bare g) ∙ told_bare g (lone_layout g) UNIT_BASE []
+    ap (λ (f : ℕ → ℕ). λ s. f s % 2 ^ 64) (ap (λ (l : Layout). told_address (bared g) l UNIT_BASE []) (layout_bare g) ∙ told_bare g (lone_layout g) UNIT_BASE [])
 
 form_bare : (o : ElfObject) (g : LinkGraph) → is_in_form o (bared g) ≡ is_in_form o g
 form_bare o g =

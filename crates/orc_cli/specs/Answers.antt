@@ -1,7 +1,7 @@
 -- The exit status of each answer.
 use Rattle.std.specs.Prelude.{ℕ, ◌%◌}
 use Rattle.orc_cli.specs.declared.answer.Answer.{Answer}
-use Rattle.orc_cli.specs.declared.answer.Answer.TheVariants.{Exited, Usage, ReadFault, FileFault, WriteFault, ObjectRefused, TooLong, Missing, Trap, OutOfFuel, OutputFull, NoMemory}
+use Rattle.orc_cli.specs.declared.answer.Answer.TheVariants.{Exited, Usage, ReadFault, FileFault, WriteFault, ObjectRefused, TooLong, Missing, Trap, OutOfFuel, OutputFull, JournalFull, NoMemory}
 
 abbrev pub status_of : Answer → ℕ
 status_of (Exited code) = code % 256
@@ -15,4 +15,5 @@ status_of (Missing _) = 107
 status_of (Trap _ _) = 110
 status_of OutOfFuel = 111
 status_of OutputFull = 112
+status_of (JournalFull _) = 113
 status_of NoMemory = 114

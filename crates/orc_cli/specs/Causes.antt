@@ -1,5 +1,5 @@
 -- When each answer comes: what the clauses of the top call say.
-use Rattle.std.specs.Prelude.{◌≡◌, ◌≤◌, ℕ, ◌⊎◌, List, [], length, Option, Some, Result, Ok}
+use Rattle.std.specs.Prelude.{◌≡◌, ◌<◌, ◌≤◌, ◌++◌, ℕ, ◌⊎◌, List, [], length, Option, Some, Result, Ok}
 use Rattle.std.specs.Io.KnownBytes.{Appends}
 use Rattle.orc_io.specs.declared.limits.TheConstants.{FILE_LIMIT}
 use Rattle.orc_io.specs.Contents.{HasContent, IsLongerThan}
@@ -7,7 +7,7 @@ use Rattle.exec_run.specs.declared.ran.RunEnd.{RunEnd}
 use Rattle.orc_cli.specs.declared.words.UsageKind.{UsageKind}
 use Rattle.orc_cli.specs.declared.answer.ObjectWhy.{ObjectWhy}
 use Rattle.orc_cli.specs.declared.answer.Answer.{Answer}
-use Rattle.orc_cli.specs.declared.answer.Answer.TheVariants.{Exited, Usage, ReadFault, FileFault, WriteFault, ObjectRefused, TooLong, Missing, Trap, OutOfFuel, OutputFull, NoMemory}
+use Rattle.orc_cli.specs.declared.answer.Answer.TheVariants.{Exited, Usage, ReadFault, FileFault, WriteFault, ObjectRefused, TooLong, Missing, Trap, OutOfFuel, OutputFull, JournalFull, NoMemory}
 use Rattle.orc_cli.specs.EndLine.{end_line_of}
 use Rattle.orc_cli.specs.Outcomes.{refused, missing, starts, outcome_of, Runs, EndsIn}
 use Rattle.orc_cli.specs.Answered.{Told, AppendsPart, IsFound}
@@ -17,9 +17,13 @@ use Rattle.orc_cli.specs.Words.{Request}
 abbrev pub HasStopped : Answer → Type 0
 HasStopped answer = (answer ≡ WriteFault) ⊎ (answer ≡ NoMemory)
 
--- the file couldn't be read, a write failed, or memory ran out
-abbrev pub HasFault : Answer → Type 0
-HasFault answer = (answer ≡ FileFault 0) ⊎ HasStopped answer
+-- the journal was full, which has fewer than 16 places
+abbrev pub HasFilled : ℕ → Answer → Type 0
+HasFilled jmax answer = (len : ℕ) × (answer ≡ JournalFull len) × (jmax < 16)
+
+-- the file couldn't be read, a write failed, memory ran out, or the journal was full
+abbrev pub HasFault : ℕ → Answer → Type 0
+HasFault jmax answer = (answer ≡ FileFault 0) ⊎ HasStopped answer ⊎ HasFilled jmax answer
 
 -- the words ask for a run, and the files tell that its file has these bytes
 pub record IsTold (asked : Result Request UsageKind) (told : Told) (bytes : List ℕ) (run : Request) : Type 0 where
@@ -82,15 +86,49 @@ IsQuiet (Missing _) = Unit {0}
 IsQuiet (Trap _ _) = ⊥
 IsQuiet OutOfFuel = ⊥
 IsQuiet OutputFull = ⊥
+IsQuiet (JournalFull _) = Unit {0}
 IsQuiet NoMemory = Unit {0}
 
+-- no session was begun
+abbrev pub IsBefore : Answer → Type 0
+IsBefore (Exited _) = ⊥
+IsBefore (Usage _) = Unit {0}
+IsBefore ReadFault = Unit {0}
+IsBefore (FileFault _) = Unit {0}
+IsBefore WriteFault = ⊥
+IsBefore (ObjectRefused _ _) = Unit {0}
+IsBefore (TooLong _) = Unit {0}
+IsBefore (Missing _) = ⊥
+IsBefore (Trap _ _) = ⊥
+IsBefore OutOfFuel = ⊥
+IsBefore OutputFull = ⊥
+IsBefore (JournalFull _) = ⊥
+IsBefore NoMemory = ⊥
+
+-- a session was begun, and told
+abbrev pub IsInSession : Answer → Type 0
+IsInSession (Exited _) = Unit {0}
+IsInSession (Usage _) = ⊥
+IsInSession ReadFault = ⊥
+IsInSession (FileFault _) = ⊥
+IsInSession WriteFault = ⊥
+IsInSession (ObjectRefused _ _) = ⊥
+IsInSession (TooLong _) = ⊥
+IsInSession (Missing _) = Unit {0}
+IsInSession (Trap _ _) = Unit {0}
+IsInSession OutOfFuel = Unit {0}
+IsInSession OutputFull = Unit {0}
+IsInSession (JournalFull _) = Unit {0}
+IsInSession NoMemory = ⊥
+
 -- after a write that failed: what was found stands on the sinks in part, and log has none of it unless out has all
-pub record IsCut (asked : Result Request UsageKind) (told : Told) (before after : ℕ) (out out' log log' : Option (List ℕ)) : Type 0 where
+pub record IsCut (jmax : ℕ) (asked : Result Request UsageKind) (told : Told) (before after : ℕ) (out out' log log' : Option (List ℕ)) : Type 0 where
   pub found : Answer
   pub output : List ℕ
-  pub is_found : IsFound asked told before after found output
+  pub journal : List ℕ
+  pub is_found : IsFound jmax asked told before after found output journal
   pub out_part : AppendsPart out out' output
-  pub log_part : AppendsPart log log' (end_line_of found)
+  pub log_part : AppendsPart log log' (journal ++ end_line_of found)
   pub out_first : Appends log log' [] ⊎ Appends out out' output
 
 -- where memory ran out: out is as before, and log has gained a first part of the end line

@@ -15,7 +15,7 @@ use Rattle.orc_cli.specs.declared.words.UsageKind.TheVariants.{NoCommand, Unknow
 use Rattle.orc_cli.specs.declared.answer.ObjectWhy.{ObjectWhy}
 use Rattle.orc_cli.specs.declared.answer.ObjectWhy.TheVariants.{Elf, Graph}
 use Rattle.orc_cli.specs.declared.answer.Answer.{Answer}
-use Rattle.orc_cli.specs.declared.answer.Answer.TheVariants.{Exited, Usage, ReadFault, FileFault, WriteFault, ObjectRefused, TooLong, Missing, Trap, OutOfFuel, OutputFull, NoMemory}
+use Rattle.orc_cli.specs.declared.answer.Answer.TheVariants.{Exited, Usage, ReadFault, FileFault, WriteFault, ObjectRefused, TooLong, Missing, Trap, OutOfFuel, OutputFull, JournalFull, NoMemory}
 
 -- an address, or a word: lower-case hexadecimal, without leading zeros
 abbrev pub hex : ℕ → List ℕ
@@ -89,6 +89,7 @@ answer_text (Missing name) = codes "missing " ++ name
 answer_text (Trap pc cause) = codes "trap " ++ hex pc ++ codes " " ++ cause_text cause
 answer_text OutOfFuel = codes "out of fuel"
 answer_text OutputFull = codes "output full"
+answer_text (JournalFull len) = codes "journal full " ++ decimal len
 answer_text NoMemory = codes "no memory"
 
 -- the last line of the log; after a write that failed there is none

@@ -4,7 +4,9 @@ pub mod EndLine
 pub mod Unit
 pub mod Form
 pub mod Outcomes
+pub mod Carried
 pub mod Lone
 pub mod ByNames
+pub mod Logged
 pub mod Answered
 pub mod Causes

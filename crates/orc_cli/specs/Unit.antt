@@ -1,6 +1,6 @@
 -- An object as the one unit of a program, at the start of code memory: it keeps all names that it offers, and nothing
 -- is bound to it.
-use Rattle.std.specs.Prelude.{ℕ, ℤ, Bool, true, List, [], map, filter, Option}
+use Rattle.std.specs.Prelude.{ℕ, ◌%◌, ◌^◌, ℤ, Bool, true, List, [], map, filter, Option}
 use Rattle.orc_ids.specs.declared.place.Place.{Place}
 use Rattle.link_model.specs.declared.graph.GSym.{GSym}
 use Rattle.link_model.specs.declared.graph.Layout.{Layout}
@@ -25,6 +25,6 @@ lone_image g = image_of g (lone_layout g) UNIT_BASE []
 abbrev pub lone_refusal : LinkGraph → Option (Place × ℕ × ℤ)
 lone_refusal g = refused_edge g (lone_layout g) UNIT_BASE []
 
--- the address of a symbol
+-- the address of a symbol, modulo 2 ^ 64
 abbrev pub lone_address : LinkGraph → ℕ → ℕ
-lone_address g symbol = told_address g (lone_layout g) UNIT_BASE [] symbol
+lone_address g symbol = told_address g (lone_layout g) UNIT_BASE [] symbol % 2 ^ 64

@@ -31,6 +31,8 @@ pub enum Answer {
     OutOfFuel,
     /// The run wrote more than its output holds.
     OutputFull,
+    /// The session's journal is full after so many entries.
+    JournalFull(u64),
     /// Memory ran out.
     NoMemory,
 }
@@ -64,6 +66,7 @@ impl Answer {
             Answer::Trap(_, _) => 110,
             Answer::OutOfFuel => 111,
             Answer::OutputFull => 112,
+            Answer::JournalFull(_) => 113,
             Answer::NoMemory => 114,
         }
     }

@@ -5,6 +5,7 @@ ghost use Rattle.orc_cli.specs.Form.{is_placed, is_settled, is_plain};
 
 use elf_read::{SymPlace, Symbol};
 use link_model::Edge;
+use link_model::kinds::GOT_HI20;
 
 /// `STB_LOCAL` and `STB_GLOBAL`.
 const LOCAL: u8 = 0;
@@ -14,19 +15,11 @@ const GLOBAL: u8 = 1;
 /// `STV_DEFAULT`.
 const DEFAULT: u8 = 0;
 
-/// `R_RISCV_GOT_HI20`.
-const GOT_HI20: u32 = 20;
-
 /// Whether each symbol is one that an object which is run by itself may have.
 pub(crate) fn are_plain(symbols: &[Symbol]) -> bool
     ensures { result ≡ list_all is_plain symbols.now }
 {
-    for symbol in symbols {
-        if !is_plain(symbol) {
-            return false;
-        }
-    }
-    true
+    symbols.iter().all(is_plain)
 }
 
 /// A local symbol is this object's; any other is one of the usual kind, in a block or absolute.

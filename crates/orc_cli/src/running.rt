@@ -1,85 +1,88 @@
-ghost use Rattle.std.specs.Prelude.{◌≡◌, ◌<◌, length, IfOk};
+ghost use Rattle.std.specs.Prelude.{◌≡◌, ◌≤◌, [], IfOk};
 ghost use Rattle.orc_cli.specs.Words.{request};
-ghost use Rattle.orc_cli.specs.Outcomes.{Runs, AnswersAs, IsSilent, outcome_of, entered, answer_of};
+ghost use Rattle.orc_cli.specs.Outcomes.{IsSilent, answer_of};
+ghost use Rattle.orc_cli.specs.Answered.{IsOfBytes};
+ghost use Rattle.orc_cli.specs.Carried.{IsCarried, AreGiven, IsRunOf};
 
 use crate::answer::{Answer, ObjectWhy};
-use crate::unit::{LinkError, Linked, link};
+use crate::unit::{LinkError, Prepared, prepare};
 use crate::words::RunWords;
-use code_memory::Space;
 use elf_read::{ElfError, read_object};
 use exec_run::{Ran, RunEnd, run};
-use orc_ids::{Bytes, Shape, UnitId};
+use journal_text::text_of;
+use object_unit::ObjectUnit;
+use orc_ids::{Bytes, Stop};
 use orc_names::NameHasher;
+use session_core::{JOURNAL_LIMIT, Session};
+use session_run::Looked;
 use std::alloc::{AllocError, Global};
 
-/// What was found, before anything is written: the answer, and the output of a run.
+/// What was found, before anything is written: the answer, the output of a run, and the text of its
+/// session's journal.
 #[derive(Drop)]
 pub struct Found {
     pub answer: Answer,
     pub output: Bytes,
+    pub journal: Bytes,
 }
 
-/// What a run of a file answers: its object is read, linked and run from the entry.
-pub fn run_object(
+/// What a run of a file answers: its object is read, and carried through a session from the entry.
+pub fn run_object<const JMAX: usize>(
     alloc: Global,
     hasher: NameHasher,
     bytes: &[u8],
     words: &RunWords<'_>,
 ) -> Result<Found, AllocError>
-    ensures { IfOk result (λ f. AnswersAs (outcome_of bytes.now words.now.entry.now) (request words.now) f.answer f.output) }
+    requires { JMAX ≤ JOURNAL_LIMIT }
+    ensures { IfOk result (λ f. IsOfBytes JMAX bytes.now (request words.now) f.answer f.output f.journal) }
 {
     let object = match read_object(alloc, bytes) {
         Ok(object) => object,
         Err(ElfError::NoMemory) => return Err(AllocError),
         Err(why) => return Ok(refused(alloc, ObjectWhy::Elf(why))),
     };
-    match link(alloc, hasher, &object, words.entry) {
-        Ok(linked) => run_linked(alloc, linked, words),
+    match prepare(alloc, hasher, &object, words.entry) {
+        Ok(prepared) => run_prepared::<JMAX>(alloc, &prepared, words),
         Err(LinkError::Refused(why)) => Ok(refused(alloc, why)),
         Err(LinkError::NoMemory) => Err(AllocError),
     }
 }
 
-/// Runs a linked object from its entry.
-fn run_linked(alloc: Global, linked: Linked, words: &RunWords<'_>) -> Result<Found, AllocError>
-    requires { 0 < length linked.image }
-    ensures { IfOk result (λ f. AnswersAs (entered linked.image linked.entry) (request words.now) f.answer f.output) }
+/// Carries a run through a session, and runs what it found.
+fn run_prepared<const JMAX: usize>(
+    alloc: Global,
+    prepared: &Prepared,
+    words: &RunWords<'_>,
+) -> Result<Found, AllocError>
+    requires limit { JMAX ≤ JOURNAL_LIMIT }
+    requires fits { IsCarried prepared.now.run }
+    requires known { AreGiven prepared.now.names prepared.now.run }
+    ensures { IfOk result (λ f. IsRunOf JMAX prepared.now.names prepared.now.run (request words.now) f.answer f.output f.journal) }
 {
-    let Linked { image, entry } = linked;
-    match entry {
-        Some(pc) => {
-            let Ran { end, output } = run_image(alloc, image, pc, words.fuel)?;
+    let mut session = Session::<ObjectUnit, JMAX>::open(alloc)?;
+    let looked = prepared.run.lookup(alloc, &mut session);
+    let journal = text_of(alloc, session.journal(), &prepared.names)?;
+    match looked {
+        Ok(Looked::Missing) => Ok(Found {
+            answer: Answer::Missing(Bytes::copy_of(alloc, words.entry.as_bytes())?),
+            output: Bytes::new(alloc),
+            journal,
+        }),
+        Ok(Looked::Found(pc, image)) => {
+            let Ran { end, output } = run(alloc, &image, pc, &[], words.fuel)?;
             Ok(Found {
                 answer: answer_of(end),
                 output,
+                journal,
             })
         }
-        None => Ok(Found {
-            answer: Answer::Missing(Bytes::copy_of(alloc, words.entry.as_bytes())?),
+        Err(Stop::JournalFull(len)) => Ok(Found {
+            answer: Answer::JournalFull(len),
             output: Bytes::new(alloc),
+            journal,
         }),
+        Err(Stop::NoMemory) => Err(AllocError),
     }
-}
-
-/// Runs an image, placed at the start of code memory, without arguments.
-fn run_image(alloc: Global, image: Bytes, pc: u64, fuel: u64) -> Result<Ran, AllocError>
-    requires { 0 < length image }
-    ensures { IfOk result (λ ran. Runs image pc fuel ran.end ran.output) }
-{
-    let unit = UnitId(0);
-    // The start of code memory is aligned for every block.
-    let shape = Shape {
-        need: image.len() as u64,
-        align: 16,
-    };
-    let mut space = Space::new(alloc);
-    // Nothing else is placed, and a unit fits code memory, so that want of memory alone refuses it.
-    if space.place(unit, shape).is_err() {
-        return Err(AllocError);
-    }
-    space.deposit(unit, image);
-    let memory = space.image()?;
-    run(alloc, &memory, pc, &[], fuel)
 }
 
 /// The answer that a run's end is.
@@ -96,10 +99,12 @@ fn answer_of(end: RunEnd) -> Answer
 
 /// The answer that the object of file 0 is refused.
 fn refused(alloc: Global, why: ObjectWhy) -> Found
-    ensures { IsSilent (Answer.ObjectRefused 0 why) result.answer result.output }
+    ensures silent { IsSilent (Answer.ObjectRefused 0 why) result.answer result.output }
+    ensures journal { result.journal ≡ [] }
 {
     Found {
         answer: Answer::ObjectRefused(0, why),
         output: Bytes::new(alloc),
+        journal: Bytes::new(alloc),
     }
 }

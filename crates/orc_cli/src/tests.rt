@@ -88,7 +88,7 @@ fn expect<R: Threads + Wait + RandomSource + Abort + AllocGlobal>(
     let mut log = SureSink::new(alloc);
     let ended = call(rt, &["orc", "run", "p.o"], &mut files, &mut out, &mut log)?;
     assert_eq!(rt; ended.status, status);
-    assert_eq!(rt; log.bytes(), Some(line));
+    assert_eq!(rt; log.bytes().map(last_line), Some(line));
     assert_eq!(rt; out.bytes().map(|bytes| bytes.len()), Some(written));
     Ok(())
 }
@@ -107,8 +107,111 @@ fn expect_words<R: Threads + Wait + RandomSource + Abort + AllocGlobal>(
     let mut log = MemSink::new(alloc, Vec::new(alloc), ROOM);
     let ended = call(rt, words, &mut files, &mut out, &mut log)?;
     assert_eq!(rt; ended.status, status);
-    assert_eq!(rt; log.bytes(), line);
+    assert_eq!(rt; last_line(log.bytes()), line);
     Ok(())
+}
+
+/// The last line of a text.
+fn last_line(text: &[u8]) -> &[u8] {
+    let mut start = 0;
+    for (k, byte) in text.iter().enumerate() {
+        if *byte == b'\n' && k + 1 < text.len() {
+            start = k + 1;
+        }
+    }
+    text.get(start..).unwrap_or(text)
+}
+
+/// What the session of `hello.o` and its run write on the log.
+const HELLO_LOG: &[u8] = b"\
+1 s0 dylib main = made d0
+2 s0 tracker d0 = tracker t0
+3 s0 define d0 t0 o0 = defined u0 i0 1
+4 s1 ask d0:all ready main = pending q0
+5 s1 take = start u0
+6 s1 place u0 48 16 = placed 10000000
+7 s1 resolve u0 = resolved
+8 s1 link u0 = done q1
+9 s1 take = finish u0 bound
+10 s1 emit u0 i0: = emitted
+11 s1 collect q0 = found 10 i0@10000000
+12 s1 image = image
+end exited 0
+";
+
+/// The same where the entry isn't there.
+const MISSING_LOG: &[u8] = b"\
+1 s0 dylib main = made d0
+2 s0 tracker d0 = tracker t0
+3 s0 define d0 t0 o0 = defined u0 i0 1
+4 s1 ask d0:all ready nosuch = missing nosuch
+end missing nosuch
+";
+
+/// The log of a run of `hello.o`.
+fn log_of<R: Threads + Wait + RandomSource + Abort + AllocGlobal>(
+    rt: &R,
+    words: &[&str],
+    expected: &[u8],
+) -> Result<(), Fail> {
+    let alloc = rt.alloc();
+    let mut files = SureFiles::new(alloc);
+    files.put(alloc, "hello.o", Bytes::copy_of(alloc, HELLO.as_slice())?)?;
+    let mut out = SureSink::new(alloc);
+    let mut log = SureSink::new(alloc);
+    let _ = call(rt, words, &mut files, &mut out, &mut log)?;
+    assert_eq!(rt; log.bytes(), Some(expected));
+    Ok(())
+}
+
+#[test]
+fn the_journal_of_a_run(rt: HostRuntime) -> Result<(), Fail> {
+    log_of(&rt, &["orc", "run", "hello.o"], HELLO_LOG)
+}
+
+/// The same where the journal has five places: a take that hands a unit out keeps a second one.
+const FIVE_LOG: &[u8] = b"\
+1 s0 dylib main = made d0
+2 s0 tracker d0 = tracker t0
+3 s0 define d0 t0 o0 = defined u0 i0 1
+4 s1 ask d0:all ready main = pending q0
+end journal full 4
+";
+
+#[test]
+fn a_journal_of_five_is_full_at_the_take(rt: HostRuntime) -> Result<(), Fail> {
+    let alloc = rt.alloc();
+    let words = words_of(alloc, &["orc", "run", "hello.o"])?;
+    let mut source = SureSource::new(Bytes::copy_of(alloc, b"unread")?);
+    let mut files = SureFiles::new(alloc);
+    files.put(alloc, "hello.o", Bytes::copy_of(alloc, HELLO.as_slice())?)?;
+    let mut out = SureSink::new(alloc);
+    let mut log = SureSink::new(alloc);
+    let notes = two_notes(alloc)?;
+    let ended = orc_sized::<_, _, _, _, _, _, _, 5>(
+        &rt,
+        alloc,
+        words.as_slice(),
+        &mut source,
+        &mut files,
+        &mut out,
+        &mut log,
+        &OpenGate,
+        notes,
+    );
+    assert_eq!(rt; ended.status, 113);
+    assert_eq!(rt; out.bytes(), Some(b"".as_slice()));
+    assert_eq!(rt; log.bytes(), Some(FIVE_LOG));
+    Ok(())
+}
+
+#[test]
+fn the_journal_of_a_missing_entry(rt: HostRuntime) -> Result<(), Fail> {
+    log_of(
+        &rt,
+        &["orc", "run", "hello.o", "--entry", "nosuch"],
+        MISSING_LOG,
+    )
 }
 
 /// Words of `.text` to replace, and how the run then ends: the status, how much is written, the end line.
@@ -306,7 +409,10 @@ fn fuel_stops_a_run_with_its_output(rt: HostRuntime) -> Result<(), Fail> {
     let ended = call(&rt, &words, &mut files, &mut out, &mut log)?;
     assert_eq!(rt; ended.status, 111);
     assert_eq!(rt; out.bytes(), Some(b"hello\n".as_slice()));
-    assert_eq!(rt; log.bytes(), Some(b"end out of fuel\n".as_slice()));
+    assert_eq!(rt;
+        log.bytes().map(last_line),
+        Some(b"end out of fuel\n".as_slice())
+    );
     Ok(())
 }
 
@@ -384,7 +490,7 @@ fn changed_copies_have_their_answers(rt: HostRuntime) -> Result<(), Fail> {
         let mut out = SureSink::new(alloc);
         let mut log = SureSink::new(alloc);
         let _ = call(&rt, &["orc", "run", "p.o"], &mut files, &mut out, &mut log)?;
-        assert_eq!(rt; log.bytes(), Some(line));
+        assert_eq!(rt; log.bytes().map(last_line), Some(line));
     }
     Ok(())
 }
@@ -400,7 +506,10 @@ fn what_assemblers_add_changes_nothing(rt: HostRuntime) -> Result<(), Fail> {
     let ended = call(&rt, &words, &mut files, &mut out, &mut log)?;
     assert_eq!(rt; ended.status, 0);
     assert_eq!(rt; out.bytes(), Some(b"hello\n".as_slice()));
-    assert_eq!(rt; log.bytes(), Some(b"end exited 0\n".as_slice()));
+    assert_eq!(rt;
+        log.bytes().map(last_line),
+        Some(b"end exited 0\n".as_slice())
+    );
     Ok(())
 }
 
@@ -421,7 +530,7 @@ fn a_write_that_fails_is_answered(rt: HostRuntime) -> Result<(), Fail> {
     let ended = call(&rt, &words, &mut files, &mut out, &mut narrow)?;
     assert_eq!(rt; ended.status, 103);
     assert_eq!(rt; out.bytes(), b"hello\n".as_slice());
-    assert_eq!(rt; narrow.bytes(), b"end e".as_slice());
+    assert_eq!(rt; narrow.bytes(), b"1 s0 ".as_slice());
     assert_eq!(rt; ended.notes.as_slice().len(), 2);
     Ok(())
 }

@@ -52,6 +52,7 @@ fn put_answer(alloc: Global, out: &mut Vec<u8>, answer: &Answer) -> Result<(), A
         }
         Answer::OutOfFuel => put(out, b"out of fuel"),
         Answer::OutputFull => put(out, b"output full"),
+        Answer::JournalFull(len) => put_numbered(out, b"journal full ", *len),
         Answer::NoMemory => put(out, b"no memory"),
     }
 }

@@ -9,8 +9,9 @@ ghost use Rattle.orc_cli.specs.EndLine.{end_line_of};
 ghost use Rattle.orc_cli.specs.Words.{Request, asked_by};
 ghost use Rattle.orc_cli.specs.Outcomes.{refused, missing, starts, outcome_of, answer_of};
 ghost use Rattle.orc_cli.specs.ByNames.{IsStaticRun};
+ghost use Rattle.orc_cli.specs.Logged.{HasLog};
 ghost use Rattle.orc_cli.specs.Answered.{IsAnswered, held_by};
-ghost use Rattle.orc_cli.specs.Causes.{HasStopped, HasFault, IsTold, IsLongFile, OfFile, IsRefused, IsMissing, HasRunOn, IsEndOf, IsQuiet, IsCut, IsWanting};
+ghost use Rattle.orc_cli.specs.Causes.{IsBefore, IsInSession, HasStopped, HasFault, IsTold, IsLongFile, OfFile, IsRefused, IsMissing, HasRunOn, IsEndOf, IsQuiet, IsCut, IsWanting};
 
 use crate::answer::{Answer, ObjectWhy};
 use crate::finding::find_answer;
@@ -20,15 +21,13 @@ use crate::writing::write_found;
 use exec_run::RunEnd;
 use orc_io::{FILE_LIMIT, Files, Gate, Notify, Sink, Source};
 use orc_names::NameHasher;
+use session_core::JOURNAL_LIMIT;
 use std::alloc::Global;
 use std::collections::hash_map::RandomState;
 use std::random::RandomSource;
 use std::rc::RcStr;
 use std::sync::Wait;
 use std::thread::Threads;
-
-/// The most entries that a session's journal has in `orc`.
-pub const JOURNAL_LIMIT: usize = 1_048_576;
 
 /// How a call of `orc` ended.
 #[derive(Drop)]
@@ -40,8 +39,8 @@ pub struct Ended<N: Notify> {
     pub notes: Notes<N>,
 }
 
-/// Does what the words ask: reads the file, links its object at the start of code memory, runs it from
-/// the entry, writes the run's output on `out` and the end line on `log`, and answers.
+/// Does what the words ask: reads the file, links its object in a session, runs it from the entry, writes
+/// the run's output on `out`, and on `log` the session's journal and the end line, and answers.
 ///
 /// Word 0 is the program's name, word 1 the command. The runtime gives the seed by which names are
 /// hashed. The source, the gate and the notifiers are for commands that are not built yet.
@@ -93,19 +92,19 @@ pub fn orc<
     ensures too_long_told { (bytes : List ℕ) (run : Request)
         → IsTold (asked_by words.now) (F.holds files.old) bytes run
         → FILE_LIMIT < length bytes
-        → (result.answer ≡ Answer.TooLong 0) ⊎ HasFault result.answer }
+        → (result.answer ≡ Answer.TooLong 0) ⊎ HasFault JOURNAL_LIMIT result.answer }
     ensures refused_told { (bytes : List ℕ) (run : Request) (why : ObjectWhy)
         → IsTold (asked_by words.now) (F.holds files.old) bytes run
         → length bytes ≤ FILE_LIMIT → outcome_of bytes run.entry ≡ refused why
-        → (result.answer ≡ Answer.ObjectRefused 0 why) ⊎ HasFault result.answer }
+        → (result.answer ≡ Answer.ObjectRefused 0 why) ⊎ HasFault JOURNAL_LIMIT result.answer }
     ensures missing_told { (bytes : List ℕ) (run : Request)
         → IsTold (asked_by words.now) (F.holds files.old) bytes run
         → length bytes ≤ FILE_LIMIT → outcome_of bytes run.entry ≡ missing
-        → (result.answer ≡ Answer.Missing run.entry) ⊎ HasFault result.answer }
+        → (result.answer ≡ Answer.Missing run.entry) ⊎ HasFault JOURNAL_LIMIT result.answer }
     ensures ran_told { (bytes image : List ℕ) (run : Request) (pc : ℕ)
         → IsTold (asked_by words.now) (F.holds files.old) bytes run
         → length bytes ≤ FILE_LIMIT → outcome_of bytes run.entry ≡ starts image pc
-        → IsEndOf image pc run.fuel result.answer ⊎ HasFault result.answer }
+        → IsEndOf image pc run.fuel result.answer ⊎ HasFault JOURNAL_LIMIT result.answer }
 
     // Each answer on a file comes only where the bytes of the file say so.
     ensures too_long_only { (k : ℕ) → result.answer ≡ Answer.TooLong k
@@ -125,15 +124,19 @@ pub fn orc<
         → IsTold (asked_by words.now) (F.holds files.old) bytes run
         → length bytes ≤ FILE_LIMIT → IsStaticRun bytes run end output
         → ((result.answer ≡ answer_of end) × Appends (O.held out.old) (O.held out.new) output)
-        ⊎ HasFault result.answer }
+        ⊎ HasFault JOURNAL_LIMIT result.answer }
     ensures out_quiet { IsQuiet result.answer → Appends (O.held out.old) (O.held out.new) [] }
 
-    // Log has gained the end line. After a failed write, or where memory ran out, each sink has
+    // Log has gained the end line, and before it, where a session was begun, the text of its one
+    // journal, which says the answer. After a failed write, or where memory ran out, each sink has
     // gained a first part of its text.
-    ensures log_line { result.answer ≢ Answer.WriteFault → result.answer ≢ Answer.NoMemory
+    ensures log_line { IsBefore result.answer → result.answer ≢ Answer.NoMemory
         → Appends (L.held log.old) (L.held log.new) (end_line_of result.answer) }
+    ensures session { IsInSession result.answer
+        → OfFile (asked_by words.now) (F.holds files.old)
+        (HasLog JOURNAL_LIMIT (O.held out.old) (O.held out.new) (L.held log.old) (L.held log.new) result.answer) }
     ensures cut { result.answer ≡ Answer.WriteFault
-        → IsCut (asked_by words.now) (F.holds files.old) (F.faults files.old) (F.faults files.new)
+        → IsCut JOURNAL_LIMIT (asked_by words.now) (F.holds files.old) (F.faults files.old) (F.faults files.new)
         (O.held out.old) (O.held out.new) (L.held log.old) (L.held log.new) }
     ensures wanting { result.answer ≡ Answer.NoMemory
         → IsWanting (O.held out.old) (O.held out.new) (L.held log.old) (L.held log.new) }
@@ -199,19 +202,19 @@ pub fn orc_sized<
     ensures too_long_told { (bytes : List ℕ) (run : Request)
         → IsTold (asked_by words.now) (F.holds files.old) bytes run
         → FILE_LIMIT < length bytes
-        → (result.answer ≡ Answer.TooLong 0) ⊎ HasFault result.answer }
+        → (result.answer ≡ Answer.TooLong 0) ⊎ HasFault JMAX result.answer }
     ensures refused_told { (bytes : List ℕ) (run : Request) (why : ObjectWhy)
         → IsTold (asked_by words.now) (F.holds files.old) bytes run
         → length bytes ≤ FILE_LIMIT → outcome_of bytes run.entry ≡ refused why
-        → (result.answer ≡ Answer.ObjectRefused 0 why) ⊎ HasFault result.answer }
+        → (result.answer ≡ Answer.ObjectRefused 0 why) ⊎ HasFault JMAX result.answer }
     ensures missing_told { (bytes : List ℕ) (run : Request)
         → IsTold (asked_by words.now) (F.holds files.old) bytes run
         → length bytes ≤ FILE_LIMIT → outcome_of bytes run.entry ≡ missing
-        → (result.answer ≡ Answer.Missing run.entry) ⊎ HasFault result.answer }
+        → (result.answer ≡ Answer.Missing run.entry) ⊎ HasFault JMAX result.answer }
     ensures ran_told { (bytes image : List ℕ) (run : Request) (pc : ℕ)
         → IsTold (asked_by words.now) (F.holds files.old) bytes run
         → length bytes ≤ FILE_LIMIT → outcome_of bytes run.entry ≡ starts image pc
-        → IsEndOf image pc run.fuel result.answer ⊎ HasFault result.answer }
+        → IsEndOf image pc run.fuel result.answer ⊎ HasFault JMAX result.answer }
 
     // Each answer on a file comes only where the bytes of the file say so.
     ensures too_long_only { (k : ℕ) → result.answer ≡ Answer.TooLong k
@@ -231,15 +234,19 @@ pub fn orc_sized<
         → IsTold (asked_by words.now) (F.holds files.old) bytes run
         → length bytes ≤ FILE_LIMIT → IsStaticRun bytes run end output
         → ((result.answer ≡ answer_of end) × Appends (O.held out.old) (O.held out.new) output)
-        ⊎ HasFault result.answer }
+        ⊎ HasFault JMAX result.answer }
     ensures out_quiet { IsQuiet result.answer → Appends (O.held out.old) (O.held out.new) [] }
 
-    // Log has gained the end line. After a failed write, or where memory ran out, each sink has
+    // Log has gained the end line, and before it, where a session was begun, the text of its one
+    // journal, which says the answer. After a failed write, or where memory ran out, each sink has
     // gained a first part of its text.
-    ensures log_line { result.answer ≢ Answer.WriteFault → result.answer ≢ Answer.NoMemory
+    ensures log_line { IsBefore result.answer → result.answer ≢ Answer.NoMemory
         → Appends (L.held log.old) (L.held log.new) (end_line_of result.answer) }
+    ensures session { IsInSession result.answer
+        → OfFile (asked_by words.now) (F.holds files.old)
+        (HasLog JMAX (O.held out.old) (O.held out.new) (L.held log.old) (L.held log.new) result.answer) }
     ensures cut { result.answer ≡ Answer.WriteFault
-        → IsCut (asked_by words.now) (F.holds files.old) (F.faults files.old) (F.faults files.new)
+        → IsCut JMAX (asked_by words.now) (F.holds files.old) (F.faults files.old) (F.faults files.new)
         (O.held out.old) (O.held out.new) (L.held log.old) (L.held log.new) }
     ensures wanting { result.answer ≡ Answer.NoMemory
         → IsWanting (O.held out.old) (O.held out.new) (L.held log.old) (L.held log.new) }
@@ -250,7 +257,7 @@ pub fn orc_sized<
     ensures fewer_notes { (n : ℕ) × (result.notes ≡ take n (map Noted.Unfired notes.items)) }
 {
     let _ = source;
-    perform(alloc, name_hasher(rt), words, files, out, log, notes)
+    perform::<F, O, L, N, JMAX>(alloc, name_hasher(rt), words, files, out, log, notes)
 }
 
 /// How names are hashed: by a seed of the runtime, so that strangers can't choose names that collide;
@@ -263,7 +270,7 @@ fn name_hasher<R: RandomSource>(rt: &R) -> NameHasher {
 }
 
 /// What the words ask, done without waiting for anybody.
-fn perform<F: Files, O: Sink, L: Sink, N: Notify>(
+fn perform<F: Files, O: Sink, L: Sink, N: Notify, const JMAX: usize>(
     alloc: Global,
     hasher: NameHasher,
     words: &[RcStr],
@@ -272,7 +279,8 @@ fn perform<F: Files, O: Sink, L: Sink, N: Notify>(
     log: &mut L,
     notes: Vec<N>,
 ) -> Ended<N>
-    ensures answered { IsAnswered (asked_by words.now) (F.holds files.old) (F.faults files.old) (F.faults files.new) (held_by (O.held out.old) (O.faults out.old)) (held_by (O.held out.new) (O.faults out.new)) (held_by (L.held log.old) (L.faults log.old)) (held_by (L.held log.new) (L.faults log.new)) result.answer }
+    requires { JMAX ≤ JOURNAL_LIMIT }
+    ensures answered { IsAnswered JMAX (asked_by words.now) (F.holds files.old) (F.faults files.old) (F.faults files.new) (held_by (O.held out.old) (O.faults out.old)) (held_by (O.held out.new) (O.faults out.new)) (held_by (L.held log.old) (L.faults log.old)) (held_by (L.held log.new) (L.faults log.new)) result.answer }
     ensures status { result.status ≡ status_of result.answer }
     ensures files_counted { F.faults files.old ≤ F.faults files.new }
     ensures files_same { F.holds files.new ≡ F.holds files.old }
@@ -288,7 +296,7 @@ fn perform<F: Files, O: Sink, L: Sink, N: Notify>(
             notes: Notes::new(alloc),
         };
     };
-    let found = find_answer(alloc, hasher, words, files);
+    let found = find_answer::<F, JMAX>(alloc, hasher, words, files);
     let answer = write_found(alloc, found, out, log);
     Ended {
         status: answer.status(),

@@ -1,26 +1,37 @@
-ghost use Rattle.std.specs.Prelude.{◌≡◌, ◌<◌, ◌≤◌, [], List, ℕ, length, true, None, is_none, Ok, IfOk, IfErr, OnOk, option_map, position};
-ghost use Rattle.link_graph.specs.Read.{IsRead};
-ghost use Rattle.link_model.specs.Image.{at_or, own_address, place_of};
-ghost use Rattle.link_model.specs.Sound.{Sound, IsSized, PlaceFits};
-ghost use Rattle.fixups.specs.Sound.{Placed, Lies};
+ghost use Rattle.std.specs.Prelude.{◌≡◌, ◌≤◌, List, ℕ, codes, slice_get, true, Some, None, is_none, Ok, IfOk, IfErr, OnOk};
+ghost use Rattle.orc_ids.specs.declared.ids.UnitName.TheVariants.{Object};
+ghost use Rattle.orc_names.specs.Numbers.{KeepsNumbers};
+ghost use Rattle.link_graph.specs.Read.{IsRead, AreNamed};
+ghost use Rattle.link_graph.specs.Checks.{graph_of_object};
+ghost use Rattle.link_model.specs.Sound.{Sound, IsSized, OffersDiffer};
+ghost use Rattle.fixups.specs.Sound.{Placed};
 ghost use Rattle.link_model.specs.Graph.{is_offered};
-ghost use Rattle.fixups.specs.Tables.{own};
-ghost use Rattle.orc_cli.specs.Unit.{all_kept, lone_layout, lone_image, lone_refusal, lone_address};
+ghost use Rattle.object_unit.specs.Meaning.{graph_meaning};
+ghost use Rattle.object_unit.specs.Units.{meaning_of, StandsAlone};
+ghost use Rattle.session_run.specs.Drive.{its_shape};
+ghost use Rattle.session_run.specs.Lone.{all_live, IsLone};
+ghost use Rattle.orc_cli.specs.Unit.{all_kept, lone_layout, lone_refusal};
 ghost use Rattle.orc_cli.specs.Form.{fits_form, is_in_form};
-ghost use Rattle.orc_cli.specs.Outcomes.{object_outcome, unit_outcome, entered, entry_symbol, is_named};
-ghost use Rattle.orc_cli.specs.Lone.{IsGraphOf, refusal_of, Refuses, IsOutside};
+ghost use Rattle.orc_cli.specs.Outcomes.{object_outcome};
+ghost use Rattle.orc_cli.specs.Lone.{IsGraphOf, IsPrepared, refusal_of, Refuses, IsOutside};
 
 use crate::answer::ObjectWhy;
 use crate::form::{are_plain, name_cells};
-use elf_read::{ElfError, ElfObject, NotBuiltKind, Symbol};
+use elf_read::{ElfError, ElfObject, NotBuiltKind};
 use fixups::{FixError, fix};
 use got_stubs::synthesise;
 use link_graph::{GraphError, graph_of};
 use link_model::{GPlace, GSym, Layout, LinkGraph};
-use orc_ids::Bytes;
-use orc_names::{NameHasher, Names};
+use object_unit::ObjectUnit;
+use orc_ids::{NameId, UnitName};
+use orc_names::{NameError, NameHasher, Names};
+use session_model::UnitKind;
+use session_run::Run;
 use std::alloc::{AllocError, AllocFailed, Global};
 use thiserror::Error;
+
+/// The name of the dylib that an object is defined in.
+const MAIN: &[u8] = b"main";
 
 /// Where the unit stands: the start of code memory.
 pub const UNIT_BASE: u64 = 0x1000_0000;
@@ -59,45 +70,63 @@ impl<T: Drop> From<AllocFailed<T>> for LinkError {
     }
 }
 
-/// An object linked at the start of code memory.
+/// A run that can be carried through a session, and the texts of its names.
 #[derive(Drop)]
-pub struct Linked {
-    /// The bytes of the unit, with all edges applied.
-    pub image: Bytes,
-    /// The address of the entry, if a symbol of its name is not local.
-    pub entry: Option<u64>,
+pub struct Prepared {
+    pub names: Names,
+    pub run: Run,
 }
 
-/// Links an object by itself: its graph is made and laid out, its edges are applied, and its entry is found.
-pub fn link(
+/// Makes the run of an object from an entry: its graph is made and its form is checked.
+pub fn prepare(
     alloc: Global,
     hasher: NameHasher,
     object: &ElfObject,
     entry: &str,
-) -> Result<Linked, LinkError>
+) -> Result<Prepared, LinkError>
     requires { IsRead object.now }
-    ensures linked { IfOk result (λ l. object_outcome object.now entry.now ≡ entered l.image l.entry) }
-    ensures some { IfOk result (λ l. 0 < length l.image) }
+    ensures prepared { IfOk result (λ p. IsPrepared object.now entry.now p.names p.run) }
     ensures refused { IfErr result (λ e. Refuses e (object_outcome object.now entry.now)) }
 {
-    let graph = graph_alone(alloc, hasher, object)?;
-    link_unit(alloc, object, &graph, entry)
+    let mut names = Names::with_hasher(alloc, hasher);
+    let Ok((main, entry)) = number_names(&mut names, entry) else {
+        return Err(LinkError::NoMemory);
+    };
+    let graph = object_graph(alloc, object, &mut names)?;
+    let unit = lone_unit(alloc, object, graph)?;
+    Ok(Prepared {
+        run: Run::new(unit, main, entry),
+        names,
+    })
 }
 
-/// The graph of an object by itself.
-fn graph_alone(
+/// The numbers of the dylib's name and of the entry's. Neither is longer than a name may be, so that
+/// memory alone may be wanting.
+fn number_names(names: &mut Names, entry: &str) -> Result<(NameId, NameId), NameError>
+    ensures main { IfOk result (λ n. slice_get names.new n.0.0 ≡ Some (codes "main")) }
+    ensures entry { IfOk result (λ n. slice_get names.new n.1.0 ≡ Some entry.now) }
+{
+    let main = names.intern(MAIN)?;
+    let entry = names.intern(entry.as_bytes())?;
+    Ok((main, entry))
+}
+
+/// The graph of an object, whose names are added to the table.
+fn object_graph(
     alloc: Global,
-    hasher: NameHasher,
     object: &ElfObject,
+    names: &mut Names,
 ) -> Result<LinkGraph, LinkError>
     requires { IsRead object.now }
-    ensures made { IfOk result (λ g. IsGraphOf object.now g) }
+    ensures made { IfOk result (λ g. graph_of_object names.new object.now ≡ Ok g) }
     ensures sound { IfOk result (λ g. Sound g) }
     ensures sized { IfOk result (λ g. IsSized g) }
+    ensures offers { IfOk result (λ g. OffersDiffer g) }
+    ensures named { OnOk result (AreNamed names.new object.now.symbols) }
+    ensures older { KeepsNumbers names.old names.new }
     ensures refused { IfErr result (λ e. (entry : List ℕ) → Refuses e (object_outcome object.now entry)) }
 {
-    let mut names = Names::with_hasher(alloc, hasher);
-    match graph_of(alloc, object, &mut names) {
+    match graph_of(alloc, object, names) {
         Ok(graph) => Ok(graph),
         Err(why) => Err(refusal(why)),
     }
@@ -113,24 +142,24 @@ fn refusal(why: GraphError) -> LinkError
     }
 }
 
-/// Links the unit of an object.
-fn link_unit(
-    alloc: Global,
-    object: &ElfObject,
-    graph: &LinkGraph,
-    entry: &str,
-) -> Result<Linked, LinkError>
-    requires made { IsGraphOf object.now graph.now }
-    requires sound { Sound graph.now }
-    requires sized { IsSized graph.now }
-    ensures linked { IfOk result (λ l. unit_outcome object.now entry.now (Ok graph.now) ≡ entered l.image l.entry) }
-    ensures some { IfOk result (λ l. 0 < length l.image) }
-    ensures refused { IfErr result (λ e. Refuses e (unit_outcome object.now entry.now (Ok graph.now))) }
+/// The unit of an object by itself, if the object is in the form: a trial link finds whether an edge is
+/// out of range.
+fn lone_unit(alloc: Global, object: &ElfObject, graph: LinkGraph) -> Result<ObjectUnit, LinkError>
+    requires made { IsGraphOf object.now graph }
+    requires sound { Sound graph }
+    requires sized { IsSized graph }
+    requires offers { OffersDiffer graph }
+    ensures unit { IfOk result (λ u. meaning_of u ≡ graph_meaning (Object 0) graph) }
+    ensures lone { IfOk result (λ u. IsLone (meaning_of u) (its_shape (meaning_of u))) }
+    ensures alone { IfOk result (λ u. StandsAlone u (all_live (meaning_of u))) }
+    ensures form { OnOk result (is_in_form object.now graph ≡ true) }
+    ensures outside { IfErr result (λ e. IsOutside e (is_in_form object.now graph)) }
 {
-    let layout = lay_out(alloc, object, graph)?;
-    let image = fix_unit(alloc, graph, &layout)?;
-    let entry = entry_address(object, graph, &layout, entry);
-    Ok(Linked { image, entry })
+    let layout = lay_out(alloc, object, &graph)?;
+    fix_unit(alloc, &graph, &layout)?;
+    let unit = ObjectUnit::of_graph(alloc, UnitName::Object(0), graph)?;
+    unit.known();
+    Ok(unit)
 }
 
 /// The refusal of an object that is outside the form.
@@ -181,72 +210,16 @@ fn is_offered(symbol: &GSym) -> bool
     symbol.global && !matches!(symbol.place, GPlace::External(_))
 }
 
-/// Applies the edges of the unit, if all are in range.
-fn fix_unit(alloc: Global, graph: &LinkGraph, layout: &Layout) -> Result<Bytes, LinkError>
+/// Tries whether all edges of the unit are in range.
+fn fix_unit(alloc: Global, graph: &LinkGraph, layout: &Layout) -> Result<(), LinkError>
     requires laid { layout.now ≡ lone_layout graph.now }
     requires placed { Placed graph.now layout.now UNIT_BASE }
-    ensures image { IfOk result (λ image. image ≡ lone_image graph.now) }
     ensures allowed { OnOk result (lone_refusal graph.now ≡ None) }
     ensures outside { IfErr result (λ e. IsOutside e (is_none (lone_refusal graph.now))) }
 {
     match fix(alloc, graph, layout, UNIT_BASE, &[]) {
-        Ok(image) => Ok(image),
+        Ok(_) => Ok(()),
         Err(FixError::OutOfRange(_, _, _)) => Err(outside()),
         Err(FixError::NoMemory) => Err(LinkError::NoMemory),
     }
-}
-
-/// The address of the first symbol of a name that is not local.
-fn entry_address(object: &ElfObject, graph: &LinkGraph, layout: &Layout, name: &str) -> Option<u64>
-    requires made { IsGraphOf object.now graph.now }
-    requires laid { layout.now ≡ lone_layout graph.now }
-    requires placed { Placed graph.now layout.now UNIT_BASE }
-    ensures { result ≡ option_map (lone_address graph.now) (entry_symbol object.now name.now) }
-{
-    match find_entry(object.symbols.as_slice(), name) {
-        Some(symbol) => Some(address(graph, layout, symbol)),
-        None => None,
-    }
-}
-
-/// The number of the first symbol of a name that is not local.
-fn find_entry(symbols: &[Symbol], name: &str) -> Option<usize>
-    ensures { result ≡ position (is_named name.now) symbols.now }
-{
-    symbols.iter().position(|symbol| is_named(symbol, name))
-}
-
-fn is_named(symbol: &Symbol, name: &str) -> bool
-    ensures { result ≡ is_named name.now symbol.now }
-{
-    symbol.bind != 0 && name.as_bytes() == symbol.name.as_slice()
-}
-
-/// The address of a symbol.
-fn address(graph: &LinkGraph, layout: &Layout, symbol: usize) -> u64
-    requires placed { Placed graph.now layout.now UNIT_BASE }
-    requires there { symbol < length graph.now.symbols }
-    ensures { result ≡ own graph.now layout.now UNIT_BASE symbol }
-{
-    place_address(graph, layout, graph.symbols.as_slice()[symbol].place)
-}
-
-fn place_address(graph: &LinkGraph, layout: &Layout, place: GPlace) -> u64
-    requires lies { Lies graph.now layout.now UNIT_BASE }
-    requires fits { PlaceFits graph.now place }
-    ensures { result ≡ own_address layout.now UNIT_BASE place }
-{
-    match place {
-        GPlace::In(block, offset) => UNIT_BASE + block_offset(graph, layout, block) + offset,
-        GPlace::Abs(address) => address,
-        GPlace::External(_) => 0,
-    }
-}
-
-fn block_offset(graph: &LinkGraph, layout: &Layout, block: u32) -> u64
-    requires lies { Lies graph.now layout.now UNIT_BASE }
-    requires there { block < length graph.now.blocks }
-    ensures { result ≡ at_or 0 layout.now.blocks block }
-{
-    layout.blocks.as_slice()[block as usize]
 }

@@ -1,6 +1,5 @@
 -- A call's step, by what its reply is.
 use Rattle.std.proofs.Common.{◌≡◌, ℕ, zero, suc, ◌≤◌, arith, length, Bool, true, false, List, [], ◌∷◌, slice_get, Some, None, Option, Ok, subst, sym, refl, ap, ◌∙◌}
-use Rattle.orc_ids.specs.declared.groups.Group.{Group}
 use Rattle.orc_ids.specs.declared.ids.SeatNo.{SeatNo}
 use Rattle.orc_ids.specs.declared.ids.UnitId.{UnitId}
 use Rattle.orc_ids.specs.declared.lookup.Level.{Level}
@@ -10,10 +9,9 @@ use Rattle.orc_ids.specs.declared.lookup.Wanted.{Wanted}
 use Rattle.session_model.specs.Meaning.{Meaning}
 use Rattle.session_model.specs.Plain.{Plain, UnitRow}
 use Rattle.session_model.specs.State.{state, IsEnd, IsOpen}
-use Rattle.session_model.specs.Change.{Change, Nothing, Define, Ask, Link, Resolve, LetGo, change_of, link_order}
+use Rattle.session_model.specs.Change.{Nothing, Define, Ask, Link, Resolve, LetGo, change_of, link_order}
 use Rattle.session_model.specs.Answer.{Answers, AnswersCollect, Called, Gone, Wrong, Right, answer_define, answer_ask, answer_lookup, called}
 use Rattle.session_model.specs.declared.entry.Entry.{Entry}
-use Rattle.session_model.specs.declared.entry.Event.{Event}
 use Rattle.session_model.specs.declared.entry.Event.TheVariants as event
 use Rattle.session_model.specs.declared.entry.Reply.{Reply}
 use Rattle.session_model.specs.declared.entry.Reply.TheVariants as reply
@@ -40,7 +38,7 @@ use Rattle.session_core.specs.Steps.{Steps}
 use Rattle.orc_ids.specs.declared.ids.DylibId.{DylibId}
 use Rattle.orc_ids.specs.declared.ids.TrackId.{TrackId}
 use Rattle.session_core.specs.Given.{HandsBack}
-use Rattle.session_core.proofs.Stepping.{define_makes, define_other, ask_lodges, ask_other, link_lodges, link_other, resolve_makes, resolve_other, unit_gone, call_answered, gone_is}
+use Rattle.session_core.proofs.Stepping.{define_makes, define_other, ask_lodges, ask_other, link_lodges, link_other, resolve_makes, resolve_other, unit_gone, call_answered}
 
 pub none_behind : {X : Type 0} (xs : List X) (k : ℕ) → slice_get xs k ≡ None → length xs ≤ k
 none_behind [] k e = omega arith

@@ -1,15 +1,15 @@
 -- A call is answered by its definition.
 use Rattle.std.proofs.Common.{◌≡◌, ℕ, Bool, true, false, List, [], ◌∷◌, ◌++◌, refl, ap, sym, ◌∙◌}
-use Rattle.std.specs.Prelude.{Option, Some, None, slice_get, unwrap_or, flat_map, ◌&&◌, if◌then◌else◌, IfNone, IfSome}
+use Rattle.std.specs.Prelude.{Option, Some, None, slice_get, unwrap_or, flat_map, ◌&&◌, if◌then◌else◌, IfSome}
 use Rattle.std.specs.Option.{option_map_or}
 use Rattle.std.proofs.lemmas.Option.{none-some, same_Some}
 use Rattle.orc_ids.specs.declared.ids.UnitId.{UnitId}
 use Rattle.session_model.specs.Lists.{first_some, or_else}
 use Rattle.session_model.specs.Plain.{Plain, UnitRow, is_defunct}
-use Rattle.session_model.specs.Answer.{Called, Gone, Wrong, Right, called, is_held}
+use Rattle.session_model.specs.Answer.{Gone, Wrong, Right, called, is_held}
 use Rattle.session_model.specs.declared.entry.Reply.{Reply}
 use Rattle.session_model.specs.declared.entry.Reply.TheVariants.{Defunct, WrongPhase}
-use Rattle.session_core.specs.Calls.{turned_away, wrong_call}
+use Rattle.session_core.specs.Calls.{wrong_call}
 use Rattle.session_core.specs.Replies.{reply_to}
 
 by_cases : (b c : Bool) (u : UnitId) (right : UnitRow → Reply) (x : UnitRow) → unwrap_or (if b then Some (Defunct u) else (if c then None else Some (WrongPhase u))) (right x) ≡ reply_to (if b then Gone else (if c then Right x else Wrong)) u right

@@ -1,16 +1,13 @@
 -- Changes that settle nothing.
-use Rattle.std.proofs.Common.{◌≡◌, ℕ, zero, suc, ◌+◌, ◌<◌, ◌≤◌, ◌^◌, ◌⊎◌, inl, inr, Bool, true, false, ◌&&◌, ◌||◌, nat_eq, cond, List, [], ◌∷◌, ◌++◌, length, slice_get, map, Option, Some, None, is_some, refl, ap, sym, subst, ◌∙◌, arith}
+use Rattle.std.proofs.Common.{◌≡◌, ℕ, suc, ◌+◌, ◌⊎◌, inl, inr, Bool, true, false, ◌&&◌, nat_eq, List, [], ◌∷◌, length, slice_get, Option, Some, None, refl, ap, sym, subst, ◌∙◌, arith}
 use Rattle.std.specs.Bool.{if◌then◌else◌}
 use Rattle.std.specs.Option.{option_map_or}
-use Rattle.std.specs.VecDeque.{deque_len, deque_capacity}
-use Rattle.std.proofs.lemmas.Bool.{both_ways, cases_Bool, and_parts, and_from, eq-eqb, false_from_ne_true}
-use Rattle.std.proofs.lemmas.Option.{none-some, same_Some, slice_get-get_or, slice_get_within}
+use Rattle.std.proofs.lemmas.Bool.{both_ways, and_from, eq-eqb, false_from_ne_true}
 use Rattle.session_model.specs.Meaning.{Meaning}
 use Rattle.session_model.specs.Lists.{changed_at}
-use Rattle.session_model.specs.Plain.{Plain, UnitRow, kept}
+use Rattle.session_model.specs.Plain.{Plain, UnitRow}
 use Rattle.session_model.specs.Query.{is_met, ending}
 use Rattle.session_model.specs.Change.{Change, changed, settled, settled_from, settled_one, finish_listed, waits_for}
-use Rattle.session_model.specs.State.{state}
 use Rattle.session_model.specs.declared.rows.Query.{Query}
 use Rattle.session_model.specs.declared.rows.UnitPhase.{UnitPhase}
 use Rattle.session_model.specs.declared.rows.UnitPhase.TheVariants as stage
@@ -22,9 +19,9 @@ use Rattle.session_laws.proofs.Elements.{changed_cases}
 use Rattle.session_core.specs.declared.tables.QueryEnd.{QueryEnd}
 use Rattle.session_core.specs.declared.tables.Tables.{Tables}
 use Rattle.session_core.specs.Meant.{meant}
-use Rattle.session_core.specs.Ends.{noted, noted_end}
+use Rattle.session_core.specs.Ends.{noted}
 use Rattle.session_core.specs.Tied.{IsTied}
-use Rattle.session_core.specs.Moves.{IsReached, Moves, moved}
+use Rattle.session_core.specs.Moves.{IsReached, Moves}
 
 -- A session that a legal history leads to
 

@@ -1,5 +1,5 @@
 -- What a collect did.
-use Rattle.std.proofs.Common.{◌≡◌, ℕ, suc, ◌+◌, ◌≤◌, Bool, true, false, nat_lt, List, slice_get, length, Option, Some, None, Ok, Err, subst, sym, refl, ap, ◌∙◌, arith}
+use Rattle.std.proofs.Common.{◌≡◌, ℕ, ◌≤◌, true, false, List, slice_get, length, Option, Some, None, Ok, Err, subst, sym, refl, ap, ◌∙◌}
 use Rattle.std.specs.Option.{option_map_or}
 use Rattle.std.proofs.lemmas.Bool.{both_ways}
 use Rattle.std.proofs.lemmas.Option.{none-some}
@@ -8,19 +8,17 @@ use Rattle.orc_ids.specs.declared.ids.SeatNo.{SeatNo}
 use Rattle.orc_ids.specs.declared.lookup.Stop.{Stop}
 use Rattle.orc_ids.specs.declared.lookup.Stop.TheVariants.{JournalFull}
 use Rattle.session_model.specs.Meaning.{Meaning}
-use Rattle.session_model.specs.State.{state, plain_history, IsOpen}
+use Rattle.session_model.specs.State.{state, plain_history}
 use Rattle.session_model.specs.declared.entry.Entry.{Entry}
 use Rattle.session_model.specs.declared.entry.Event.TheVariants as event
 use Rattle.session_model.specs.declared.entry.Reply.{Reply}
 use Rattle.session_model.specs.declared.entry.Reply.TheVariants as reply
-use Rattle.session_model.specs.declared.rows.Query.{Query}
-use Rattle.session_laws.proofs.Elements.{element_below, same_element, none_past}
+use Rattle.session_laws.proofs.Elements.{none_past}
 use Rattle.session_laws.proofs.Ending.{open_has_no_end}
 use Rattle.session_core.specs.declared.tables.QueryEnd.{QueryEnd}
 use Rattle.session_core.specs.declared.tables.Tables.{Tables}
-use Rattle.session_core.specs.Ends.{AreEnds}
 use Rattle.session_core.specs.Kinds.{is_unsettled}
-use Rattle.session_core.specs.Performs.{Collects, Enters, HasOpen, IsStopped, state_of, lacks_places}
+use Rattle.session_core.specs.Performs.{Collects, Enters, HasOpen, lacks_places}
 use Rattle.session_core.specs.Replies.{collect_reply, end_reply}
 use Rattle.session_core.specs.Whole.{AreOne}
 use Rattle.session_core.proofs.Called.{collect_open, none_behind}

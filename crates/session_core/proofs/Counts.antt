@@ -1,16 +1,14 @@
 -- What the counts of a session's code say of its journal's places.
-use Rattle.std.proofs.Common.{◌≡◌, ℕ, suc, ◌+◌, ◌≤◌, ◌<◌, ◌^◌, Bool, true, false, nat_lt, List, [], ◌∷◌, ◌++◌, length, subst, sym, refl, ap, ◌∙◌, arith, le_refl}
+use Rattle.std.proofs.Common.{◌≡◌, ℕ, ◌+◌, ◌≤◌, ◌<◌, ◌^◌, true, false, nat_lt, List, length, subst, sym, refl, ap, ◌∙◌, arith}
 use Rattle.orc_ids.specs.declared.ids.SeatNo.{SeatNo}
 use Rattle.orc_ids.specs.declared.lookup.Stop.{Stop}
 use Rattle.orc_ids.specs.declared.lookup.Stop.TheVariants as stop
 use Rattle.session_model.specs.Meaning.{Meaning}
 use Rattle.session_model.specs.Plain.{Plain, kept}
 use Rattle.session_model.specs.State.{plain_event, plain_history}
-use Rattle.session_model.specs.Answer.{Answers}
 use Rattle.session_model.specs.History.{is_full, places}
 use Rattle.session_model.specs.declared.entry.Entry.{Entry}
 use Rattle.session_model.specs.declared.entry.Event.{Event}
-use Rattle.session_model.specs.declared.entry.Reply.{Reply}
 use Rattle.session_laws.proofs.Placing.{kept_within}
 use Rattle.session_core.specs.declared.tables.Tables.{Tables}
 use Rattle.session_core.specs.Performs.{state_of, lacks_places, IsStopped}

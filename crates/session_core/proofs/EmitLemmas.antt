@@ -1,8 +1,8 @@
 -- The dependencies of a unit's instances, and the rows that get them.
-use Rattle.std.proofs.Common.{◌≡◌, ℕ, zero, suc, ◌+◌, ◌<◌, ◌≤◌, Bool, true, false, ◌||◌, ◌==◌, List, [], ◌∷◌, ◌++◌, set, get_or, take, drop, length, slice_get, Option, Some, None, option_map, unwrap_or, refl, ap, sym, subst, ◌∙◌, arith, add-one, add-zero, zero-add}
+use Rattle.std.proofs.Common.{◌≡◌, ℕ, zero, suc, ◌+◌, ◌<◌, ◌≤◌, Bool, true, false, ◌||◌, ◌==◌, List, [], ◌∷◌, ◌++◌, set, get_or, take, drop, length, slice_get, Option, Some, None, option_map, unwrap_or, refl, ap, sym, ◌∙◌, arith, add-one, add-zero, zero-add}
 use Rattle.std.specs.Bool.{if◌then◌else◌}
 use Rattle.std.specs.List.{list_any}
-use Rattle.std.proofs.lemmas.Option.{none-some, same_Some, slice_get-get_or, slice_get_within}
+use Rattle.std.proofs.lemmas.Option.{none-some}
 use Rattle.orc_ids.specs.declared.ids.InstId.{InstId}
 use Rattle.orc_ids.specs.declared.groups.Group.{Group}
 use Rattle.session_model.specs.Lists.{numbered, only_if, or_else, first_some}

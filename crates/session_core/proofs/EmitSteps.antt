@@ -1,16 +1,16 @@
 -- A unit is emitted.
-use Rattle.std.proofs.Common.{◌≡◌, ℕ, ◌+◌, ◌-◌, ◌<◌, ◌≤◌, ◌^◌, Bool, true, false, List, [], ◌∷◌, length, slice_get, map, Option, Some, None, is_some, refl, ap, sym, subst, ◌∙◌, arith}
+use Rattle.std.proofs.Common.{◌≡◌, ℕ, ◌+◌, ◌<◌, ◌≤◌, ◌^◌, List, [], ◌∷◌, length, slice_get, map, Some, is_some, refl, ap, sym, subst, ◌∙◌, arith}
 use Rattle.orc_ids.specs.declared.groups.Group.{Group}
 use Rattle.orc_ids.specs.declared.ids.UnitId.{UnitId}
 use Rattle.session_model.specs.Meaning.{Meaning}
 use Rattle.session_model.specs.Lists.{changed_at, numbered}
-use Rattle.session_model.specs.Plain.{Plain, UnitRow, kept}
+use Rattle.session_model.specs.Plain.{Plain, kept}
 use Rattle.session_model.specs.Answer.{first_reply, bad_dep}
-use Rattle.session_model.specs.Change.{Emit, changed}
+use Rattle.session_model.specs.Change.{Emit}
 use Rattle.session_model.specs.declared.entry.Reply.TheVariants as reply
 use Rattle.session_model.specs.declared.rows.InstRow.{InstRow}
 use Rattle.session_model.specs.declared.rows.Phase.{Phase}
-use Rattle.session_laws.proofs.Elements.{numbered_some, numbered_length, mapped_some, same_element}
+use Rattle.session_laws.proofs.Elements.{numbered_some, numbered_length, same_element}
 use Rattle.session_core.specs.declared.ready.Search.{Search}
 use Rattle.session_core.specs.declared.tables.Tables.{Tables}
 use Rattle.session_core.specs.Meant.{meant, unit_row}

@@ -1,27 +1,25 @@
 -- Emitting a unit.
 use Rattle.std.proofs.Common.{◌≡◌, ℕ, Bool, true, false, ◌||◌, not, List, [], ◌∷◌, flat_map, slice_get, Option, Some, None, length, subst, sym, refl, ap, ◌∙◌}
-use Rattle.std.specs.Option.{unwrap_or, is_some, IsSomeAnd}
+use Rattle.std.specs.Option.{is_some, IsSomeAnd}
 use Rattle.std.proofs.lemmas.Bool.{both_ways, and_parts}
 use Rattle.code_memory.specs.Places.{Placements, placement_of, with_bytes}
 use Rattle.orc_ids.specs.declared.groups.Group.{Group}
 use Rattle.orc_ids.specs.declared.ids.InstId.{InstId}
 use Rattle.orc_ids.specs.declared.ids.SeatNo.{SeatNo}
 use Rattle.orc_ids.specs.declared.ids.UnitId.{UnitId}
-use Rattle.session_model.specs.Lists.{first_some, only_if}
+use Rattle.session_model.specs.Lists.{only_if}
 use Rattle.session_model.specs.Meaning.{Meaning, IsLawful}
-use Rattle.session_model.specs.Memory.{unit_image}
 use Rattle.session_model.specs.Plain.{Plain, UnitRow, failed_at, present_at, unsearched_at}
 use Rattle.session_model.specs.State.{state, after}
-use Rattle.session_model.specs.Change.{Change, Nothing, Emit, LetGo, change_of}
+use Rattle.session_model.specs.Change.{Nothing, Emit, LetGo, change_of}
 use Rattle.session_model.specs.Answer.{Answers, AnswersEmit, Called, Gone, Wrong, Right, called, is_stage, bad_dep, first_reply}
 use Rattle.session_model.specs.History.{IsLegal}
 use Rattle.session_model.specs.declared.entry.Entry.{Entry}
 use Rattle.session_model.specs.declared.entry.Event.TheVariants as event
 use Rattle.session_model.specs.declared.entry.Reply.{Reply}
 use Rattle.session_model.specs.declared.entry.Reply.TheVariants as reply
-use Rattle.session_model.specs.declared.rows.InstRow.{InstRow}
 use Rattle.session_model.specs.declared.rows.UnitPhase.TheVariants as stage
-use Rattle.session_laws.proofs.Replies.{AllReplies, replies_first, replies_only, replies_or}
+use Rattle.session_laws.proofs.Replies.{replies_first, replies_only, replies_or}
 use Rattle.session_core.specs.declared.tables.Tables.{Tables}
 use Rattle.session_core.specs.Ends.{AreEnds}
 use Rattle.session_core.specs.Given.{IsFinish}
@@ -32,7 +30,7 @@ use Rattle.session_core.specs.Replies.{reply_to, may_emit, emit_reply}
 use Rattle.session_core.specs.Steps.{Steps}
 use Rattle.session_core.specs.Stored.{IsStored, keeps_memory}
 use Rattle.session_core.proofs.PlacedUnits.{still_stored}
-use Rattle.session_core.proofs.Stepping.{emitted_is, emit_makes, emit_other, unit_gone, call_answered}
+use Rattle.session_core.proofs.Stepping.{emit_makes, emit_other, unit_gone, call_answered}
 use Rattle.session_core.proofs.StoredEmit.{stored_emit, stored_emit_bare, emit_fits}
 use Rattle.session_core.proofs.StoredUnits.{called_right, finishing_stage}
 

@@ -2,19 +2,18 @@
 use Rattle.std.proofs.Common.{◌≡◌, ℕ, zero, suc, ◌+◌, ◌≤◌, ◌<◌, Bool, true, false, List, [], ◌∷◌, ◌++◌, length, take, slice_get, ◌⊎◌, inl, inr, subst, sym, refl, ap, ◌∙◌, Option, Some, None, arith, le_refl}
 use Rattle.std.specs.Bool.{if◌then◌else◌}
 use Rattle.std.specs.Option.{option_map_or}
-use Rattle.std.proofs.lemmas.Bool.{cases_Bool, cases_lt}
+use Rattle.std.proofs.lemmas.Bool.{cases_lt}
 use Rattle.std.proofs.lemmas.List.{length-append, take-append-le}
 use Rattle.session_model.specs.Meaning.{Meaning}
 use Rattle.session_model.specs.Plain.{Plain}
 use Rattle.session_model.specs.Query.{is_met, ending}
-use Rattle.session_model.specs.State.{after, state, state_from, IsOpen, IsEnd, SettlesAt}
+use Rattle.session_model.specs.State.{after, state, IsOpen, IsEnd}
 use Rattle.session_model.specs.declared.entry.Entry.{Entry}
 use Rattle.session_model.specs.declared.rows.Query.{Query}
 use Rattle.session_laws.proofs.Along.{state_from_push}
 use Rattle.std.proofs.lemmas.Option.{none-some}
 use Rattle.session_laws.proofs.Elements.{pushed_cases, same_element, element_below, none_past}
 use Rattle.session_laws.proofs.Ending.{entries_are, after_query, end_stays, query_was_asked, NewQuery}
-use Rattle.session_laws.proofs.Settling.{chosen}
 use Rattle.session_core.specs.declared.tables.QueryEnd.{QueryEnd}
 use Rattle.session_core.specs.Ends.{noted, noted_end, IsKept, AreEnds}
 use Rattle.session_core.specs.Replies.{kept_end}

@@ -10,7 +10,8 @@ use Rattle.session_model.specs.declared.entry.Event.{Event}
 use Rattle.session_model.specs.declared.entry.Event.TheVariants as event
 use Rattle.session_model.specs.declared.entry.Reply.{Reply}
 use Rattle.session_model.specs.declared.entry.Reply.TheVariants as reply
-use Rattle.session_core.specs.Performs.{Performs, Collects, Takes}
+use Rattle.session_core.specs.Holding.{own_place, own_groups}
+use Rattle.session_core.specs.Performs.{state_of, Performs, Collects, Takes}
 use Rattle.session_core.specs.Plays.{Makes, Does, Plays}
 use Rattle.session_core.specs.declared.playing.Call.{Call}
 use Rattle.session_core.specs.declared.playing.Command.{Command}
@@ -47,19 +48,22 @@ module _ {U : Type 0} (means : U → Meaning) (jmax : ℕ) where
   makes_grow old new s (command.Ask order wanted level note) r p = performs_grow old new s (event.Ask order wanted level note) r p
   makes_grow old new s (command.Collect q) r p = collects_grow old new s q r p
   makes_grow old new s command.Take r p = takes_grow old new s r p
-  makes_grow old new s (command.Place u) r p = performs_grow old new s (event.Place u p.0) r p.1
+  makes_grow old new s (command.Place u) r p = performs_grow old new s (event.Place u (own_place (state_of means old) u)) r p
   makes_grow old new s (command.Resolve u) r p = performs_grow old new s (event.Resolve u) r p
   makes_grow old new s (command.Link u) r p = performs_grow old new s (event.Link u) r p
-  makes_grow old new s (command.Emit u) r p = performs_grow old new s (event.Emit u p.0) r p.1
+  makes_grow old new s (command.Emit u) r p = performs_grow old new s (event.Emit u (own_groups (state_of means old) u)) r p
   makes_grow old new s command.Image r p = performs_grow old new s event.Image r p
 
   does_grow : (old new : List (Entry U)) (s : SeatNo) (c : Command U) (r : Option (Result Reply Stop)) → Does means jmax old new s c r → Grows old new
   does_grow old new s c (Some r) p = makes_grow old new s c r p
-  does_grow old new s c None p = same old new p.1
+  does_grow old new s (command.Emit u) None p = same old new p.1
+  does_grow old new s c None p = absurd p
 
-  pub plays_grow : (cs : List (Call U)) (old new : List (Entry U)) → Plays means jmax cs old new → (more : List (Entry U)) × (new ≡ old ++ more)
-  plays_grow [] old new p = same old new p
-  plays_grow (c ∷ cs) old new p =
-      let a = does_grow old p.0 c.seat c.command p.1 p.2 in
-      let b = plays_grow cs p.0 new p.3 in
+  pub plays_grow : (cs : List (Call U)) (answers : List (Option (Result Reply Stop))) (old new : List (Entry U)) → Plays means jmax cs answers old new → (more : List (Entry U)) × (new ≡ old ++ more)
+  plays_grow [] [] old new p = same old new p
+  plays_grow (c ∷ cs) (answer ∷ answers) old new p =
+      let a = does_grow old p.0 c.seat c.command answer p.1 in
+      let b = plays_grow cs answers p.0 new p.2 in
       (a.0 ++ b.0, b.1 ∙ (ap (λ h. h ++ b.0) a.1 ∙ append_assoc old a.0 b.0))
+  plays_grow [] (answer ∷ answers) old new p = absurd p
+  plays_grow (c ∷ cs) [] old new p = absurd p

@@ -1,5 +1,5 @@
 -- The tables and the journal stay one from one call to the next.
-use Rattle.std.proofs.Common.{◌≡◌, ℕ, suc, ◌+◌, Bool, true, false, List, [], ◌∷◌, ◌++◌, map, length, subst, sym, refl, ap, ◌∙◌, Option}
+use Rattle.std.proofs.Common.{◌≡◌, ℕ, suc, false, List, [], ◌∷◌, ◌++◌, length, subst, sym, refl, ap, ◌∙◌}
 use Rattle.session_model.specs.Meaning.{Meaning}
 use Rattle.session_model.specs.Plain.{Plain, empty}
 use Rattle.session_model.specs.State.{after, state, state_from, plain_event, plain_entry, plain_history}
@@ -7,10 +7,8 @@ use Rattle.session_model.specs.Answer.{Answers}
 use Rattle.session_model.specs.Change.{change_of}
 use Rattle.session_model.specs.History.{IsLegal, HasPlaces, HasPlacesFrom, is_full}
 use Rattle.session_model.specs.declared.entry.Entry.{Entry}
-use Rattle.session_model.specs.declared.rows.Query.{Query}
 use Rattle.session_laws.proofs.Along.{state_from_push, one_more_legal}
 use Rattle.session_laws.proofs.Ending.{entries_are}
-use Rattle.session_core.specs.declared.tables.QueryEnd.{QueryEnd}
 use Rattle.session_core.specs.declared.tables.Tables.{Tables}
 use Rattle.session_core.specs.Ends.{noted, AreEnds}
 use Rattle.session_core.specs.Meant.{meant}

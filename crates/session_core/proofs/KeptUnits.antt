@@ -1,5 +1,5 @@
 -- What a change of units, jobs or trackers keeps of the tables.
-use Rattle.std.proofs.Common.{◌≡◌, ℕ, zero, suc, ◌+◌, ◌<◌, ◌≤◌, ◌^◌, ◌⊎◌, inl, inr, Bool, true, false, cond, sum_by, List, [], ◌∷◌, ◌++◌, set, get_or, length, slice_get, map, Option, Some, None, is_some, refl, ap, sym, subst, ◌∙◌, arith}
+use Rattle.std.proofs.Common.{◌≡◌, ℕ, zero, suc, ◌+◌, ◌<◌, ◌≤◌, ◌^◌, ◌⊎◌, inl, inr, Bool, true, false, cond, List, [], ◌∷◌, set, get_or, length, slice_get, map, Some, is_some, refl, ap, sym, subst, ◌∙◌, arith}
 use Rattle.std.proofs.Common.{Result, Ok, Err}
 use Rattle.std.specs.Prelude.{count_by, OnErr}
 use Rattle.std.specs.VecDeque.{deque_len, deque_capacity}

@@ -1,9 +1,9 @@
 -- The end of the link query of a unit whose job Finish is the oldest.
-use Rattle.std.proofs.Common.{◌≡◌, ℕ, ◌<◌, List, [], ◌∷◌, length, slice_get, get_or, Option, Some, None, refl, ap, sym, subst, ◌∙◌, arith}
+use Rattle.std.proofs.Common.{◌≡◌, ℕ, List, ◌∷◌, slice_get, get_or, Option, Some, None, ap, ◌∙◌, arith}
 use Rattle.std.proofs.Common.{Result, Ok, Err}
 use Rattle.std.specs.Prelude.{option_and_then, IfOk}
 use Rattle.std.specs.Option.{option_map_or}
-use Rattle.std.proofs.lemmas.Option.{none-some, same_Some, slice_get-get_or, slice_get_within}
+use Rattle.std.proofs.lemmas.Option.{same_Some, slice_get-get_or, slice_get_within}
 use Rattle.orc_ids.specs.declared.ids.UnitId.{UnitId}
 use Rattle.session_model.specs.Meaning.{Meaning}
 use Rattle.session_model.specs.Plain.{Plain, UnitRow}
@@ -13,7 +13,6 @@ use Rattle.session_model.specs.declared.rows.Ending.{Ending}
 use Rattle.session_model.specs.declared.rows.Job.{Job}
 use Rattle.session_model.specs.declared.rows.Job.TheVariants as job
 use Rattle.session_model.specs.declared.rows.Query.{Query}
-use Rattle.session_model.specs.declared.rows.UnitPhase.TheVariants as stage
 use Rattle.session_model.specs.declared.entry.Finishing.{Finishing}
 use Rattle.session_laws.proofs.Rising.{finish_linked}
 use Rattle.session_laws.proofs.Answering.{linked_ends}

@@ -1,10 +1,9 @@
 -- Placing a unit at which the call is right.
-use Rattle.std.proofs.Common.{◌≡◌, ℕ, ◌<◌, ◌+◌, List, [], true, false, slice_get, Some, None, length, subst, sym, refl, ap, ◌∙◌}
+use Rattle.std.proofs.Common.{◌≡◌, ℕ, ◌<◌, List, [], true, false, slice_get, Some, None, subst, sym, refl, ap, ◌∙◌}
 use Rattle.std.specs.Int.{IsPowerOfTwo}
 use Rattle.code_memory.specs.Places.{Placements, placement_of, next_base, HasRoom, with_range, IsRefused}
 use Rattle.code_memory.specs.declared.space.SpaceError.{SpaceError}
 use Rattle.code_memory.specs.declared.space.SpaceError.TheVariants.{NoRoom}
-use Rattle.code_memory.specs.declared.bounds.TheConstants.{CODE_END}
 use Rattle.orc_ids.specs.declared.ids.SeatNo.{SeatNo}
 use Rattle.orc_ids.specs.declared.ids.UnitId.{UnitId}
 use Rattle.orc_ids.specs.declared.place.Shape.{Shape}
@@ -20,7 +19,6 @@ use Rattle.session_model.specs.declared.entry.Event.TheVariants as event
 use Rattle.session_model.specs.declared.entry.Reply.{Reply}
 use Rattle.session_model.specs.declared.entry.Reply.TheVariants as reply
 use Rattle.session_model.specs.declared.rows.UnitPhase.TheVariants as stage
-use Rattle.session_laws.proofs.Replies.{Guard}
 use Rattle.session_core.specs.declared.tables.Tables.{Tables}
 use Rattle.session_core.specs.Given.{IsLowest}
 use Rattle.session_core.specs.Meant.{meant}

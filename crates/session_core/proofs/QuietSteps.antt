@@ -1,5 +1,5 @@
 -- Entries that settle nothing, one by one.
-use Rattle.std.proofs.Common.{◌≡◌, ℕ, ◌+◌, ◌<◌, ◌≤◌, ◌^◌, List, [], ◌∷◌, length, slice_get, drop, map, false, Option, Some, None, is_some, refl, ap, sym, subst, ◌∙◌, arith}
+use Rattle.std.proofs.Common.{◌≡◌, ℕ, ◌+◌, ◌<◌, ◌≤◌, ◌^◌, List, [], ◌∷◌, length, slice_get, map, false, Option, Some, None, is_some, refl, ap, sym, subst, ◌∙◌, arith}
 use Rattle.std.specs.VecDeque.{deque_len, deque_capacity}
 use Rattle.std.proofs.Common.{suc, ◌++◌, ◌⊎◌, inl, inr, not, ◌&&◌, ◌==◌}
 use Rattle.std.specs.Prelude.{nat_le, option_map, count_by}
@@ -30,7 +30,7 @@ use Rattle.session_model.specs.Change.{Change, LetGo, changed}
 use Rattle.session_model.specs.declared.rows.Job.{Job}
 use Rattle.session_model.specs.declared.rows.Job.TheVariants as job
 use Rattle.session_model.specs.declared.rows.UnitPhase.TheVariants as stage
-use Rattle.session_laws.specs.Sound.{IsSound, is_held_phase}
+use Rattle.session_laws.specs.Sound.{is_held_phase}
 use Rattle.std.specs.Prelude.{nat_eq, cond, Bool, true}
 use Rattle.std.specs.Option.{option_map_or}
 use Rattle.std.specs.Bool.{if◌then◌else◌}

@@ -1,23 +1,22 @@
 -- A unit is resolved.
-use Rattle.std.proofs.Common.{◌≡◌, ℕ, ◌+◌, ◌<◌, ◌^◌, ◌⊎◌, inl, inr, Bool, true, false, List, [], ◌∷◌, length, slice_get, map, Option, Some, None, option_map, unwrap_or, ◌==◌, refl, ap, sym, subst, ◌∙◌, arith}
+use Rattle.std.proofs.Common.{◌≡◌, ℕ, ◌+◌, ◌<◌, ◌^◌, Bool, true, false, List, [], length, slice_get, map, Option, Some, None, option_map, unwrap_or, ◌==◌, refl, ap, sym, subst, ◌∙◌}
 use Rattle.std.specs.Bool.{if◌then◌else◌}
 use Rattle.std.specs.Option.{option_map_or}
-use Rattle.std.proofs.lemmas.Bool.{both_ways, cases_Bool, and_parts, eqb-true}
+use Rattle.std.proofs.lemmas.Bool.{both_ways, and_parts, eqb-true}
 use Rattle.orc_ids.specs.declared.ids.UnitId.{UnitId}
 use Rattle.session_model.specs.Meaning.{Meaning}
 use Rattle.session_model.specs.Lists.{changed_at}
-use Rattle.session_model.specs.Plain.{Plain, UnitRow, kept, is_owned, is_emitted, phase_deps, emitted_at}
+use Rattle.session_model.specs.Plain.{Plain, UnitRow, is_owned, is_emitted, phase_deps, emitted_at}
 use Rattle.session_model.specs.Reach.{is_ready, deps_at}
 use Rattle.session_model.specs.Change.{Resolve, changed}
 use Rattle.session_model.specs.declared.entry.Reply.TheVariants as reply
 use Rattle.session_model.specs.declared.rows.InstRow.{InstRow}
 use Rattle.session_model.specs.declared.rows.Phase.{Phase}
 use Rattle.session_model.specs.declared.rows.Phase.TheVariants as phase
-use Rattle.session_model.specs.declared.rows.Query.{Query}
 use Rattle.std.proofs.Common.{get_or}
 use Rattle.std.proofs.lemmas.Option.{same_Some, slice_get-get_or}
 use Rattle.session_laws.specs.Sound.{IsSound, fits, is_claimed}
-use Rattle.session_laws.proofs.Elements.{mapped_at, mapped_parts, mapped_some, mapped_length, same_element}
+use Rattle.session_laws.proofs.Elements.{mapped_at, mapped_some, mapped_length, same_element}
 use Rattle.session_core.specs.declared.tables.TableUnit.{TableUnit}
 use Rattle.session_core.specs.declared.tables.Tables.{Tables}
 use Rattle.session_core.specs.Meant.{meant, unit_row}

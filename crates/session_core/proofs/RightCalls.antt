@@ -1,13 +1,12 @@
 -- What a right answer to a call tells of its unit.
-use Rattle.std.proofs.Common.{◌≡◌, ℕ, Bool, true, false, not, ◌&&◌, ◌||◌, nat_eq, slice_get, Option, Some, None, is_some, is_none, refl, ap, sym, subst, ◌∙◌}
+use Rattle.std.proofs.Common.{◌≡◌, ℕ, Bool, true, false, ◌&&◌, ◌||◌, nat_eq, slice_get, Option, Some, None, is_some, is_none, refl, ap, sym}
 use Rattle.std.specs.Bool.{if◌then◌else◌}
 use Rattle.std.specs.Option.{option_map_or}
 use Rattle.std.proofs.lemmas.Bool.{both_ways, and_parts}
 use Rattle.orc_ids.specs.declared.ids.UnitId.{UnitId}
 use Rattle.session_model.specs.Plain.{Plain, UnitRow, is_defunct}
-use Rattle.session_model.specs.Answer.{Called, Gone, Wrong, Right, called, is_held, is_stage, is_turned_away}
+use Rattle.session_model.specs.Answer.{Gone, Wrong, Right, called, is_held, is_stage, is_turned_away}
 use Rattle.session_model.specs.declared.entry.Reply.{Reply}
-use Rattle.session_model.specs.declared.entry.Reply.TheVariants as reply
 use Rattle.session_model.specs.declared.rows.Phase.{Phase}
 use Rattle.session_model.specs.declared.rows.UnitPhase.{UnitPhase}
 use Rattle.session_model.specs.declared.rows.UnitPhase.TheVariants as stage

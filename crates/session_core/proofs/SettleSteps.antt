@@ -1,15 +1,13 @@
 -- One open query after the other is looked at.
-use Rattle.std.proofs.Common.{◌≡◌, ℕ, zero, suc, ◌+◌, ◌<◌, ◌≤◌, ◌⊎◌, inl, inr, Bool, true, false, ◌&&◌, filter, List, [], ◌∷◌, ◌++◌, set, get_or, drop, length, slice_get, map, Option, Some, None, refl, ap, sym, subst, ◌∙◌, arith}
+use Rattle.std.proofs.Common.{◌≡◌, ℕ, zero, suc, ◌+◌, ◌≤◌, ◌⊎◌, inl, inr, true, false, ◌&&◌, List, [], ◌∷◌, set, length, slice_get, map, Option, Some, None, refl, ap, sym, subst, ◌∙◌, arith}
 use Rattle.std.specs.Bool.{if◌then◌else◌}
 use Rattle.std.specs.Option.{option_map_or}
-use Rattle.std.specs.Vec.{vec_capacity}
 use Rattle.std.specs.VecDeque.{deque_len, deque_capacity}
-use Rattle.std.proofs.lemmas.Bool.{cases_eq, both_ways}
-use Rattle.std.proofs.lemmas.Option.{none-some, same_Some, slice_get-get_or, slice_get_within}
-use Rattle.std.proofs.lemmas.List.{length-set}
+use Rattle.std.proofs.lemmas.Bool.{cases_eq}
+use Rattle.std.proofs.lemmas.Option.{none-some, same_Some, slice_get_within}
 use Rattle.session_model.specs.Meaning.{Meaning}
 use Rattle.session_model.specs.Lists.{changed_at}
-use Rattle.session_model.specs.Plain.{Plain, UnitRow}
+use Rattle.session_model.specs.Plain.{Plain}
 use Rattle.session_model.specs.Query.{is_met, ending}
 use Rattle.session_model.specs.Change.{settled_one, finish_listed, waits_for}
 use Rattle.session_model.specs.declared.rows.Query.{Query}
@@ -17,12 +15,12 @@ use Rattle.session_core.specs.declared.tables.OpenQuery.{OpenQuery}
 use Rattle.session_core.specs.declared.tables.QueryEnd.{QueryEnd}
 use Rattle.session_core.specs.declared.tables.Tables.{Tables}
 use Rattle.session_core.specs.Meant.{meant}
-use Rattle.session_core.specs.Ends.{noted, noted_end, open_numbers}
+use Rattle.session_core.specs.Ends.{noted_end, open_numbers}
 use Rattle.session_core.specs.Units.{AreSameUnits}
-use Rattle.session_core.specs.Settles.{settle_link, settled_number, settled_for, note_at, noted_for, open_at, SettlesAt, CanEnd, CanSettle, Settles, CanTell}
-use Rattle.session_core.proofs.KeptUnits.{same_units, same_after}
+use Rattle.session_core.specs.Settles.{settle_link, note_at, SettlesAt, CanEnd}
+use Rattle.session_core.proofs.KeptUnits.{same_units}
 use Rattle.session_core.proofs.Searching.{set_there, set_elsewhere}
-use Rattle.session_core.proofs.Settled.{number_is, open_less, open_there, open_rises, element_there}
+use Rattle.session_core.proofs.Settled.{number_is, open_less}
 
 set_is : {X : Type 0} (xs : List X) (k : ℕ) (f : X → X) (x z : X) → slice_get xs k ≡ Some x → z ≡ f x → set xs k z ≡ changed_at k f xs
 set_is [] k f x z t e = absurd (none-some x t)

@@ -1,25 +1,23 @@
 -- Settling the open queries settles all, and notes the ends of those that are met.
-use Rattle.std.proofs.Common.{◌≡◌, ℕ, zero, suc, ◌+◌, ◌<◌, ◌≤◌, ◌⊎◌, inl, inr, Bool, true, false, ◌&&◌, cond, filter, List, [], ◌∷◌, ◌++◌, length, slice_get, map, Option, Some, None, is_some, refl, ap, sym, subst, ◌∙◌, arith, append_assoc}
+use Rattle.std.proofs.Common.{◌≡◌, ℕ, zero, suc, ◌+◌, ◌<◌, Bool, true, false, ◌&&◌, cond, filter, List, [], ◌∷◌, ◌++◌, length, slice_get, Option, Some, None, is_some, refl, ap, sym, subst, ◌∙◌, arith, append_assoc}
 use Rattle.std.specs.Bool.{if◌then◌else◌}
 use Rattle.std.specs.Prelude.{count_by, is_none}
 use Rattle.std.specs.Option.{option_map_or}
 use Rattle.std.proofs.lemmas.Bool.{both_ways, and_parts, and_from, false_from_ne_true}
-use Rattle.std.proofs.lemmas.Option.{none-some, same_Some, slice_get-get_or, slice_get_within}
+use Rattle.std.proofs.lemmas.Option.{none-some, same_Some, slice_get_within}
 use Rattle.session_model.specs.Lists.{changed_at}
 use Rattle.session_model.specs.Plain.{Plain, UnitRow, kept}
 use Rattle.session_model.specs.Query.{is_met, ending}
 use Rattle.session_model.specs.Change.{settled, settled_from, settled_one, finish_listed, waits_for}
 use Rattle.session_model.specs.declared.rows.Query.{Query}
-use Rattle.session_model.specs.declared.rows.UnitPhase.{UnitPhase}
 use Rattle.session_model.specs.declared.rows.UnitPhase.TheVariants as stage
 use Rattle.session_laws.proofs.Defining.{waiting_parts}
 use Rattle.session_laws.proofs.Elements.{changed_some, same_element}
-use Rattle.session_laws.proofs.Owing.{NoMetWaits}
-use Rattle.session_laws.proofs.Settling.{chosen, settled_one_keeps, settling_keeps, settled_rows, settled_queries}
+use Rattle.session_laws.proofs.Settling.{chosen, settled_one_keeps, settling_keeps}
 use Rattle.session_core.specs.declared.tables.QueryEnd.{QueryEnd}
 use Rattle.session_core.specs.Ends.{noted, noted_end, open_numbers}
 use Rattle.session_core.specs.Tied.{WaitsOpen}
-use Rattle.session_core.specs.Settles.{settle_link, settled_number, settled_for, note_at, noted_for, open_at, LinksOwn}
+use Rattle.session_core.specs.Settles.{settled_number, settled_for, noted_for, open_at, LinksOwn}
 use Rattle.std.proofs.lemmas.List.{length-append}
 use Rattle.session_core.proofs.Calm.{WaitsNoMore, waits_same, waits_changed, waiting_here, one_calm}
 use Rattle.session_core.proofs.KeptUnits.{count_cons}

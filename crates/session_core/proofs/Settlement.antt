@@ -1,17 +1,17 @@
 -- An entry that changes phases, and what settles by it.
-use Rattle.std.proofs.Common.{◌≡◌, ℕ, zero, suc, ◌+◌, ◌<◌, ◌≤◌, ◌^◌, ◌⊎◌, inl, inr, Bool, true, false, not, ◌&&◌, ◌||◌, cond, List, [], ◌∷◌, get_or, length, slice_get, map, Option, Some, None, is_some, option_map, refl, ap, sym, subst, ◌∙◌, arith}
+use Rattle.std.proofs.Common.{◌≡◌, ℕ, zero, suc, ◌+◌, ◌<◌, ◌≤◌, ◌^◌, Bool, true, false, not, ◌&&◌, ◌||◌, List, [], ◌∷◌, get_or, length, slice_get, map, Option, Some, None, is_some, option_map, refl, ap, sym, subst, ◌∙◌, arith}
 use Rattle.std.specs.Bool.{if◌then◌else◌}
-use Rattle.std.specs.List.{list_any, list_all}
+use Rattle.std.specs.List.{list_any}
 use Rattle.std.specs.Option.{option_map_or}
 use Rattle.std.specs.VecDeque.{deque_len, deque_capacity}
 use Rattle.std.proofs.lemmas.Bool.{or_parts}
-use Rattle.std.proofs.lemmas.Option.{none-some, same_Some, slice_get-get_or, slice_get_within}
+use Rattle.std.proofs.lemmas.Option.{same_Some, slice_get-get_or, slice_get_within}
 use Rattle.orc_ids.specs.declared.ids.InstId.{InstId}
 use Rattle.orc_ids.specs.declared.lookup.Level.{Level}
 use Rattle.orc_ids.specs.declared.lookup.Level.TheVariants.{Ready}
 use Rattle.session_model.specs.Meaning.{Meaning}
 use Rattle.std.specs.Prelude.{count_by}
-use Rattle.session_model.specs.Plain.{Plain, UnitRow, empty, kept, emitted_at}
+use Rattle.session_model.specs.Plain.{Plain, empty, kept, emitted_at}
 use Rattle.session_core.proofs.Owning.{own_phased}
 use Rattle.session_model.specs.Match.{first_row}
 use Rattle.session_model.specs.Query.{is_met, all_at, first_lost}
@@ -20,7 +20,6 @@ use Rattle.session_model.specs.Change.{is_strong, Change, changed, settled, sett
 use Rattle.session_model.specs.declared.rows.InstRow.{InstRow}
 use Rattle.session_model.specs.declared.rows.Query.{Query}
 use Rattle.session_model.specs.declared.rows.Row.{Row}
-use Rattle.session_model.specs.declared.rows.UnitPhase.TheVariants as stage
 use Rattle.session_laws.proofs.Settling.{settling_keeps, settled_rows, settled_queries}
 use Rattle.session_laws.specs.Sound.{IsSound}
 use Rattle.session_core.specs.declared.ready.Search.{Search}
@@ -28,7 +27,7 @@ use Rattle.session_core.specs.declared.tables.OpenQuery.{OpenQuery}
 use Rattle.session_core.specs.declared.tables.QueryEnd.{QueryEnd}
 use Rattle.session_core.specs.declared.tables.TableUnit.{TableUnit}
 use Rattle.session_core.specs.declared.tables.Tables.{Tables}
-use Rattle.session_core.specs.Meant.{meant, unit_row}
+use Rattle.session_core.specs.Meant.{meant}
 use Rattle.session_core.specs.Ends.{noted, noted_end, open_numbers}
 use Rattle.session_core.specs.Tied.{IsTied, IsSpan, RowFits, WaitsOpen, is_named, present_row}
 use Rattle.session_core.specs.Moves.{IsReached, Moves}

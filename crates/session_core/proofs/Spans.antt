@@ -1,8 +1,7 @@
 -- Rows that are changed within a span.
-use Rattle.std.proofs.Common.{◌≡◌, ℕ, zero, suc, ◌+◌, ◌<◌, ◌≤◌, ◌⊎◌, inl, inr, Bool, true, false, ◌&&◌, ◌==◌, List, [], ◌∷◌, ◌++◌, set, get_or, take, drop, length, slice_get, map, Option, Some, None, refl, ap, sym, subst, ◌∙◌, arith, add-one}
+use Rattle.std.proofs.Common.{◌≡◌, ℕ, zero, suc, ◌+◌, ◌<◌, ◌≤◌, false, ◌==◌, List, [], ◌∷◌, ◌++◌, set, get_or, take, drop, length, slice_get, map, Some, refl, ap, sym, ◌∙◌, arith, add-one}
 use Rattle.std.specs.Bool.{if◌then◌else◌}
 use Rattle.std.proofs.lemmas.Bool.{and_right, false_from_ne_true, eqb-true}
-use Rattle.std.proofs.lemmas.Option.{none-some, same_Some}
 use Rattle.session_model.specs.Plain.{is_owned}
 use Rattle.session_model.specs.declared.rows.InstRow.{InstRow}
 use Rattle.session_model.specs.declared.rows.Phase.{Phase}

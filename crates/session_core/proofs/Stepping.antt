@@ -1,5 +1,5 @@
 -- Which change a reply makes, and that the replies are right ones.
-use Rattle.std.proofs.Common.{◌≡◌, ℕ, Bool, true, false, ◌&&◌, List, slice_get, Option, Some, None, ◌⊎◌, inl, inr, subst, sym, refl, ap, ◌∙◌}
+use Rattle.std.proofs.Common.{◌≡◌, ℕ, Bool, true, false, ◌&&◌, List, slice_get, Option, Some, None, ◌⊎◌, inl, inr, refl}
 use Rattle.std.specs.Bool.{if◌then◌else◌}
 use Rattle.std.specs.Option.{option_map_or}
 use Rattle.std.proofs.lemmas.Bool.{both_ways}
@@ -14,7 +14,7 @@ use Rattle.orc_ids.specs.declared.lookup.OrderItem.{OrderItem}
 use Rattle.orc_ids.specs.declared.lookup.Wanted.{Wanted}
 use Rattle.session_model.specs.Meaning.{Meaning}
 use Rattle.session_model.specs.Plain.{Plain, UnitRow, is_defunct}
-use Rattle.session_model.specs.Change.{Change, Nothing, Define, Ask, Resolve, Link, Emit, LetGo, change_of}
+use Rattle.session_model.specs.Change.{Nothing, Define, Ask, Resolve, Link, Emit, change_of}
 use Rattle.session_model.specs.Answer.{Called, Gone, Wrong, Right, called, is_held, AnswersCall}
 use Rattle.session_model.specs.declared.entry.Event.TheVariants as event
 use Rattle.session_model.specs.declared.entry.Reply.{Reply}

@@ -1,5 +1,5 @@
 -- Handing out a job.
-use Rattle.std.proofs.Common.{◌≡◌, ◌⊎◌, inl, inr, ℕ, suc, ◌+◌, ◌<◌, nat_lt, Ok, Err, Bool, true, false, List, [], ◌∷◌, slice_get, length, Option, Some, None, subst, sym, refl, ap, ◌∙◌, arith}
+use Rattle.std.proofs.Common.{◌≡◌, ◌⊎◌, inl, inr, ℕ, Ok, Err, Bool, true, false, List, [], ◌∷◌, slice_get, length, Option, Some, None, subst, sym, refl, ap, ◌∙◌, arith}
 use Rattle.std.specs.Prelude.{count_by}
 use Rattle.std.specs.Option.{option_map_or}
 use Rattle.std.proofs.lemmas.Bool.{both_ways, cases_eq}
@@ -18,14 +18,13 @@ use Rattle.session_model.specs.Answer.{AnswersTake, AnswersFinish, LinkEnded}
 use Rattle.session_model.specs.declared.entry.Entry.{Entry}
 use Rattle.session_model.specs.declared.entry.Event.TheVariants as event
 use Rattle.session_model.specs.declared.entry.Finishing.{Finishing}
-use Rattle.session_model.specs.declared.entry.Finishing.TheVariants as finishing
 use Rattle.session_model.specs.declared.entry.Reply.{Reply}
 use Rattle.session_model.specs.declared.entry.Reply.TheVariants as reply
 use Rattle.session_model.specs.declared.rows.Ending.TheVariants.{Found, Lost}
 use Rattle.session_model.specs.declared.rows.Job.{Job}
 use Rattle.session_model.specs.declared.rows.Job.TheVariants as job
 use Rattle.session_model.specs.declared.rows.Query.{Query}
-use Rattle.session_laws.proofs.Elements.{changed_elsewhere, changed_some, element_below, none_past, mapped_parts, same_element}
+use Rattle.session_laws.proofs.Elements.{changed_elsewhere, changed_some, element_below, mapped_parts, same_element}
 use Rattle.session_laws.proofs.Settling.{settled_rows, settling_keeps}
 use Rattle.session_laws.proofs.Facts.{due_start, jobs_head_same}
 use Rattle.session_laws.proofs.Invariant.{legal_is_sound}
@@ -40,7 +39,7 @@ use Rattle.session_core.specs.Meant.{meant, unit_row}
 use Rattle.session_core.specs.Tied.{IsTied}
 use Rattle.session_core.specs.declared.facts.UnitFacts.{UnitFacts}
 use Rattle.session_core.specs.Moves.{IsReached, Moves}
-use Rattle.session_core.specs.Replies.{TakeReply, FinishesWith, kept_end, finishing_of}
+use Rattle.session_core.specs.Replies.{TakeReply, FinishesWith, finishing_of}
 use Rattle.session_core.specs.Steps.{Steps}
 use Rattle.orc_ids.specs.declared.lookup.Stop.{Stop}
 use Rattle.orc_ids.specs.declared.lookup.Stop.TheVariants.{JournalFull}

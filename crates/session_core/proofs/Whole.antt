@@ -1,5 +1,5 @@
 -- The whole of a session from one call to the next.
-use Rattle.std.proofs.Common.{◌≡◌, ℕ, ◌+◌, ◌≤◌, Bool, true, false, nat_lt, length, List, [], ◌∷◌, ◌++◌, subst, sym, refl, ap, ◌∙◌}
+use Rattle.std.proofs.Common.{◌≡◌, ℕ, ◌≤◌, true, false, length, List, [], ◌∷◌, ◌++◌, subst, sym, refl, ap, ◌∙◌}
 use Rattle.std.proofs.lemmas.Option.{none-some}
 use Rattle.code_memory.specs.Places.{Placements, nothing_placed}
 use Rattle.orc_ids.specs.declared.ids.DylibId.{DylibId}
@@ -8,13 +8,12 @@ use Rattle.orc_ids.specs.declared.ids.TrackId.{TrackId}
 use Rattle.session_model.specs.declared.entry.Event.TheVariants as event
 use Rattle.session_model.specs.Meaning.{Meaning}
 use Rattle.session_model.specs.Plain.{Plain, empty}
-use Rattle.session_model.specs.State.{after, state, plain_event, plain_entry, plain_history}
+use Rattle.session_model.specs.State.{state, plain_event, plain_history}
 use Rattle.session_model.specs.Answer.{Answers}
 use Rattle.session_model.specs.History.{IsLegal, is_full, places}
 use Rattle.session_model.specs.declared.entry.Entry.{Entry}
 use Rattle.session_model.specs.declared.entry.Event.{Event}
 use Rattle.session_model.specs.declared.entry.Reply.{Reply}
-use Rattle.session_model.specs.declared.entry.Reply.TheVariants as reply
 use Rattle.session_core.specs.declared.tables.Tables.{Tables}
 use Rattle.session_core.specs.Ends.{AreEnds}
 use Rattle.session_core.specs.Meant.{meant}

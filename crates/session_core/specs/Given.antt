@@ -1,5 +1,5 @@
 -- What a session gives beside its answers.
-use Rattle.std.specs.Prelude.{◌≡◌, ⊤, ℕ, Bool, count_by, length, unwrap_or, slice_get, [], List, Option, Some, None, Result, Ok, Err}
+use Rattle.std.specs.Prelude.{◌≡◌, ⊤, ℕ, Bool, count_by, length, unwrap_or, slice_get, [], List, Option, Some, None, Result, Ok}
 use Rattle.orc_ids.specs.declared.lookup.Stop.{Stop}
 use Rattle.session_model.specs.Meaning.{Meaning}
 use Rattle.orc_ids.specs.declared.place.Shape.{Shape}

@@ -1,5 +1,5 @@
 -- What the tables of a session stand for.
-use Rattle.std.specs.Prelude.{ℕ, List, [], map}
+use Rattle.std.specs.Prelude.{[], map}
 use Rattle.session_model.specs.Meaning.{Meaning}
 use Rattle.session_model.specs.Plain.{Plain, UnitRow}
 use Rattle.session_model.specs.declared.rows.Dylib.{Dylib}

@@ -14,7 +14,6 @@ use Rattle.session_model.specs.declared.entry.Event.{Event}
 use Rattle.session_model.specs.declared.entry.Event.TheVariants as event
 use Rattle.session_model.specs.declared.entry.Reply.{Reply}
 use Rattle.session_model.specs.declared.entry.Reply.TheVariants as reply
-use Rattle.session_model.specs.declared.rows.Job.{Job}
 use Rattle.session_model.specs.declared.rows.Query.{Query}
 
 -- the session after a journal

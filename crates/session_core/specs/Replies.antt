@@ -1,16 +1,15 @@
 -- The replies that the definitions determine, as functions.
-use Rattle.std.specs.Prelude.{◌≡◌, ℕ, ◌+◌, Bool, ◌&&◌, ◌||◌, List, [], ◌∷◌, slice_get, nat_lt, Option, Some, None, is_some, is_none, unwrap_or, if◌then◌else◌}
+use Rattle.std.specs.Prelude.{◌≡◌, ℕ, Bool, ◌&&◌, ◌||◌, List, [], ◌∷◌, slice_get, Option, Some, None, is_some, is_none}
 use Rattle.std.specs.Option.{option_map_or}
 use Rattle.orc_ids.specs.declared.ids.QueryId.{QueryId}
 use Rattle.orc_ids.specs.declared.ids.UnitId.{UnitId}
 use Rattle.orc_ids.specs.declared.groups.Group.{Group}
 use Rattle.orc_ids.specs.declared.lookup.Level.TheVariants as level
-use Rattle.orc_ids.specs.declared.place.Shape.{Shape}
 use Rattle.session_model.specs.Plain.{Plain, UnitRow, kept}
 use Rattle.session_model.specs.declared.rows.Ending.{Ending}
 use Rattle.session_model.specs.declared.rows.Ending.TheVariants.{Found, Lost}
 use Rattle.session_model.specs.Change.{link_order}
-use Rattle.session_model.specs.Answer.{Called, Gone, Wrong, Right, called, is_stage, unit_shape, CODE_END, behind_taken, taken_end, aligned, first_reply, bad_dep, answer_lookup}
+use Rattle.session_model.specs.Answer.{Called, Gone, Wrong, Right, called, is_stage, unit_shape, first_reply, bad_dep, answer_lookup}
 use Rattle.session_model.specs.declared.entry.Finishing.{Finishing}
 use Rattle.session_model.specs.declared.entry.Finishing.TheVariants as finishing
 use Rattle.session_model.specs.declared.entry.Reply.{Reply}

@@ -1,5 +1,5 @@
 -- The settling of the open queries, one by one.
-use Rattle.std.specs.Prelude.{◌≡◌, ℕ, ◌+◌, ◌<◌, ◌≤◌, Bool, true, false, List, [], ◌∷◌, length, slice_get, map, Option, Some, None, is_none, option_map, unwrap_or, if◌then◌else◌}
+use Rattle.std.specs.Prelude.{◌≡◌, ℕ, ◌+◌, ◌<◌, ◌≤◌, Bool, false, List, [], ◌∷◌, length, slice_get, map, Option, Some, None, is_none, option_map, unwrap_or, if◌then◌else◌}
 use Rattle.std.specs.Vec.{vec_capacity}
 use Rattle.std.specs.VecDeque.{deque_len, deque_capacity}
 use Rattle.orc_ids.specs.declared.ids.InstId.{InstId}
@@ -8,7 +8,7 @@ use Rattle.std.specs.Option.{option_map_or}
 use Rattle.orc_ids.specs.declared.lookup.Level.TheVariants.{Ready}
 use Rattle.session_model.specs.Lists.{changed_at}
 use Rattle.session_model.specs.Plain.{Plain, UnitRow, address_at}
-use Rattle.session_model.specs.Query.{is_met, all_at}
+use Rattle.session_model.specs.Query.{all_at}
 use Rattle.session_model.specs.Change.{waits_for, finish_listed, settled, settled_one}
 use Rattle.session_model.specs.declared.rows.InstRow.{InstRow}
 use Rattle.session_model.specs.declared.rows.Query.{Query}

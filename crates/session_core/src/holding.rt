@@ -1,11 +1,10 @@
 //! What the holder of a unit calls: its own place, and its own emission.
 
-ghost use Rattle.std.specs.Prelude.{◌≡◌, List, length, slice_get, Some, IfOk, IfSome, IfNone, unwrap_or};
-ghost use Rattle.orc_ids.specs.declared.groups.Group.{Group};
+ghost use Rattle.std.specs.Prelude.{◌≡◌, length, slice_get, Some, IfOk, IfSome, IfNone, unwrap_or};
 ghost use Rattle.session_model.specs.Plain.{UnitRow};
 ghost use Rattle.session_model.specs.declared.entry.Event.TheVariants as event;
 ghost use Rattle.session_core.specs.Given.{IsUnitOf};
-ghost use Rattle.session_core.specs.Holding.{IsFinished, own_shape};
+ghost use Rattle.session_core.specs.Holding.{IsFinished, IsRefused, own_groups, own_shape};
 ghost use Rattle.session_core.specs.Performs.{state_of, Performs};
 
 use crate::session::Session;
@@ -24,7 +23,7 @@ pub struct Finished {
 /// A unit that makes what its emission hands in.
 pub trait Finishes: UnitKind {
     /// The unit's groups and bytes for these live names, this base, these bindings and these
-    /// instances; none where it can't be finished so.
+    /// instances; none exactly where an edge of it is out of range.
     fn finish(
         &self,
         alloc: Global,
@@ -33,11 +32,12 @@ pub trait Finishes: UnitKind {
         bound: &[Option<(InstId, u64)>],
         own: &[InstId],
     ) -> Result<Option<Finished>, AllocError>
-        ensures { IfOk result (λ made. IfSome made (IsFinished (Self.meaning self.now) live.now base bound.now own.now)) };
+        ensures made { IfOk result (λ made. IfSome made (IsFinished (Self.meaning self.now) live.now base bound.now own.now)) }
+        ensures refused { IfOk result (λ made. IfNone made (IsRefused (Self.meaning self.now) live.now base bound.now)) };
 }
 
-/// No memory.
-const NOTHING: Shape = Shape { need: 0, align: 1 };
+/// The shape of no memory.
+pub const NOTHING: Shape = Shape { need: 0, align: 1 };
 
 /// The memory that the unit needs, which may be none.
 fn shape_of<U: UnitKind>(taken: &TakenUnit<U>) -> Shape
@@ -53,7 +53,8 @@ fn finish_taken<U: Finishes>(
     taken: &TakenUnit<U>,
     bound: &Matches,
 ) -> Result<Option<Finished>, AllocError>
-    ensures { IfOk result (λ made. IfSome made (IsFinished (U.meaning taken.now.share) taken.now.live (unwrap_or taken.now.base 0) bound.now taken.now.instances)) }
+    ensures made { IfOk result (λ made. IfSome made (IsFinished (U.meaning taken.now.share) taken.now.live (unwrap_or taken.now.base 0) bound.now taken.now.instances)) }
+    ensures refused { IfOk result (λ made. IfNone made (IsRefused (U.meaning taken.now.share) taken.now.live (unwrap_or taken.now.base 0) bound.now)) }
 {
     taken.share.finish(
         alloc,
@@ -89,8 +90,9 @@ pub fn emit_taken<U: Finishes, const JMAX: usize>(
 ) -> Option<Result<Reply, Stop>>
     requires unit { IsUnitOf U.meaning (state_of U.meaning session.old) u taken.now }
     requires bound { (x : UnitRow) → slice_get (state_of U.meaning session.old).units u.0 ≡ Some x → x.bound ≡ Some bound.now }
-    ensures performs { IfSome result (λ answer. (groups : List Group) × Performs U.meaning JMAX session.old session.new s (event.Emit u groups) answer) }
+    ensures performs { IfSome result (λ answer. Performs U.meaning JMAX session.old session.new s (event.Emit u (own_groups (state_of U.meaning session.old) u)) answer) }
     ensures unfinished { IfNone result (session.new ≡ session.old) }
+    ensures refused { IfNone result (IsRefused (U.meaning taken.now.share) taken.now.live (unwrap_or taken.now.base 0) bound.now) }
 {
     let Ok(finished) = finish_taken(alloc, taken, bound) else {
         return Some(Err(Stop::NoMemory));

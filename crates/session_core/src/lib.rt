@@ -42,6 +42,6 @@ mod tests;
 mod units;
 
 pub use holding::{Finished, Finishes, emit_taken, place_taken};
-pub use playing::{Call, Command, play};
+pub use playing::{AnswerList, Call, Command, play};
 pub use session::{Imaged, JOURNAL_LIMIT, Offered, Session, Taken};
 pub use taken::{Flags, TakenUnit, Told};

@@ -1,25 +1,22 @@
 //! Lists of calls, of any seats and in any order.
 
-ghost use Rattle.std.specs.Prelude.{◌≡◌, ◌++◌, List, slice_get, Some, None, IfOk, IfSome, IfNone, All, length};
-ghost use Rattle.orc_ids.specs.declared.groups.Group.{Group};
-ghost use Rattle.orc_ids.specs.declared.place.Shape.{Shape};
+ghost use Rattle.std.specs.Prelude.{◌≡◌, ◌++◌, List, slice_get, Some, None, IfOk, IfSome, IfNone, OnErr, All};
 ghost use Rattle.session_model.specs.Meaning.{Meaning};
 ghost use Rattle.session_model.specs.State.{plain_history};
 ghost use Rattle.session_model.specs.History.{IsLegal};
 ghost use Rattle.session_model.specs.declared.entry.Entry.{Entry};
 ghost use Rattle.session_model.specs.declared.entry.Event.TheVariants as event;
-ghost use Rattle.session_core.specs.Performs.{Performs};
+ghost use Rattle.session_core.specs.Holding.{own_place, own_groups, IsUnfit};
+ghost use Rattle.session_core.specs.Performs.{state_of, Performs};
 ghost use Rattle.session_core.specs.Plays.{Does, IsStrongCall, Plays};
 ghost use Rattle.session_core.specs.Strong.{AreStrong};
 ghost use Rattle.session_core.specs.declared.playing.Call.{Call};
 
-use crate::holding::{Finishes, emit_taken, place_taken};
+use crate::holding::{Finishes, NOTHING, emit_taken, place_taken};
 use crate::session::{Session, Taken};
-use orc_ids::{
-    Bytes, DylibId, Items, Level, NameId, QueryId, SeatNo, Shape, Stop, TrackId, UnitId,
-};
+use orc_ids::{Bytes, DylibId, Items, Level, NameId, QueryId, SeatNo, Stop, TrackId, UnitId};
 use session_model::{Order, Reply, UnitKind, WantedList};
-use std::alloc::Global;
+use std::alloc::{AllocError, Global};
 
 /// One call of a session: each of its events. A unit is placed in its own shape, and emitted with its
 /// own groups and bytes.
@@ -45,6 +42,9 @@ pub struct Call<U> {
     pub command: Command<U>,
 }
 
+/// The answers to calls, in their order; there is none to an emission of a unit that can't be finished.
+pub type AnswerList = Items<Option<Result<Reply, Stop>>>;
+
 /// Defines a share of the unit.
 fn define_share<U: UnitKind, const JMAX: usize>(
     alloc: Global,
@@ -63,32 +63,34 @@ fn define_share<U: UnitKind, const JMAX: usize>(
     session.define(s, d, t, share).answer
 }
 
-/// Places the unit of this number, if there is one, in its own shape.
+/// Places the unit of this number in its own shape; where there is none, in no memory.
 fn place_own<U: UnitKind, const JMAX: usize>(
     session: &mut Session<U, JMAX>,
     s: SeatNo,
     u: UnitId,
 ) -> Result<Reply, Stop>
-    ensures { (shape : Shape) × Performs U.meaning JMAX session.old session.new s (event.Place u shape) result }
+    ensures { Performs U.meaning JMAX session.old session.new s (event.Place u (own_place (state_of U.meaning session.old) u)) result }
 {
     let Ok(told) = session.told(u) else {
         return Err(Stop::NoMemory);
     };
     match told {
         Some(told) => place_taken(session, s, u, &told.unit),
-        None => session.place(s, u, Shape { need: 0, align: 1 }),
+        None => session.place(s, u, NOTHING),
     }
 }
 
-/// Emits the unit of this number, if there is one, with its own groups and bytes.
+/// Emits the unit of this number with its own groups and bytes; where there is none, or it has no
+/// bindings yet, with nothing.
 fn emit_own<U: Finishes, const JMAX: usize>(
     alloc: Global,
     session: &mut Session<U, JMAX>,
     s: SeatNo,
     u: UnitId,
 ) -> Option<Result<Reply, Stop>>
-    ensures performs { IfSome result (λ answer. (groups : List Group) × Performs U.meaning JMAX session.old session.new s (event.Emit u groups) answer) }
+    ensures performs { IfSome result (λ answer. Performs U.meaning JMAX session.old session.new s (event.Emit u (own_groups (state_of U.meaning session.old) u)) answer) }
     ensures unfinished { IfNone result (session.new ≡ session.old) }
+    ensures unfit { IfNone result (IsUnfit (state_of U.meaning session.old) u) }
 {
     let Ok(told) = session.told(u) else {
         return Some(Err(Stop::NoMemory));
@@ -129,21 +131,25 @@ fn make<U: Finishes, const JMAX: usize>(
     }
 }
 
-/// Makes the calls, one after the other, and tells how many entries the journal has then. Whatever the
-/// calls are, the journal is legal: the session is what its journal leads to.
+/// Makes the calls, one after the other, and hands out their answers; without the memory for these it
+/// makes none. Whatever the calls are, the journal is legal: the session is what its journal leads to.
 pub fn play<U: Finishes, const JMAX: usize>(
     alloc: Global,
     session: &mut Session<U, JMAX>,
     calls: &[Call<U>],
-) -> usize
+) -> Result<AnswerList, AllocError>
     requires strong { All (λ (c : Call U). IsStrongCall U.meaning c.command) calls.now }
-    ensures plays { Plays U.meaning JMAX calls.now session.old session.new }
+    ensures plays { IfOk result (λ answers. Plays U.meaning JMAX calls.now answers session.old session.new) }
+    ensures unplayed { OnErr result (session.new ≡ session.old) }
     ensures grows { (more : List (Entry U)) × (session.new ≡ session.old ++ more) }
     ensures legal { IsLegal JMAX (plain_history U.meaning session.new) }
-    ensures count { result ≡ length session.new }
 {
+    // The journal is legal as it stands, and as the calls leave it.
+    session.journal();
+    let mut answers = Vec::with_capacity(alloc, calls.len())?;
     for call in calls {
-        let _answer = make(alloc, session, call);
+        answers.push_reserved(make(alloc, session, call));
     }
-    session.journal().len()
+    session.journal();
+    Ok(Items::from_vec(answers))
 }

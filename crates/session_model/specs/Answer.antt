@@ -239,12 +239,13 @@ AnswersEmit m u groups x r =
 
 -- Failing, and its cause
 
--- the last reply that such an event was given, Defunct and WrongPhase aside
+-- Defunct and WrongPhase
 abbrev pub is_turned_away : Reply → Bool
 is_turned_away (reply.Defunct u) = true
 is_turned_away (reply.WrongPhase u) = true
 is_turned_away _ = false
 
+-- the last other reply that such an event was given
 abbrev pub last_reply : (Event Meaning → Bool) → List (Entry Meaning) → Option Reply
 last_reply test [] = None
 last_reply test (e ∷ es) = or_else (last_reply test es) (only_if (test e.event && not (is_turned_away e.reply)) e.reply)

@@ -1,5 +1,5 @@
--- The calls that one job and one lookup make, as lists of entries of the caller's seat.
-use Rattle.std.specs.Prelude.{◌≡◌, ℕ, ℤ, MatchBool, ◌+◌, Bool, true, false, ◌==◌, ◌⊎◌, List, [], ◌∷◌, ◌++◌, take, slice_get, map, Option, Some, if◌then◌else◌}
+-- The calls that a job, a lookup and the lines of a client make, as lists of entries of the caller's seat.
+use Rattle.std.specs.Prelude.{◌≡◌, ⊤, ℕ, ℤ, MatchBool, ◌+◌, Bool, true, false, ◌==◌, ◌⊎◌, List, [], ◌∷◌, ◌++◌, take, slice_get, map, Option, Some, None, is_some, unwrap_or, if◌then◌else◌}
 use Rattle.std.specs.Option.{option_map_or}
 use Rattle.orc_ids.specs.declared.ids.GenId.{GenId}
 use Rattle.orc_ids.specs.declared.ids.QueryId.{QueryId}
@@ -8,8 +8,10 @@ use Rattle.orc_ids.specs.declared.lookup.Level.{Level}
 use Rattle.orc_ids.specs.declared.lookup.OrderItem.{OrderItem}
 use Rattle.orc_ids.specs.declared.lookup.Wanted.{Wanted}
 use Rattle.orc_ids.specs.declared.place.Place.{Place}
+use Rattle.session_model.specs.Answer.{unit_shape}
+use Rattle.session_model.specs.Lists.{or_else}
 use Rattle.session_model.specs.Meaning.{Meaning}
-use Rattle.session_model.specs.Plain.{Query}
+use Rattle.session_model.specs.Plain.{Plain, Query}
 use Rattle.session_model.specs.State.{state, IsOpen}
 use Rattle.session_model.specs.declared.entry.Entry.{Entry}
 use Rattle.session_model.specs.declared.entry.Event.{Event}
@@ -83,26 +85,31 @@ abbrev pub is_emit : UnitId → Event Meaning → Bool
 is_emit u (event.Emit v groups) = v.0 == u.0
 is_emit u _ = false
 
--- a unit whose edge is out of range is failed so, any other one emitted
-abbrev pub Emits : UnitId → List (Entry Meaning) → Type 0
-Emits u [] = ⊥
-Emits u (e ∷ es) = IsCut u (e ∷ es) ⊎ ((place : Place) × (kind : ℕ) × (v : ℤ) × IsFail u (why.Refused place kind v) (e ∷ es)) ⊎ (is_emit u e.event ≡ true) × AfterEmit u e.reply es
+-- a unit with an edge out of range is failed so, any other one emitted
+abbrev pub EndsFinish : UnitId → Option (Place × ℕ × ℤ) → List (Entry Meaning) → Type 0
+EndsFinish u (Some (place, kind, v)) es = IsFail u (why.Refused place kind v) es
+EndsFinish u None [] = ⊥
+EndsFinish u None (e ∷ es) = (is_emit u e.event ≡ true) × AfterEmit u e.reply es
 
--- what follows a take; a unit without a shape needs no place
-abbrev pub AfterTake : (ℕ → Bool) → Reply → List (Entry Meaning) → Type 0
-AfterTake shaped (reply.Start u) es = MatchBool (shaped u.0) (Places u es) (Resolves u es)
-AfterTake shaped (reply.Finish u (finishing.Bound matches)) es = Emits u es
-AfterTake shaped (reply.Finish u (finishing.Lost i)) es = IsFail u (why.InError i) es
-AfterTake shaped _ es = ⊥
+-- the unit needs memory
+abbrev pub is_shaped : Plain → UnitId → Bool
+is_shaped m u = option_map_or (λ x. is_some (unit_shape x)) (slice_get m.units u.0) false
 
--- the entries of one job
-abbrev pub IsJob : (ℕ → Bool) → List (Entry Meaning) → Type 0
-IsJob shaped [] = ⊥
-IsJob shaped (e ∷ es) = (e.event ≡ event.Take) × AfterTake shaped e.reply es
+-- the first edge of the unit that is out of range, at its base and with its bindings
+abbrev pub refusal_of : Plain → UnitId → Option (Place × ℕ × ℤ)
+refusal_of m u = option_map_or (λ x. x.meaning.refusal x.live (unwrap_or x.base 0) (unwrap_or x.bound [])) (slice_get m.units u.0) None
 
--- the units that need memory, in the session after a history
-abbrev pub shaped_in : List (Entry Meaning) → ℕ → Bool
-shaped_in h u = option_map_or (λ x. option_map_or (λ s. true) (x.meaning.shape x.live) false) (slice_get (state h).units u) false
+-- what follows a take, after which the session is m; a unit without a shape needs no place
+abbrev pub AfterTake : Plain → Reply → List (Entry Meaning) → Type 0
+AfterTake m (reply.Start u) es = MatchBool (is_shaped m u) (Places u es) (Resolves u es)
+AfterTake m (reply.Finish u (finishing.Bound matches)) es = IsCut u es ⊎ EndsFinish u (refusal_of m u) es
+AfterTake m (reply.Finish u (finishing.Lost i)) es = IsFail u (why.InError i) es
+AfterTake m _ es = ⊥
+
+-- the entries of one job, each with its number in the history
+abbrev pub IsJob : List (Entry Meaning) → List (ℕ × Entry Meaning) → Type 0
+IsJob h [] = ⊥
+IsJob h (c ∷ cs) = (c.1.event ≡ event.Take) × AfterTake (state (take c.0 h)) c.1.reply (map (λ d. d.1) cs)
 
 abbrev pub is_collected : Reply → Bool
 is_collected (reply.Found n matches) = true
@@ -114,7 +121,7 @@ pub data Works (h : List (Entry Meaning)) (q : QueryId) : ℕ → List (ℕ × E
   Collects : (n m : ℕ) (e : Entry Meaning) → e.event ≡ event.Collect q → is_collected e.reply ≡ true → Works h q n ((m, e) ∷ [])
   Job : (n m : ℕ) (query : Query) (last : ℕ × Entry Meaning) (before rest : List (ℕ × Entry Meaning)) →
       slice_get (state (take n h)).queries q.0 ≡ Some query → IsOpen (take n h) query →
-      IsJob (shaped_in h) (map (λ c. c.1) (before ++ last ∷ [])) →
+      IsJob h (before ++ last ∷ []) →
       Works h q last.0 rest → Works h q n (before ++ last ∷ rest)
 
 -- a lookup: its order, names, level and note
@@ -140,11 +147,42 @@ pub data Looks (h : List (Entry Meaning)) (l : Lookup) : List (ℕ × Entry Mean
   Asks : (n : ℕ) (e : Entry Meaning) (cs : List (ℕ × Entry Meaning)) → e.event ≡ lookup_event l → EndsAsk h n e.reply cs → Looks h l ((n, e) ∷ cs)
   Again : (n m : ℕ) (e f : Entry Meaning) (g : GenId) (cs : List (ℕ × Entry Meaning)) → e.event ≡ lookup_event l → e.reply ≡ reply.Offer g → f.event ≡ event.Generate g → Looks h l cs → Looks h l ((n, e) ∷ (m, f) ∷ cs)
 
--- a stopped call leaves a beginning of such a list, but for one closing fail
+-- the unit of the last job that was begun
+abbrev pub taken_unit : Reply → Option UnitId
+taken_unit (reply.Start u) = Some u
+taken_unit (reply.Finish u how) = Some u
+taken_unit _ = None
+
+abbrev pub last_taken : List (ℕ × Entry Meaning) → Option UnitId
+last_taken [] = None
+last_taken (c ∷ cs) = or_else (last_taken cs) (taken_unit c.1.reply)
+
+-- a line that was stopped has a beginning of such a list, but for one closing fail of the unit whose job it was doing
 pub record IsStopped (whole : List (ℕ × Entry Meaning) → Type 0) (cs : List (ℕ × Entry Meaning)) : Type 0 where
   pub rest : List (ℕ × Entry Meaning)
   pub closing : List (ℕ × Entry Meaning)
   pub begun : List (ℕ × Entry Meaning)
   pub is : cs ≡ begun ++ closing
   pub would : whole (begun ++ rest)
-  pub fail : (closing ≡ []) ⊎ ((u : UnitId) × IsCut u (map (λ c. c.1) closing))
+  pub fail : (closing ≡ []) ⊎ ((u : UnitId) × (last_taken begun ≡ Some u) × IsCut u (map (λ c. c.1) closing))
+
+-- a line of a client: one event, as a definition, a move or a removal; a lookup; or a run
+pub data Line : Type 0 where
+  One : Event Meaning → Line
+  LookUp : Lookup → Line
+  Run : Line
+
+-- the entries of a line; a run copies the memory, if the client found the name that it begins at
+abbrev pub OfLine : List (Entry Meaning) → Line → List (ℕ × Entry Meaning) → Type 0
+OfLine h (One e) (c ∷ []) = c.1.event ≡ e
+OfLine h (One e) _ = ⊥
+OfLine h (LookUp l) cs = Looks h l cs
+OfLine h Run [] = ⊤
+OfLine h Run (c ∷ []) = c.1.event ≡ event.Image
+OfLine h Run _ = ⊥
+
+-- the entries of a client's lines, one line after the other; after a line that was stopped there are none
+pub data OfLines (h : List (Entry Meaning)) : List Line → List (ℕ × Entry Meaning) → Type 0 where
+  Ends : OfLines h [] []
+  Goes : (line : Line) (lines : List Line) (now later : List (ℕ × Entry Meaning)) → OfLine h line now → OfLines h lines later → OfLines h (line ∷ lines) (now ++ later)
+  Stops : (line : Line) (lines : List Line) (now : List (ℕ × Entry Meaning)) → IsStopped (OfLine h line) now → OfLines h (line ∷ lines) now

@@ -265,7 +265,7 @@ pub data Change : Type 0 where
   Remove : ℕ → Change
   LetGo : ℕ → ℕ → Change
 
--- Defunct answers of any call on a unit, and the three replies that use a generator up
+-- Defunct answers of any call on a unit, and the two refusals that use a generator up
 abbrev pub other_change : ℕ → Event Meaning → Reply → Change
 other_change s e (reply.Defunct u) = LetGo s u.0
 other_change s (event.Generate g) reply.TooMany = Spend g.0

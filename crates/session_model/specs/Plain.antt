@@ -2,8 +2,6 @@
 use Rattle.std.specs.Prelude.{ℕ, ◌+◌, Bool, true, false, ◌&&◌, ◌==◌, nat_lt, not, List, [], ◌∷◌, length, slice_get, count_by, Option, Some, None, is_some, option_map, map, if◌then◌else◌}
 use Rattle.std.specs.Option.{option_map_or}
 use Rattle.orc_ids.specs.declared.ids.InstId.{InstId}
-use Rattle.orc_ids.specs.declared.lookup.Level.{Level}
-use Rattle.orc_ids.specs.declared.lookup.OrderItem.{OrderItem}
 use Rattle.session_model.specs.Meaning.{Meaning, Bindings}
 use Rattle.session_model.specs.declared.rows.InstRow.{InstRow}
 use Rattle.session_model.specs.declared.rows.Job.{Job}
@@ -122,7 +120,7 @@ unsearched_at rows i = row_test (λ r. is_unsearched r.phase) rows i
 abbrev pub address_at : List InstRow → ℕ → Option ℕ
 address_at rows i = option_map_or (λ r. phase_address r.phase) (slice_get rows i) None
 
--- the row is of the unit, which still offers it
+-- the row is of the unit, and present in its dylib's table
 abbrev pub is_owned : ℕ → InstRow → Bool
 is_owned u r = r.present && r.unit.0 == u
 

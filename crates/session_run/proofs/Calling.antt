@@ -1,35 +1,35 @@
 -- A whole run makes the calls of a lookup, and copies the memory.
-use Rattle.std.proofs.Common.{◌≡◌, ℕ, zero, suc, ◌+◌, ◌-◌, ◌<◌, ◌≤◌, Bool, true, false, cond, List, [], ◌∷◌, ◌++◌, length, map, take, slice_get, refl, sym, ap, subst, ◌∙◌, arith, inl, inr, Option, Some, None, unwrap_or, is_some}
-use Rattle.std.specs.Prelude.{count_by}
+use Rattle.std.proofs.Common.{◌≡◌, ℕ, zero, suc, ◌≤◌, true, false, List, [], ◌∷◌, ◌++◌, length, take, slice_get, refl, sym, ap, subst, ◌∙◌, arith, inr, Option, Some, None, unwrap_or, is_some}
 use Rattle.std.specs.Option.{option_map_or}
 use Rattle.std.proofs.lemmas.Bool.{both_ways}
 use Rattle.std.proofs.lemmas.Option.{none-some}
 use Rattle.std.proofs.lemmas.List.{take-append-le}
 use Rattle.std.specs.Prelude.{drop}
 use Rattle.orc_ids.specs.declared.ids.NameId.{NameId}
-use Rattle.orc_ids.specs.declared.ids.QueryId.{QueryId}
 use Rattle.orc_ids.specs.declared.ids.UnitId.{UnitId}
 use Rattle.orc_ids.specs.declared.place.Shape.{Shape}
 use Rattle.session_model.specs.Meaning.{Meaning}
 use Rattle.session_model.specs.Plain.{Plain}
 use Rattle.session_model.specs.Query.{is_met}
 use Rattle.session_model.specs.State.{state, IsOpen}
-use Rattle.session_model.specs.Calls.{Links, lookup_event, Looks, Works, IsJob, numbered_calls, shaped_in}
+use Rattle.session_model.specs.Calls.{Links, lookup_event, Looks, Works, IsJob, is_shaped, refusal_of}
 use Rattle.session_model.specs.Answer.{CODE_START}
 use Rattle.session_model.specs.declared.entry.Entry.{Entry}
 use Rattle.session_model.specs.declared.entry.Event.{Event}
 use Rattle.session_model.specs.declared.entry.Event.TheVariants as event
 use Rattle.session_model.specs.declared.entry.Finishing.TheVariants.{Bound}
-use Rattle.session_model.specs.declared.entry.Reply.{Reply}
 use Rattle.session_model.specs.declared.entry.Reply.TheVariants as reply
 use Rattle.session_run.specs.Lone.{IsLone}
 use Rattle.session_core.specs.Given.{IsLowest}
-use Rattle.session_run.specs.Run.{lookup_of, setup_events, copy_events, IsRun, PlacesLowest}
+use Rattle.session_run.specs.Run.{lookup_of, IsRun, PlacesLowest}
 use Rattle.session_run.specs.Whole.{said, so_far, setup_entries, found_entries, instances_from, whole_run, offer_named, client_entries}
 use Rattle.session_run.specs.Stages.{entry_query}
 use Rattle.session_run.proofs.Named.{found_at}
-use Rattle.session_run.proofs.Onward.{IsFoundAt, state_4, state_5, state_8, state_12}
-use Rattle.session_run.proofs.Runs.{legal_12, legal_missing, unmet_before, front}
+use Rattle.session_run.proofs.Onward.{IsFoundAt, state_4, state_5, state_8, state_9}
+use Rattle.session_run.proofs.Runs.{legal_12, legal_missing, unmet_before}
+
+abbrev the_unit : UnitId
+the_unit = record { 0 = 0 }
 
 -- the lookup is open after its ask, and while the unit is linked
 open_4 : (unit : Meaning) (shape : Shape) (main entry : NameId) (i : ℕ) → IsFoundAt unit main entry i → IsLone unit shape → IsOpen (so_far 4 unit shape main entry i) (entry_query i)
@@ -50,9 +50,11 @@ entry_there unit shape main entry i f = ap (λ (m : Plain). slice_get m.queries 
 entry_still : (unit : Meaning) (shape : Shape) (main entry : NameId) (i : ℕ) → IsFoundAt unit main entry i → IsLone unit shape → slice_get (state (so_far 8 unit shape main entry i)).queries 0 ≡ Some (entry_query i)
 entry_still unit shape main entry i f l = ap (λ (m : Plain). slice_get m.queries 0) (state_8 unit shape main entry i f l.alone)
 
-is_shaped : (unit : Meaning) (shape : Shape) (main entry : NameId) (i : ℕ) → IsFoundAt unit main entry i → IsLone unit shape → shaped_in (so_far 12 unit shape main entry i) 0 ≡ true
-is_shaped unit shape main entry i f l = ap (λ (m : Plain). option_map_or (λ x. option_map_or (λ s. true) (x.meaning.shape x.live) false) (slice_get m.units 0) false) (state_12 unit shape main entry i f l.alone)
-    ∙ ap (λ o. option_map_or (λ s. true) o false) l.shaped
+needs_memory : (unit : Meaning) (shape : Shape) (main entry : NameId) (i : ℕ) → IsFoundAt unit main entry i → IsLone unit shape → is_shaped (state (so_far 5 unit shape main entry i)) the_unit ≡ true
+needs_memory unit shape main entry i f l = ap (λ (m : Plain). is_shaped m the_unit) (state_5 unit shape main entry i f) ∙ ap is_some l.shaped
+
+in_range : (unit : Meaning) (shape : Shape) (main entry : NameId) (i : ℕ) → IsFoundAt unit main entry i → IsLone unit shape → refusal_of (state (so_far 9 unit shape main entry i)) the_unit ≡ None
+in_range unit shape main entry i f l = ap (λ (m : Plain). refusal_of m the_unit) (state_9 unit shape main entry i f l.alone) ∙ l.allowed
 
 -- the entries of the two jobs
 start_entries : Shape → List (ℕ × Entry Meaning)
@@ -74,21 +76,21 @@ emit_entry unit = (10, said 1 (event.Emit (record { 0 = 0 }) (record { members =
 collect_entry : Meaning → ℕ → ℕ × Entry Meaning
 collect_entry unit i = (11, said 1 (event.Collect (record { 0 = 0 })) (reply.Found 10 (Some (record { 0 = i }, unit.address i CODE_START) ∷ [])))
 
-start_job : (shape : Shape) (shaped : ℕ → Bool) → shaped 0 ≡ true → IsJob shaped (map (λ (c : ℕ × Entry Meaning). c.1) (start_entries shape ++ link_entry ∷ []))
+start_job : (shape : Shape) (h : List (Entry Meaning)) → is_shaped (state (take 5 h)) the_unit ≡ true → IsJob h (start_entries shape ++ link_entry ∷ [])
 unfolding start_entries link_entry
-start_job shape shaped s = (refl, rw s (inr (refl, inr (refl, Links.Ends _ [] refl refl))))
+start_job shape h s = (refl, rw s (inr (refl, inr (refl, Links.Ends _ [] refl refl))))
 
-finish_job : (unit : Meaning) (shaped : ℕ → Bool) → IsJob shaped (map (λ (c : ℕ × Entry Meaning). c.1) (finish_entries ++ emit_entry unit ∷ []))
+finish_job : (unit : Meaning) (h : List (Entry Meaning)) → refusal_of (state (take 9 h)) the_unit ≡ None → IsJob h (finish_entries ++ emit_entry unit ∷ [])
 unfolding finish_entries emit_entry
-finish_job unit shaped = (refl, inr (inr (refl, refl)))
+finish_job unit h s = (refl, inr (rw s (refl, refl)))
 
 -- both jobs are done while the lookup is open, and then its end is collected
 works : (unit : Meaning) (shape : Shape) (main entry : NameId) (i : ℕ) → IsFoundAt unit main entry i → IsLone unit shape →
     Works (so_far 12 unit shape main entry i) (record { 0 = 0 }) 4 (start_entries shape ++ link_entry ∷ (finish_entries ++ emit_entry unit ∷ collect_entry unit i ∷ []))
 unfolding start_entries link_entry finish_entries emit_entry collect_entry
 works unit shape main entry i f l =
-    Works.Job 4 8 (entry_query i) link_entry (start_entries shape) (finish_entries ++ emit_entry unit ∷ collect_entry unit i ∷ []) (entry_there unit shape main entry i f) (open_4 unit shape main entry i f l) (start_job shape (shaped_in (so_far 12 unit shape main entry i)) (is_shaped unit shape main entry i f l))
-    (Works.Job 8 10 (entry_query i) (emit_entry unit) finish_entries (collect_entry unit i ∷ []) (entry_still unit shape main entry i f l) (open_8 unit shape main entry i f l) (finish_job unit (shaped_in (so_far 12 unit shape main entry i)))
+    Works.Job 4 8 (entry_query i) link_entry (start_entries shape) (finish_entries ++ emit_entry unit ∷ collect_entry unit i ∷ []) (entry_there unit shape main entry i f) (open_4 unit shape main entry i f l) (start_job shape (so_far 12 unit shape main entry i) (needs_memory unit shape main entry i f l))
+    (Works.Job 8 10 (entry_query i) (emit_entry unit) finish_entries (collect_entry unit i ∷ []) (entry_still unit shape main entry i f l) (open_8 unit shape main entry i f l) (finish_job unit (so_far 12 unit shape main entry i) (in_range unit shape main entry i f l))
     (Works.Collects 10 11 (said 1 (event.Collect (record { 0 = 0 })) (reply.Found 10 (Some (record { 0 = i }, unit.address i CODE_START) ∷ []))) refl refl))
 
 -- Places

@@ -1,25 +1,19 @@
 -- Each call of a run has one right reply, and a journal of 16 entries has its place.
-use Rattle.std.proofs.Common.{◌≡◌, ℕ, zero, suc, ◌+◌, ◌-◌, ◌<◌, ◌≤◌, Bool, true, false, cond, ◌&&◌, List, [], ◌∷◌, ◌++◌, length, map, take, slice_get, refl, sym, ap, subst, ◌∙◌, arith, inl, inr, Option, Some, None, unwrap_or, is_some}
-use Rattle.std.specs.Prelude.{Result, Ok, Err, nat_lt, count_by}
-use Rattle.std.specs.Option.{option_map_or}
-use Rattle.std.proofs.lemmas.Bool.{both_ways, ltb-true, cases_Bool}
-use Rattle.orc_ids.specs.declared.groups.Group.{Group}
-use Rattle.orc_ids.specs.declared.ids.InstId.{InstId}
+use Rattle.std.proofs.Common.{◌≡◌, ℕ, ◌≤◌, Bool, true, false, cond, ◌&&◌, List, [], ◌∷◌, length, slice_get, refl, sym, ap, subst, ◌∙◌, arith, Some, None, unwrap_or, is_some}
+use Rattle.std.specs.Prelude.{count_by}
+use Rattle.std.proofs.lemmas.Bool.{both_ways}
 use Rattle.orc_ids.specs.declared.ids.NameId.{NameId}
-use Rattle.orc_ids.specs.declared.ids.UnitId.{UnitId}
 use Rattle.orc_ids.specs.declared.place.Shape.{Shape}
-use Rattle.session_model.specs.Lists.{first_some}
 use Rattle.session_model.specs.Meaning.{Meaning}
-use Rattle.session_model.specs.Plain.{Plain, UnitRow, empty}
-use Rattle.session_model.specs.State.{state, after, IsOpen, IsEnd}
+use Rattle.session_model.specs.Plain.{Plain, UnitRow}
+use Rattle.session_model.specs.State.{state, IsOpen, IsEnd}
 use Rattle.session_model.specs.Query.{is_met}
-use Rattle.session_model.specs.History.{is_full}
 use Rattle.session_model.specs.Calls.{lookup_event}
-use Rattle.session_model.specs.Answer.{Answers, AnswersCall, AnswersPlace, AnswersFinish, AnswersCollect, Called, Right, Wrong, called, is_stage, unit_shape, behind_taken, CODE_START, CODE_END}
+use Rattle.session_model.specs.Answer.{Answers, AnswersCall, AnswersPlace, AnswersFinish, AnswersCollect, Called, Right, Wrong, called, is_stage, unit_shape, CODE_START}
 use Rattle.session_model.specs.declared.entry.Entry.{Entry}
 use Rattle.session_model.specs.declared.entry.Event.{Event}
 use Rattle.session_model.specs.declared.entry.Event.TheVariants as event
-use Rattle.session_model.specs.declared.entry.Finishing.TheVariants.{Bound, Lost}
+use Rattle.session_model.specs.declared.entry.Finishing.TheVariants.{Bound}
 use Rattle.session_model.specs.declared.entry.Reply.{Reply}
 use Rattle.session_model.specs.declared.entry.Reply.TheVariants as reply
 use Rattle.session_model.specs.declared.rows.Ending.TheVariants.{Found}
@@ -30,9 +24,9 @@ use Rattle.session_core.specs.Given.{IsLowest}
 use Rattle.session_run.specs.Lone.{all_live, IsLone}
 use Rattle.session_run.specs.Run.{lookup_of}
 use Rattle.session_run.specs.Whole.{said, so_far, made_entries, setup_entries, instances_from, offer_named}
-use Rattle.session_run.specs.Stages.{made, defined, asked, started, placed, linking, linked, finishing, done, entry_query}
+use Rattle.session_run.specs.Stages.{defined, asked, started, placed, linking, linked, finishing, entry_query}
 use Rattle.session_run.proofs.Named.{match_found, match_none, found_at}
-use Rattle.session_run.proofs.Onward.{IsFoundAt, after_made, state_3, state_4, state_5, state_6, state_7, state_8, state_9, state_10, state_11}
+use Rattle.session_run.proofs.Onward.{IsFoundAt, after_made, state_3, state_4, state_5, state_6, state_7, state_8, state_9, state_10}
 use Rattle.session_run.proofs.Right.{right_define, right_ask, right_missing, right_link, right_finish}
 use Rattle.session_run.proofs.Runs.{lookup_ended}
 

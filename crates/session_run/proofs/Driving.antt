@@ -1,5 +1,5 @@
 -- Each call of a `Run`, by what the session promises of it.
-use Rattle.std.proofs.Common.{◌≡◌, ℕ, ◌<◌, Bool, true, false, cond, ◌&&◌, List, [], ◌∷◌, ◌++◌, length, take, slice_get, refl, sym, ap, subst, ◌∙◌, arith, Option, Some, None, unwrap_or, is_some}
+use Rattle.std.proofs.Common.{◌≡◌, ℕ, zero, suc, Bool, true, false, cond, List, [], ◌∷◌, take, slice_get, refl, sym, ap, subst, ◌∙◌, Option, Some, None, unwrap_or, is_some}
 use Rattle.std.specs.Prelude.{Result, Ok, Err, IfErr, IfOk, OnOk, OnErr, count_by, ℤ}
 use Rattle.std.proofs.lemmas.Bool.{both_ways}
 use Rattle.std.proofs.lemmas.Option.{none-some}
@@ -14,15 +14,14 @@ use Rattle.session_run.proofs.Calling.{whole_is_run}
 use Rattle.orc_ids.specs.declared.groups.Group.{Group}
 use Rattle.orc_ids.specs.declared.ids.InstId.{InstId}
 use Rattle.orc_ids.specs.declared.ids.SeatNo.{SeatNo}
-use Rattle.orc_ids.specs.declared.ids.UnitId.{UnitId}
 use Rattle.orc_ids.specs.declared.lookup.Stop.{Stop}
 use Rattle.orc_ids.specs.declared.lookup.Stop.TheVariants.{JournalFull, NoMemory}
 use Rattle.orc_ids.specs.declared.place.Shape.{Shape}
 use Rattle.session_model.specs.Meaning.{Meaning}
 use Rattle.session_model.specs.Plain.{Plain, UnitRow, own_rows}
 use Rattle.session_model.specs.State.{state, plain_history}
-use Rattle.session_model.specs.Memory.{memory, unit_image}
-use Rattle.session_model.specs.Answer.{Called, Right, Wrong, called, is_stage, unit_shape, CODE_START}
+use Rattle.session_model.specs.Memory.{memory}
+use Rattle.session_model.specs.Answer.{Called, Right, Wrong, called, unit_shape, CODE_START}
 use Rattle.session_model.specs.declared.entry.Entry.{Entry}
 use Rattle.session_model.specs.declared.entry.Event.TheVariants as event
 use Rattle.session_model.specs.declared.entry.Finishing.TheVariants.{Bound}
@@ -38,14 +37,14 @@ use Rattle.session_core.specs.Performs.{Performs, Takes, Collects, state_of}
 use Rattle.session_core.specs.Replies.{may_place, may_emit}
 use Rattle.session_core.specs.declared.taken.TakenUnit.{TakenUnit}
 use Rattle.session_run.specs.Drive.{its_shape, unit_of, IsLoneRun, journal_of, entry_match, is_offered, ask_reply, IsAt, IsStopped, Went, Gives, HasLooked, HasFound}
-use Rattle.session_run.specs.Halts.{WentOn}
+use Rattle.session_run.specs.Halts.{WentOn, HasNoPlace}
 use Rattle.session_run.specs.Lone.{all_live, IsLone}
 use Rattle.session_run.specs.Run.{lookup_of}
-use Rattle.session_run.specs.Whole.{so_far, instances_from, whole_run, offer_named}
-use Rattle.session_run.specs.Stages.{asked, started, linked, finishing, done, rows_as, resolved, claimed}
+use Rattle.session_run.specs.Whole.{so_far, instances_from, whole_run}
+use Rattle.session_run.specs.Stages.{asked, started, linked, finishing, done, resolved, claimed}
 use Rattle.session_run.specs.declared.run.Run.{Run}
 use Rattle.session_run.proofs.Named.{found_at}
-use Rattle.session_run.proofs.Onward.{IsFoundAt, state_4, state_5, state_8, state_9, state_11, state_12}
+use Rattle.session_run.proofs.Onward.{state_4, state_5, state_8, state_9, state_11, state_12}
 use Rattle.session_run.proofs.Rows.{rows_own}
 use Rattle.session_run.proofs.Wents.{went_dylib, went_tracker, went_define, went_ask, went_start, went_place, went_resolve, went_link, went_finish, went_emit, went_collect, went_image, whole_found, LowestOf}
 
@@ -212,9 +211,20 @@ image_goes jmax run old new result l o at p = let i = there_is (entry_match run)
 
 -- A run that was stopped
 
+-- what is among the first entries is among all
+among : {X : Type 0} (n k : ℕ) (xs : List X) (x : X) → slice_get (take n xs) k ≡ Some x → slice_get xs k ≡ Some x
+among zero k xs x e = absurd (none-some x e)
+among (suc n) k [] x e = e
+among (suc n) zero (y ∷ ys) x e = e
+among (suc n) (suc k) (y ∷ ys) x e = among n k ys x e
+
+of_whole : (next jmax : ℕ) (whole h : List (Entry Meaning)) (len : ℕ) → HasNoPlace jmax (take next whole) h len → HasNoPlace jmax whole h len
+of_whole next jmax whole h len x = record { all = x.all; next = x.next; there = among next len whole x.next x.there; full = x.full; few = x.few }
+
 pub went_stopped : (n next jmax : ℕ) (run : Run) (h : List (Entry ObjectUnit)) (expected : Reply) (result : Result Reply Stop) → Went n next jmax run h expected result → IfErr result (λ stop. IsStopped jmax run h stop)
 went_stopped n next jmax run h expected (Ok r) w = tt
-went_stopped n next jmax run h expected (Err stop) w = record { n = n; at = w }
+went_stopped n next jmax run h expected (Err NoMemory) w = record { n = n; at = w }
+went_stopped n next jmax run h expected (Err (JournalFull len)) w = record { n = n; at = (w.0, of_whole next jmax (journal_of run) (plain_history meaning_of h) len w.1) }
 
 pub memory_out : (n jmax : ℕ) (run : Run) (h : List (Entry ObjectUnit)) → IsAt n run h → IsStopped jmax run h NoMemory
 memory_out n jmax run h at = record { n = n; at = (at, tt) }

@@ -1,16 +1,15 @@
 -- Which offer a name stands for.
-use Rattle.std.proofs.Common.{◌≡◌, ℕ, zero, suc, ◌+◌, ◌-◌, ◌<◌, ◌≤◌, Bool, true, false, cond, ◌&&◌, ◌==◌, List, [], ◌∷◌, length, map, slice_get, refl, sym, ap, subst, ◌∙◌, arith, inl, inr, Option, Some, None, unwrap_or}
+use Rattle.std.proofs.Common.{◌≡◌, ℕ, suc, ◌+◌, Bool, true, ◌&&◌, ◌==◌, List, [], ◌∷◌, slice_get, refl, sym, ap, subst, arith, inl, inr, Some, None, unwrap_or}
 use Rattle.std.specs.Option.{option_map_or}
-use Rattle.std.proofs.lemmas.Bool.{cases_Bool, both_ways, eqb-true}
+use Rattle.std.proofs.lemmas.Bool.{cases_Bool, eqb-true}
 use Rattle.std.proofs.lemmas.Option.{none-some}
 use Rattle.orc_ids.specs.declared.flags.SymFlags.{SymFlags}
 use Rattle.orc_ids.specs.declared.ids.NameId.{NameId}
 use Rattle.session_model.specs.Lists.{only_if, or_else}
 use Rattle.session_model.specs.Meaning.{Meaning}
-use Rattle.session_model.specs.Match.{first_row, match_of, row_of}
+use Rattle.session_model.specs.Match.{first_row, match_of}
 use Rattle.session_model.specs.Change as change
 use Rattle.session_model.specs.declared.rows.InstRow.{InstRow}
-use Rattle.session_model.specs.declared.rows.Match.{Match}
 use Rattle.session_model.specs.declared.rows.Match.TheVariants.{Instance}
 use Rattle.session_model.specs.declared.rows.Phase.{Phase}
 use Rattle.session_model.specs.declared.rows.Row.{Row}

@@ -1,5 +1,5 @@
 -- The session of a run after each of its entries.
-use Rattle.std.proofs.Common.{◌≡◌, ℕ, zero, suc, ◌+◌, ◌<◌, Bool, true, false, cond, ◌&&◌, ◌||◌, not, ◌==◌, List, [], ◌∷◌, ◌++◌, length, map, take, slice_get, refl, sym, ap, subst, ◌∙◌, arith, Option, Some, None, unwrap_or}
+use Rattle.std.proofs.Common.{◌≡◌, ℕ, Bool, cond, List, [], ◌∷◌, ◌++◌, slice_get, refl, ap, ◌∙◌, Option, Some, None}
 use Rattle.std.specs.Prelude.{count_by}
 use Rattle.std.specs.Option.{option_map_or}
 use Rattle.orc_ids.specs.declared.flags.SymFlags.{SymFlags}
@@ -12,25 +12,21 @@ use Rattle.orc_ids.specs.declared.ids.InstId.{InstId}
 use Rattle.orc_ids.specs.declared.lookup.Wanted.{Wanted}
 use Rattle.orc_ids.specs.declared.lookup.Scope.TheVariants.{All}
 use Rattle.session_model.specs.Plain.{Plain, empty, is_unsearched}
-use Rattle.session_model.specs.State.{state, state_from, after}
+use Rattle.session_model.specs.State.{state, after}
 use Rattle.session_model.specs.Calls.{lookup_event}
 use Rattle.session_model.specs.Change as change
-use Rattle.session_model.specs.Match.{match_of}
-use Rattle.session_model.specs.declared.rows.Match.TheVariants.{Instance}
 use Rattle.session_model.specs.Answer.{CODE_START}
-use Rattle.session_model.specs.declared.entry.Entry.{Entry}
 use Rattle.session_model.specs.declared.entry.Event.TheVariants as event
 use Rattle.session_model.specs.declared.entry.Finishing.TheVariants.{Bound}
 use Rattle.session_model.specs.declared.entry.Reply.TheVariants as reply
 use Rattle.session_model.specs.declared.rows.InstRow.{InstRow}
 use Rattle.session_model.specs.declared.rows.Job.TheVariants as job
-use Rattle.session_model.specs.declared.rows.Query.{Query}
 use Rattle.session_model.specs.declared.rows.UnitPhase.TheVariants as stage
-use Rattle.session_run.specs.Lone.{all_live, IsLone}
+use Rattle.session_run.specs.Lone.{all_live}
 use Rattle.session_run.specs.Run.{lookup_of}
 use Rattle.session_run.specs.Whole.{said, so_far, setup_entries, instances_from}
-use Rattle.session_run.specs.Stages.{rows_as, unit_as, session_as, unsearched, claimed, resolved, emitted, made, defined, asked, started, placed, linking, linked, finishing, done, entry_query, queries_of, range_of, link_query}
-use Rattle.session_run.proofs.Rows.{rows_new, rows_claimed, rows_resolved, rows_emitted, rows_own, row_at}
+use Rattle.session_run.specs.Stages.{unit_as, session_as, unsearched, made, defined, asked, started, placed, linking, linked, finishing, done, entry_query, queries_of, range_of}
+use Rattle.session_run.proofs.Rows.{rows_new, rows_claimed, rows_resolved, rows_emitted, row_at}
 
 pub after_made : (main : NameId) → after (after empty (said 0 (event.Dylib main) (reply.Made (record { 0 = 0 })))) (said 0 (event.Tracker (record { 0 = 0 })) (reply.Tracker (record { 0 = 0 }))) ≡ made main
 after_made main = refl

@@ -1,27 +1,25 @@
 -- Each entry of a run has the right reply.
-use Rattle.std.proofs.Common.{◌≡◌, ℕ, zero, suc, ◌+◌, ◌-◌, ◌<◌, ◌≤◌, ◌%◌, Bool, true, false, cond, ◌&&◌, ◌||◌, not, ◌==◌, List, [], ◌∷◌, ◌++◌, length, map, take, slice_get, refl, sym, ap, ap₂, subst, ◌∙◌, arith, Option, Some, None, unwrap_or, is_some}
-use Rattle.std.specs.Prelude.{count_by, nat_lt, nat_le, All}
+use Rattle.std.proofs.Common.{◌≡◌, ℕ, zero, suc, ◌+◌, ◌<◌, ◌≤◌, Bool, true, false, cond, ◌&&◌, not, List, [], ◌∷◌, length, slice_get, refl, sym, ap, ap₂, subst, ◌∙◌, arith, Option, Some, None, is_some}
+use Rattle.std.specs.Prelude.{count_by, nat_lt}
 use Rattle.std.specs.Option.{option_map_or}
 use Rattle.std.proofs.lemmas.List.Elements.{All-nil}
-use Rattle.std.proofs.lemmas.Bool.{cases_Bool, both_ways, le-ltb}
+use Rattle.std.proofs.lemmas.Bool.{le-ltb}
 use Rattle.orc_ids.specs.declared.flags.SymFlags.{SymFlags}
-use Rattle.orc_ids.specs.declared.ids.InstId.{InstId}
 use Rattle.orc_ids.specs.declared.ids.NameId.{NameId}
 use Rattle.orc_ids.specs.declared.ids.UnitId.{UnitId}
-use Rattle.orc_ids.specs.declared.lookup.Level.TheVariants.{Ready, Resolved}
+use Rattle.orc_ids.specs.declared.lookup.Level.TheVariants.{Resolved}
 use Rattle.orc_ids.specs.declared.lookup.Scope.TheVariants.{All as AllScope}
-use Rattle.orc_ids.specs.declared.lookup.Wanted.{Wanted}
 use Rattle.orc_ids.specs.declared.place.Shape.{Shape}
-use Rattle.session_model.specs.Lists.{first_some, only_if, or_else}
-use Rattle.session_model.specs.Meaning.{Meaning, Bindings}
+use Rattle.session_model.specs.Lists.{first_some, only_if}
+use Rattle.session_model.specs.Meaning.{Meaning}
 use Rattle.session_model.specs.Plain.{Plain, UnitRow, empty, emitted_at, failed_at, present_at, address_at, is_emitted, is_failed, phase_address, own_rows}
-use Rattle.session_model.specs.Query.{is_met, is_lost, ending, first_lost, all_at, addresses}
-use Rattle.session_model.specs.Reach.{is_ready, within, deps_at}
-use Rattle.session_model.specs.State.{state, after, IsEnd, SettlesAt}
+use Rattle.session_model.specs.Query.{is_met, is_lost}
+use Rattle.session_model.specs.Reach.{is_ready, deps_at}
+use Rattle.session_model.specs.State.{state, after, IsEnd}
 use Rattle.session_model.specs.Calls.{lookup_event}
 use Rattle.session_model.specs.Change as change
 use Rattle.session_model.specs.Match.{match_of}
-use Rattle.session_model.specs.Answer.{Answers, AnswersCall, AnswersPlace, Called, Right, Wrong, Apart, called, is_stage, unit_shape, first_reply, clash, offer_of, error_of, answer_lookup, answer_define, aligned, taken_end, behind_taken, LinkEnded, CODE_START, CODE_END}
+use Rattle.session_model.specs.Answer.{Answers, AnswersCall, AnswersPlace, Called, Right, Wrong, Apart, called, is_stage, unit_shape, first_reply, clash, answer_lookup, CODE_START}
 use Rattle.session_model.specs.declared.entry.Entry.{Entry}
 use Rattle.session_model.specs.declared.entry.Event.TheVariants as event
 use Rattle.session_model.specs.declared.entry.Finishing.TheVariants.{Bound}
@@ -29,19 +27,15 @@ use Rattle.session_model.specs.declared.entry.Reply.{Reply}
 use Rattle.session_model.specs.declared.entry.Reply.TheVariants as reply
 use Rattle.session_model.specs.declared.rows.Ending.TheVariants.{Found}
 use Rattle.session_model.specs.declared.rows.InstRow.{InstRow}
-use Rattle.session_model.specs.declared.rows.Job.TheVariants as job
-use Rattle.session_model.specs.declared.rows.Match.{Match}
 use Rattle.session_model.specs.declared.rows.Match.TheVariants.{Instance}
 use Rattle.session_model.specs.declared.rows.Phase.{Phase}
-use Rattle.session_model.specs.declared.rows.Query.{Query}
-use Rattle.session_model.specs.declared.rows.Range.{Range}
 use Rattle.session_model.specs.declared.rows.UnitPhase.TheVariants as stage
 use Rattle.session_run.specs.Lone.{all_live, IsLone}
 use Rattle.session_run.specs.Run.{lookup_of}
-use Rattle.session_run.specs.Whole.{said, so_far, setup_entries, instances_from}
-use Rattle.session_run.specs.Stages.{row_as, rows_as, unit_as, session_as, unsearched, claimed, resolved, emitted, made, defined, asked, started, placed, linking, linked, finishing, done, entry_query, queries_of, range_of, link_query}
+use Rattle.session_run.specs.Whole.{said, so_far, instances_from}
+use Rattle.session_run.specs.Stages.{row_as, rows_as, unsearched, claimed, resolved, made, defined, asked, started, placed, linking, linked, finishing, entry_query, link_query}
 use Rattle.session_run.proofs.Rows.{row_at, rows_own, found_here, ends_here}
-use Rattle.session_run.proofs.Onward.{IsFoundAt, after_made, state_3, state_4, state_5, state_6, state_7, state_8, state_9, state_10, state_11, state_12}
+use Rattle.session_run.proofs.Onward.{IsFoundAt, state_4, state_5, state_6, state_7, state_8, state_9}
 
 -- The set-up
 

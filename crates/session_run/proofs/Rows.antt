@@ -1,26 +1,21 @@
 -- The rows of the one unit, from phase to phase.
-use Rattle.std.proofs.Common.{◌≡◌, ℕ, zero, suc, ◌+◌, ◌<◌, Bool, true, false, cond, ◌&&◌, ◌||◌, not, ◌==◌, List, [], ◌∷◌, length, map, slice_get, refl, sym, ap, subst, ◌∙◌, arith, Option, Some, None, unwrap_or}
-use Rattle.std.specs.Option.{option_map_or}
-use Rattle.std.proofs.lemmas.Bool.{cases_Bool, both_ways, ne_eqb, eq-eqb}
+use Rattle.std.proofs.Common.{◌≡◌, ℕ, zero, suc, ◌+◌, Bool, true, false, cond, ◌&&◌, ◌==◌, List, [], ◌∷◌, map, slice_get, refl, ap, subst, ◌∙◌, arith, Some, None, unwrap_or}
 use Rattle.std.proofs.lemmas.Option.{none-some}
 use Rattle.orc_ids.specs.declared.flags.SymFlags.{SymFlags}
-use Rattle.orc_ids.specs.declared.groups.Group.{Group}
 use Rattle.orc_ids.specs.declared.ids.InstId.{InstId}
 use Rattle.orc_ids.specs.declared.ids.NameId.{NameId}
 use Rattle.std.specs.List.{list_any}
 use Rattle.session_model.specs.Lists.{numbered, only_if, or_else}
 use Rattle.session_model.specs.Meaning.{Meaning}
-use Rattle.session_model.specs.Plain.{Plain, row_test, is_owned, is_unsearched, emitted_at, failed_at, present_at, address_at, own_rows, phase_address}
-use Rattle.session_model.specs.Match.{first_row}
-use Rattle.session_model.specs.Reach.{within, deps_at, is_ready}
+use Rattle.session_model.specs.Plain.{is_owned, is_unsearched, own_rows, phase_address}
+use Rattle.session_model.specs.Reach.{within, deps_at}
 use Rattle.session_model.specs.Change.{new_rows, deps_in}
 use Rattle.session_model.specs.Answer.{CODE_START}
 use Rattle.session_model.specs.declared.rows.InstRow.{InstRow}
 use Rattle.session_model.specs.declared.rows.Phase.{Phase}
 use Rattle.session_model.specs.declared.rows.Phase.TheVariants as phase
-use Rattle.session_model.specs.declared.rows.Row.{Row}
 use Rattle.session_run.specs.Stages.{row_as, rows_as, unsearched, claimed, resolved, emitted, made}
-use Rattle.session_run.specs.Whole.{offer_from, instances_from}
+use Rattle.session_run.specs.Whole.{instances_from}
 
 -- the rows of a definition in a session without rows
 pub rows_new : (main : NameId) (k : ℕ) (os : List (NameId × SymFlags)) → new_rows (made main) 0 0 k os ≡ rows_as unsearched k os

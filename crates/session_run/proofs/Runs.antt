@@ -1,18 +1,17 @@
 -- A whole run is one, from its first entry to its last.
-use Rattle.std.proofs.Common.{◌≡◌, ℕ, zero, suc, ◌+◌, ◌-◌, ◌<◌, ◌≤◌, Bool, true, false, cond, ◌&&◌, ◌||◌, not, ◌==◌, List, [], ◌∷◌, ◌++◌, length, map, take, slice_get, refl, sym, ap, ap₂, subst, ◌∙◌, arith, inl, inr, Option, Some, None, unwrap_or, is_some}
-use Rattle.std.specs.Prelude.{count_by, All}
+use Rattle.std.proofs.Common.{◌≡◌, ℕ, ◌-◌, ◌<◌, ◌≤◌, Bool, true, false, List, [], ◌∷◌, ◌++◌, length, take, slice_get, refl, sym, ap, subst, ◌∙◌, arith, Some, None}
+use Rattle.std.specs.Prelude.{count_by}
 use Rattle.std.specs.Option.{option_map_or}
-use Rattle.std.proofs.lemmas.List.Elements.{All-nil, All-cons}
 use Rattle.std.proofs.lemmas.List.{take-append-le}
 use Rattle.orc_ids.specs.declared.ids.NameId.{NameId}
 use Rattle.orc_ids.specs.declared.place.Shape.{Shape}
-use Rattle.session_model.specs.Meaning.{Meaning, Bindings}
-use Rattle.session_model.specs.Plain.{Plain, empty, phase_deps}
+use Rattle.session_model.specs.Meaning.{Meaning}
+use Rattle.session_model.specs.Plain.{Plain, phase_deps}
 use Rattle.session_model.specs.Query.{is_met, ending}
 use Rattle.session_model.specs.Reach.{deps_at}
-use Rattle.session_model.specs.State.{state, after, IsEnd, SettlesAt, IsOpen}
+use Rattle.session_model.specs.State.{state, IsEnd}
 use Rattle.session_model.specs.History.{IsLegal}
-use Rattle.session_model.specs.Calls.{lookup_event, Looks, Works, IsJob, numbered_calls, shaped_in}
+use Rattle.session_model.specs.Calls.{lookup_event}
 use Rattle.session_model.specs.Answer.{Answers, CODE_START}
 use Rattle.session_model.specs.declared.entry.Entry.{Entry}
 use Rattle.session_model.specs.declared.entry.Event.{Event}
@@ -22,14 +21,13 @@ use Rattle.session_model.specs.declared.entry.Reply.{Reply}
 use Rattle.session_model.specs.declared.entry.Reply.TheVariants as reply
 use Rattle.session_model.specs.declared.rows.Ending.TheVariants.{Found}
 use Rattle.session_model.specs.declared.rows.InstRow.{InstRow}
-use Rattle.session_laws.proofs.Along.{one_more_legal, empty_legal}
+use Rattle.session_laws.proofs.Along.{one_more_legal}
 use Rattle.session_run.specs.Lone.{all_live, IsLone}
-use Rattle.session_run.specs.Run.{lookup_of, IsRun}
-use Rattle.session_run.specs.Whole.{said, so_far, made_entries, setup_entries, found_entries, instances_from, whole_run, offer_named}
-use Rattle.session_run.specs.Stages.{made, rows_as, resolved, emitted, defined, asked, started, placed, linking, linked, finishing, done, entry_query}
-use Rattle.session_run.proofs.Rows.{rows_own}
-use Rattle.session_run.proofs.Named.{match_found, match_none, found_at}
-use Rattle.session_run.proofs.Onward.{IsFoundAt, after_made, state_3, state_4, state_5, state_6, state_7, state_8, state_9, state_10, state_11, state_12}
+use Rattle.session_run.specs.Run.{lookup_of}
+use Rattle.session_run.specs.Whole.{said, so_far, made_entries, setup_entries, instances_from, offer_named}
+use Rattle.session_run.specs.Stages.{made, rows_as, emitted, defined, asked, started, placed, linking, linked, finishing, done, entry_query}
+use Rattle.session_run.proofs.Named.{match_found, match_none}
+use Rattle.session_run.proofs.Onward.{IsFoundAt, after_made, state_3, state_4, state_5, state_6, state_7, state_8, state_9, state_10, state_11}
 use Rattle.session_run.proofs.Right.{right_dylib, right_tracker, right_define, right_ask, right_missing, right_start, right_place, right_resolve, right_link, right_finish, right_emit, unmet_at, row_here, failed_is, present_is, address_is, emitted_is, met, ready}
 
 -- The lookup's end

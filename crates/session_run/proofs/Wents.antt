@@ -1,27 +1,24 @@
 -- Each call of a run, by what the session promises of it.
-use Rattle.std.proofs.Common.{◌≡◌, ℕ, ◌+◌, ◌<◌, ◌≤◌, Bool, true, false, List, [], ◌∷◌, ◌++◌, length, take, slice_get, refl, sym, ap, subst, ◌∙◌, arith, Option, Some, None, unwrap_or}
+use Rattle.std.proofs.Common.{◌≡◌, ℕ, Bool, List, [], ◌∷◌, ◌++◌, take, slice_get, refl, sym, ap, subst, ◌∙◌, Option, Some, None, unwrap_or}
 use Rattle.std.specs.Prelude.{Result, Ok, Err, count_by}
-use Rattle.orc_ids.specs.declared.groups.Group.{Group}
 use Rattle.orc_ids.specs.declared.ids.NameId.{NameId}
 use Rattle.orc_ids.specs.declared.ids.QueryId.{QueryId}
 use Rattle.orc_ids.specs.declared.ids.SeatNo.{SeatNo}
 use Rattle.orc_ids.specs.declared.lookup.Stop.{Stop}
-use Rattle.orc_ids.specs.declared.lookup.Stop.TheVariants.{JournalFull, NoMemory}
+use Rattle.orc_ids.specs.declared.lookup.Stop.TheVariants.{JournalFull}
 use Rattle.orc_ids.specs.declared.place.Shape.{Shape}
 use Rattle.session_model.specs.Meaning.{Meaning}
-use Rattle.session_model.specs.Plain.{Plain, empty}
-use Rattle.session_model.specs.State.{state, plain_event, plain_history, IsOpen}
+use Rattle.session_model.specs.Plain.{Plain}
+use Rattle.session_model.specs.State.{state, plain_history, IsOpen}
 use Rattle.session_model.specs.Calls.{lookup_event}
 use Rattle.session_model.specs.Answer.{CODE_START}
 use Rattle.session_model.specs.declared.entry.Entry.{Entry}
-use Rattle.session_model.specs.declared.entry.Event.{Event}
 use Rattle.session_model.specs.declared.entry.Event.TheVariants as event
 use Rattle.session_model.specs.declared.entry.Finishing.TheVariants.{Bound}
 use Rattle.session_model.specs.declared.entry.Reply.{Reply}
 use Rattle.session_model.specs.declared.entry.Reply.TheVariants as reply
 use Rattle.session_model.specs.declared.rows.Job.{Job}
 use Rattle.session_model.specs.declared.rows.Job.TheVariants as job
-use Rattle.session_model.specs.declared.rows.Query.{Query}
 use Rattle.session_core.specs.Given.{IsLowest}
 use Rattle.session_core.specs.Performs.{Performs, Takes, Collects, HasOpen, state_of}
 use Rattle.session_run.specs.Halts.{WentOn}

@@ -11,7 +11,7 @@ use Rattle.session_model.specs.declared.entry.Reply.{Reply}
 use Rattle.session_model.specs.declared.entry.Reply.TheVariants as reply
 use Rattle.session_core.specs.declared.taken.TakenUnit.{TakenUnit}
 use Rattle.object_unit.specs.declared.unit.ObjectUnit.{ObjectUnit}
-use Rattle.object_unit.specs.Units.{meaning_of}
+use Rattle.object_unit.specs.Units.{meaning_of, StandsAlone}
 use Rattle.session_run.specs.Halts.{IsHalted, WentOn}
 use Rattle.session_run.specs.Lone.{all_live, IsLone}
 use Rattle.session_run.specs.Whole.{whole_run, offer_named}
@@ -30,6 +30,17 @@ its_shape unit = unwrap_or (unit.shape (all_live unit)) (record { need = 0; alig
 
 abbrev pub unit_of : Run → Meaning
 unit_of run = meaning_of run.unit
+
+-- the names of its dylib and of its entry
+abbrev pub main_of : Run → NameId
+main_of run = run.main
+
+abbrev pub entry_of : Run → NameId
+entry_of run = run.entry
+
+-- the unit can be linked by itself
+abbrev pub IsAloneRun : Run → Type 0
+IsAloneRun run = StandsAlone run.unit (all_live (unit_of run))
 
 -- the unit needs no other
 abbrev pub IsLoneRun : Run → Type 0
@@ -57,7 +68,7 @@ IsAt n run h = plain_history meaning_of h ≡ take n (journal_of run)
 
 -- it has, and the next call was stopped
 abbrev pub IsStoppedAt : ℕ → ℕ → Run → List (Entry ObjectUnit) → Stop → Type 0
-IsStoppedAt n jmax run h stop = IsAt n run h × IsHalted jmax (plain_history meaning_of h) stop
+IsStoppedAt n jmax run h stop = IsAt n run h × IsHalted jmax (journal_of run) (plain_history meaning_of h) stop
 
 -- a call was answered by the next entry, with this reply, or stopped
 abbrev pub Went : ℕ → ℕ → ℕ → Run → List (Entry ObjectUnit) → Reply → Result Reply Stop → Type 0

@@ -1,6 +1,5 @@
 -- A unit that needs no other, at the start of code memory.
-use Rattle.std.specs.Prelude.{◌≡◌, ℕ, ◌+◌, ◌≤◌, ◌%◌, Bool, true, List, [], ◌∷◌, length, map, Some, None}
-use Rattle.orc_ids.specs.declared.groups.Group.{Group}
+use Rattle.std.specs.Prelude.{◌≡◌, ◌+◌, ◌≤◌, ◌%◌, Bool, true, List, [], ◌∷◌, length, map, Some, None}
 use Rattle.orc_ids.specs.declared.ids.InstId.{InstId}
 use Rattle.orc_ids.specs.declared.place.Shape.{Shape}
 use Rattle.session_model.specs.Meaning.{Meaning, IsLawful}

@@ -5,7 +5,7 @@ ghost use Rattle.session_model.specs.State.{plain_history};
 ghost use Rattle.session_core.specs.Performs.{state_of};
 ghost use Rattle.session_model.specs.Answer.{CODE_START};
 ghost use Rattle.object_unit.specs.Units.{meaning_of, StandsAlone};
-ghost use Rattle.session_run.specs.Drive.{IsLoneRun, IsAt, IsStopped, HasLooked, entry_match, is_offered, unit_of};
+ghost use Rattle.session_run.specs.Drive.{IsLoneRun, IsAloneRun, main_of, entry_of, IsAt, IsStopped, HasLooked, entry_match, is_offered, unit_of};
 ghost use Rattle.session_run.specs.Lone.{all_live};
 ghost use Rattle.session_run.specs.Run.{IsRun, IsBegun};
 
@@ -37,7 +37,10 @@ pub enum Looked {
 impl Run {
     /// The run of a unit from the entry of this name, in a dylib of the name `main`.
     pub fn new(unit: ObjectUnit, main: NameId, entry: NameId) -> Run
-        ensures { result ≡ record { unit = unit; main = main; entry = entry } }
+        ensures unit { unit_of result ≡ meaning_of unit }
+        ensures main { main_of result ≡ main }
+        ensures entry { entry_of result ≡ entry }
+        ensures alone { StandsAlone unit (all_live (meaning_of unit)) → IsAloneRun result }
     {
         Run { unit, main, entry }
     }
@@ -106,7 +109,7 @@ impl Run {
         own: &[InstId],
     ) -> Result<(Groups, Bytes), AllocError>
         requires lone { IsLoneRun self.now }
-        requires alone { StandsAlone self.now.unit (all_live (unit_of self.now)) }
+        requires alone { IsAloneRun self.now }
         requires live { live.now ≡ all_live (unit_of self.now) }
         requires base { base ≡ CODE_START }
         ensures groups { IfOk result (λ made. made.0 ≡ (unit_of self.now).groups (all_live (unit_of self.now)) CODE_START [] own.now) }
@@ -126,7 +129,7 @@ impl Run {
         session: &mut Session<ObjectUnit, JMAX>,
     ) -> Result<(), Stop>
         requires lone { IsLoneRun self.now }
-        requires alone { StandsAlone self.now.unit (all_live (unit_of self.now)) }
+        requires alone { IsAloneRun self.now }
         requires offered { is_offered self.now ≡ true }
         requires at { IsAt 8 self.now session.old }
         ensures ok { OnOk result (IsAt 10 self.now session.new) }
@@ -194,7 +197,7 @@ impl Run {
         session: &mut Session<ObjectUnit, JMAX>,
     ) -> Result<Looked, Stop>
         requires lone { IsLoneRun self.now }
-        requires alone { StandsAlone self.now.unit (all_live (unit_of self.now)) }
+        requires alone { IsAloneRun self.now }
         requires empty { session.old ≡ [] }
         ensures { HasLooked JMAX self.now session.new result }
     {
@@ -219,7 +222,7 @@ impl Run {
         session: &mut Session<ObjectUnit, JMAX>,
     ) -> Result<Looked, Stop>
         requires lone { IsLoneRun self.now }
-        requires alone { StandsAlone self.now.unit (all_live (unit_of self.now)) }
+        requires alone { IsAloneRun self.now }
         requires empty { session.old ≡ [] }
         ensures looked { HasLooked JMAX self.now session.new result }
         ensures run { OnOk result (IsRun JMAX (unit_of self.now) self.now.main self.now.entry (plain_history meaning_of session.new)) }

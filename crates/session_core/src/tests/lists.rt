@@ -1,11 +1,11 @@
-//! Lists of calls, whose replies are read in the journal.
+//! Lists of calls, whose answers are read as they are printed.
 
 ghost use Rattle.std.specs.Prelude.{◌≡◌};
 
 use super::{Main, OTHER, SEAT, asks, emits, resolves};
-use crate::{Call, Command, Session, play};
+use crate::{AnswerList, Call, Command, Session, play};
 use orc_ids::{DylibId, Items, Level, NameId, OrderItem, QueryId, Scope, TrackId, UnitId, Wanted};
-use session_model::{Entry, Event, Order, Reply, WantedList};
+use session_model::{Order, WantedList};
 use std::alloc::{AllocError, Global};
 use std::test::Fail;
 
@@ -71,19 +71,17 @@ fn lookup(alloc: Global) -> Result<(Order, WantedList), AllocError> {
     Ok((order, Items::from_vec(vec![in alloc; name]?)))
 }
 
-/// The replies from this entry on read so.
-fn reply_so<const JMAX: usize>(
-    alloc: Global,
-    session: &Session<Main, JMAX>,
-    from: usize,
-    replies: &[&str],
-) -> Result<bool, Fail> {
-    for (entry, reply) in session.journal().iter().skip(from).zip(replies) {
-        if format!(in alloc; "{:?}", entry.reply)?.as_str() != *reply {
+/// The answers are these replies.
+fn read_so(alloc: Global, answers: &AnswerList, replies: &[&str]) -> Result<bool, Fail> {
+    for (answer, reply) in answers.as_slice().iter().zip(replies) {
+        let Some(Ok(given)) = answer else {
+            return Ok(false);
+        };
+        if format!(in alloc; "{given:?}")?.as_str() != *reply {
             return Ok(false);
         }
     }
-    Ok(true)
+    Ok(answers.len() == replies.len())
 }
 
 #[test]
@@ -105,8 +103,9 @@ fn the_lookup_as_a_list(rt: HostRuntime) -> Result<(), Fail> {
         call(Command::Collect(QueryId(0))),
         call(Command::Image),
     ];
-    assert_eq!(rt; play(alloc, &mut session, &calls), 12);
-    assert!(rt; reply_so(alloc, &session, 0, &LOOKUP)?);
+    let answers = play(alloc, &mut session, &calls)?;
+    assert!(rt; read_so(alloc, &answers, &LOOKUP)?);
+    assert_eq!(rt; session.journal().len(), 12);
     Ok(())
 }
 
@@ -125,43 +124,34 @@ fn another_seat_does_not_hold_the_unit(rt: HostRuntime) -> Result<(), Fail> {
         other(Command::Emit(UnitId(0))),
         call(Command::Emit(UnitId(0))),
     ];
-    assert_eq!(rt; play(alloc, &mut session, &calls), 12);
-    assert!(rt; reply_so(alloc, &session, 4, &HELD)?);
+    let answers = play(alloc, &mut session, &calls)?;
+    assert!(rt; read_so(alloc, &answers, &HELD)?);
+    assert_eq!(rt; session.journal().len(), 12);
     Ok(())
 }
 
 /// The unit is neither placed nor emitted now.
-fn has_no_turn<const JMAX: usize>(alloc: Global, session: &mut Session<Main, JMAX>) -> bool {
+fn has_no_turn<const JMAX: usize>(
+    alloc: Global,
+    session: &mut Session<Main, JMAX>,
+) -> Result<bool, Fail> {
     let calls = [
         call(Command::Place(UnitId(0))),
         call(Command::Emit(UnitId(0))),
     ];
-    play(alloc, session, &calls);
-    let [.., placed, emitted] = session.journal() else {
-        return false;
-    };
-    is_wrong_place(placed) && is_wrong_emit(emitted)
-}
-
-fn is_wrong_place(entry: &Entry<Main>) -> bool {
-    matches!(entry.event, Event::Place(UnitId(0), _))
-        && matches!(entry.reply, Reply::WrongPhase(UnitId(0)))
-}
-
-fn is_wrong_emit(entry: &Entry<Main>) -> bool {
-    matches!(entry.event, Event::Emit(UnitId(0), _))
-        && matches!(entry.reply, Reply::WrongPhase(UnitId(0)))
+    let answers = play(alloc, session, &calls)?;
+    read_so(alloc, &answers, &["WrongPhase(UnitId(0))"; 2])
 }
 
 #[test]
 fn places_and_emissions_out_of_turn(rt: HostRuntime) -> Result<(), Fail> {
     let mut session = Session::<Main, 64>::open(rt.alloc())?;
     assert!(rt; asks(rt.alloc(), &mut session));
-    assert!(rt; has_no_turn(rt.alloc(), &mut session));
+    assert!(rt; has_no_turn(rt.alloc(), &mut session)?);
     assert!(rt; resolves(rt.alloc(), &mut session));
-    assert!(rt; has_no_turn(rt.alloc(), &mut session));
+    assert!(rt; has_no_turn(rt.alloc(), &mut session)?);
     assert!(rt; emits(rt.alloc(), &mut session));
-    assert!(rt; has_no_turn(rt.alloc(), &mut session));
+    assert!(rt; has_no_turn(rt.alloc(), &mut session)?);
     assert_eq!(rt; session.journal().len(), 16);
     Ok(())
 }

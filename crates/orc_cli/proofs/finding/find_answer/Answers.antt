@@ -6,4 +6,4 @@ pub returns-in-Ok-clause-found : goal.returns-in-Ok-clause-found
 returns-in-Ok-clause-found g c = rw (← c.in-Ok.ensures) c.run_file.ensures.found
 
 pub returns-in-Err-clause-found : goal.returns-in-Err-clause-found
-returns-in-Err-clause-found g c = in_words c.in-Err.kind (sym c.in-Err.ensures) c.silent.ensures.is c.silent.ensures.silent
+returns-in-Err-clause-found g c = in_words c.in-Err.kind (sym c.in-Err.ensures) c.silent.ensures.silent.is c.silent.ensures.silent.silent c.silent.ensures.journal

@@ -8,8 +8,8 @@ returns-in-Ok-run_object-clause-found g c =
 
 pub returns-in-Err-TooLong-clause-found : goal.returns-in-Err-TooLong-clause-found
 returns-in-Err-TooLong-clause-found g c =
-    in_length _ refl (c.in-Err-TooLong.ensures.too_long (ap Err c.in-Err-TooLong.field-0-is)) c.silent-in-Err-TooLong.ensures.is c.silent-in-Err-TooLong.ensures.silent
+    in_length _ refl (c.in-Err-TooLong.ensures.too_long (ap Err c.in-Err-TooLong.field-0-is)) c.silent-in-Err-TooLong.ensures.silent.is c.silent-in-Err-TooLong.ensures.silent.silent c.silent-in-Err-TooLong.ensures.journal
 
 pub returns-in-Err-Failed-clause-found : goal.returns-in-Err-Failed-clause-found
 returns-in-Err-Failed-clause-found g c =
-    in_reading _ refl (c.in-Err-Failed.ensures.failed (ap Err c.in-Err-Failed.field-0-is)) c.silent-in-Err-Failed.ensures.is c.silent-in-Err-Failed.ensures.silent
+    in_reading _ refl (c.in-Err-Failed.ensures.failed (ap Err c.in-Err-Failed.field-0-is)) c.silent-in-Err-Failed.ensures.silent.is c.silent-in-Err-Failed.ensures.silent.silent c.silent-in-Err-Failed.ensures.journal

@@ -1,4 +1,4 @@
-use Rattle.std.proofs.Common.{◌≡◌, ◌++◌, ◌+◌, List, Some, drop, ap, sym, ◌∙◌, arith, append-nil}
+use Rattle.std.proofs.Common.{◌++◌, List, Some, drop, ap, sym, ◌∙◌, arith, append-nil}
 use Rattle.std.proofs.lemmas.Option.{slice_get-get_or}
 use Rattle.orc_ids.specs.declared.ids.InstId.{InstId}
 use Rattle.session_model.specs.Plain.{own_rows}

@@ -1,4 +1,4 @@
-use Rattle.std.proofs.Common.{◌≡◌, ◌++◌, ◌≤◌, ◌+◌, drop}
+use Rattle.std.proofs.Common.{◌≡◌, ◌++◌, drop}
 use Rattle.session_model.specs.Plain.{own_rows}
 use Rattle.session_core.proofs.facts.own_in.Given as goal
 

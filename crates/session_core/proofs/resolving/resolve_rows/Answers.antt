@@ -1,4 +1,4 @@
-use Rattle.std.proofs.Common.{◌≡◌, ℕ, Some, length, ap, sym, ◌∙◌, map, arith}
+use Rattle.std.proofs.Common.{Some, length, ap, sym, ◌∙◌, map, arith}
 use Rattle.std.proofs.lemmas.Option.{slice_get-get_or}
 use Rattle.session_core.specs.Rows.{resolved_row}
 use Rattle.session_core.proofs.Spans.{map_more, still_there, mapped_within, resolved_before, resolved_after}

@@ -1,8 +1,6 @@
-use Rattle.std.proofs.Common.{◌≡◌, ◌<◌, sym, ap, ◌∙◌, rules}
 use Rattle.session_core.specs.Meant.{meant}
-use Rattle.session_core.proofs.PlacedUnits.{absent, fit_shape, placed_unit, unplaced_unit, Places}
+use Rattle.session_core.proofs.PlacedUnits.{absent, fit_shape, placed_unit, unplaced_unit}
 use Rattle.session_core.proofs.stores.place_unit.Goals as goal
-use Rattle.session_model.specs.declared.entry.Reply.TheVariants as reply
 
 pub place-requires-clause-absent : goal.place-requires-clause-absent
 place-requires-clause-absent g c = absent (meant g.U.UnitKind.meaning c.args.t.now) c.args._s c.args.u c.args.shape c.args.space.now c.requires.right c.requires.stored

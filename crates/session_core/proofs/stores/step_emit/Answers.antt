@@ -1,10 +1,7 @@
-use Rattle.std.proofs.Common.{◌≡◌, true, false, sym, ap, subst, ◌∙◌, rules}
-use Rattle.session_core.specs.Kinds.{is_emitted}
+use Rattle.std.proofs.Common.{sym, ◌∙◌, rules}
 use Rattle.session_core.specs.Meant.{meant}
-use Rattle.session_core.specs.Replies.{emit_reply}
-use Rattle.session_model.specs.declared.entry.Reply.TheVariants as reply
 use Rattle.session_core.proofs.Stepping.{emitted_is}
-use Rattle.session_core.proofs.EmittedUnits.{emit_gone, emit_told, told_stored, emit_made, deposit_fits, made_stored}
+use Rattle.session_core.proofs.EmittedUnits.{emit_gone, emit_told, told_stored, deposit_fits, made_stored}
 use Rattle.session_core.proofs.stores.step_emit.Goals as goal
 
 pub turned_away-requires-clause-gone : goal.turned_away-requires-clause-gone

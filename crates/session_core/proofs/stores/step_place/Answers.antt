@@ -1,4 +1,3 @@
-use Rattle.std.proofs.Common.{◌≡◌, sym, ap, ◌∙◌, rules}
 use Rattle.session_model.specs.declared.entry.Event.TheVariants as event
 use Rattle.session_core.specs.Meant.{meant}
 use Rattle.session_core.proofs.PlacedUnits.{same_steps, still_stored, turned_lowest}

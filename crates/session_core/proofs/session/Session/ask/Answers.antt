@@ -1,4 +1,4 @@
-use Rattle.std.proofs.Common.{◌≡◌, subst, sym, refl, rules}
+use Rattle.std.proofs.Common.{refl, rules}
 use Rattle.session_model.specs.declared.entry.Event.TheVariants as event
 use Rattle.session_core.proofs.Counts.{can_be_numbered}
 use Rattle.session_core.proofs.Whole.{whole_still, entered}

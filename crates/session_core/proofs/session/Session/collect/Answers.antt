@@ -1,4 +1,4 @@
-use Rattle.std.proofs.Common.{◌≡◌, ◌∙◌, Ok, Err, false, subst, sym, ap, refl, rules}
+use Rattle.std.proofs.Common.{◌∙◌, Ok, subst, ap, refl, rules}
 use Rattle.std.proofs.lemmas.Result.{err_from_is_err_and}
 use Rattle.session_model.specs.declared.entry.Event.TheVariants as event
 use Rattle.session_core.specs.Kinds.{is_unsettled}

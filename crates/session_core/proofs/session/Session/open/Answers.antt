@@ -1,4 +1,4 @@
-use Rattle.std.proofs.Common.{◌≡◌, ◌≤◌, List, [], length, subst, sym, rules, arith}
+use Rattle.std.proofs.Common.{subst, sym, rules, arith}
 use Rattle.std.specs.Vec.{vec_capacity}
 use Rattle.code_memory.specs.Places.{Placements}
 use Rattle.session_core.specs.Whole.{IsWhole}

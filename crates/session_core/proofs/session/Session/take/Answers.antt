@@ -1,4 +1,4 @@
-use Rattle.std.proofs.Common.{◌≡◌, ◌∙◌, Ok, Some, subst, sym, ap, refl, rules}
+use Rattle.std.proofs.Common.{Ok, Some, subst, sym, refl, rules}
 use Rattle.session_model.specs.declared.entry.Event.TheVariants as event
 use Rattle.session_core.specs.Given.{BindsUnit, GivesUnit}
 use Rattle.session_core.specs.Performs.{state_of}

@@ -1,5 +1,4 @@
-use Rattle.std.proofs.Common.{◌≡◌, refl, arith}
-use Rattle.session_core.specs.Meant.{meant}
+use Rattle.std.proofs.Common.{refl}
 use Rattle.session_model.specs.Change.{Nothing}
 use Rattle.session_core.proofs.Calm.{waits_same}
 use Rattle.session_core.proofs.KeptUnits.{same_units}

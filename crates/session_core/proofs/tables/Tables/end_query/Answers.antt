@@ -1,10 +1,9 @@
-use Rattle.std.proofs.Common.{◌≡◌, ℕ, Option, Some, set, slice_get, refl, ap, sym, subst, ◌∙◌, arith}
+use Rattle.std.proofs.Common.{◌≡◌, Some, set, slice_get, refl, ap, ◌∙◌}
 use Rattle.std.proofs.lemmas.Option.{get_or_from_slice_get}
 use Rattle.session_model.specs.Query.{ending}
 use Rattle.session_model.specs.declared.rows.Ending.{Ending}
 use Rattle.session_model.specs.declared.rows.Query.{Query}
 use Rattle.session_core.specs.declared.tables.OpenQuery.{OpenQuery}
-use Rattle.session_core.specs.declared.tables.QueryEnd.{QueryEnd}
 use Rattle.session_core.specs.Meant.{meant}
 use Rattle.session_core.specs.Settles.{settle_link}
 use Rattle.session_core.proofs.SettleSteps.{met_ended}

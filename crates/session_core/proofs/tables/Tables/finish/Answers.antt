@@ -1,4 +1,4 @@
-use Rattle.std.proofs.Common.{◌≡◌, ◌+◌, List, ℕ, drop, refl, ap, sym, ◌∙◌, arith}
+use Rattle.std.proofs.Common.{◌+◌, List, refl, ap, sym, ◌∙◌, arith}
 use Rattle.session_core.specs.Meant.{meant}
 use Rattle.session_model.specs.Lists.{changed_at}
 use Rattle.session_model.specs.Plain.{Plain, UnitRow}
@@ -6,7 +6,7 @@ use Rattle.session_model.specs.declared.rows.Job.{Job}
 use Rattle.session_model.specs.Change.{Finish, bindings_of, changed}
 use Rattle.session_core.specs.Units.{finishing}
 use Rattle.session_core.proofs.Calm.{waits_changed}
-use Rattle.session_core.proofs.KeptUnits.{kept_more, kept_within, unit_below}
+use Rattle.session_core.proofs.KeptUnits.{kept_more, unit_below}
 use Rattle.session_core.proofs.QuietSteps.{quiet_step, finish_unheld}
 use Rattle.session_core.proofs.tables.Tables.finish.Goals as goal
 

@@ -1,4 +1,3 @@
-use Rattle.std.proofs.Common.{sym, ◌∙◌}
 use Rattle.std.proofs.lemmas.Option.{none-some}
 use Rattle.session_core.specs.Meant.{meant}
 use Rattle.session_core.proofs.LinkEnds.{finish_ended, its_query, finishing_there, finishing_told}

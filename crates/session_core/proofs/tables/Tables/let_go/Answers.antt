@@ -1,9 +1,7 @@
-use Rattle.std.proofs.Common.{◌≡◌, ◌+◌, ◌≤◌, cond, List, ℕ, Option, Some, false, is_some, refl, ap, sym, ◌∙◌, arith}
-use Rattle.std.specs.Option.{option_map_or}
+use Rattle.std.proofs.Common.{◌+◌, List, refl, ap, arith}
 use Rattle.session_core.specs.Meant.{meant}
 use Rattle.session_model.specs.Plain.{Plain, UnitRow}
-use Rattle.session_model.specs.Answer.{is_held}
-use Rattle.session_model.specs.Change.{LetGo, changed}
+use Rattle.session_model.specs.Change.{LetGo}
 use Rattle.session_core.specs.Units.{let_go_of}
 use Rattle.session_core.proofs.Calm.{waits_changed}
 use Rattle.session_core.proofs.KeptUnits.{unit_below}

@@ -1,4 +1,4 @@
-use Rattle.std.proofs.Common.{◌≡◌, false, ◌+◌, List, length, [], ◌∷◌, refl, ap, ◌∙◌, arith}
+use Rattle.std.proofs.Common.{false, ◌+◌, List, length, [], ◌∷◌, refl, ap, arith}
 use Rattle.std.proofs.lemmas.List.{length-append}
 use Rattle.session_model.specs.Plain.{Plain}
 use Rattle.session_model.specs.Change.{MakeTracker}

@@ -1,4 +1,4 @@
-use Rattle.std.proofs.Common.{◌≡◌, ◌+◌, List, ◌++◌, refl, ap, ◌∙◌, arith}
+use Rattle.std.proofs.Common.{◌+◌, List, refl, ap, ◌∙◌}
 use Rattle.session_model.specs.Lists.{changed_at}
 use Rattle.session_model.specs.Plain.{Plain, UnitRow}
 use Rattle.session_model.specs.Change.{Place, changed}

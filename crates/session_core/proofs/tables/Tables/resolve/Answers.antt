@@ -1,8 +1,6 @@
-use Rattle.std.proofs.Common.{◌≡◌, ◌+◌, ℕ, ◌<◌, Some, slice_get, get_or, length, refl, ap, sym, subst, ◌∙◌, map, unwrap_or, arith}
-use Rattle.std.proofs.lemmas.Option.{slice_get-get_or, same_Some}
-use Rattle.session_model.specs.declared.rows.InstRow.{InstRow}
+use Rattle.std.proofs.Common.{◌+◌, Some, refl, ap, sym, ◌∙◌, unwrap_or}
+use Rattle.std.proofs.lemmas.Option.{slice_get-get_or}
 use Rattle.session_core.specs.Meant.{meant}
-use Rattle.session_core.specs.Rows.{resolved_row}
 use Rattle.session_core.proofs.KeptUnits.{unit_below}
 use Rattle.session_core.proofs.Resolves.{resolve_right, resolve_settles, resolve_moves, row_offer}
 use Rattle.session_core.proofs.tables.Tables.resolve.Goals as goal

@@ -1,4 +1,4 @@
-use Rattle.std.proofs.Common.{refl, arith}
+use Rattle.std.proofs.Common.{refl}
 use Rattle.session_core.proofs.KeptUnits.{same_kept}
 use Rattle.session_core.proofs.tables.Tables.room_to_place.Goals as goal
 

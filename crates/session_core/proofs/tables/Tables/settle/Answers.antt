@@ -1,4 +1,4 @@
-use Rattle.std.proofs.Common.{◌≡◌, filter, refl, ap, ◌∙◌, arith}
+use Rattle.std.proofs.Common.{filter, refl, ap, ◌∙◌, arith}
 use Rattle.session_core.specs.declared.tables.OpenQuery.{OpenQuery}
 use Rattle.session_core.specs.Settles.{open_at}
 use Rattle.session_core.proofs.SoFar.{none_yet, next_open, can_end, one_more, all_settled, same_count}

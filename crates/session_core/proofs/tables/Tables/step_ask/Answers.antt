@@ -1,4 +1,4 @@
-use Rattle.std.proofs.Common.{◌≡◌, true, false, sym, ap, ◌∙◌, rules}
+use Rattle.std.proofs.Common.{◌≡◌, sym, ap, ◌∙◌, rules}
 use Rattle.session_model.specs.Answer.{answer_ask}
 use Rattle.session_core.specs.Kinds.{is_lodged}
 use Rattle.session_core.specs.Meant.{meant}

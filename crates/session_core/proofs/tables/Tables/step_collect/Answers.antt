@@ -1,4 +1,4 @@
-use Rattle.std.proofs.Common.{◌≡◌, false, sym, ap, ◌∙◌, rules}
+use Rattle.std.proofs.Common.{ap, ◌∙◌, rules}
 use Rattle.session_core.specs.Kinds.{is_unsettled}
 use Rattle.session_core.proofs.Called.{collect_steps}
 use Rattle.session_core.proofs.tables.Tables.step_collect.Goals as goal

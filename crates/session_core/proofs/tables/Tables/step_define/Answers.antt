@@ -1,8 +1,7 @@
-use Rattle.std.proofs.Common.{◌≡◌, false, true, sym, ap, ◌∙◌, rules}
+use Rattle.std.proofs.Common.{sym, ap, ◌∙◌, rules}
 use Rattle.session_core.specs.Kinds.{is_defined}
-use Rattle.session_core.specs.Meant.{meant}
 use Rattle.session_core.proofs.Stepping.{defined_is}
-use Rattle.session_core.proofs.Called.{define_told, define_made, hands_back, hands_over}
+use Rattle.session_core.proofs.Called.{define_told}
 use Rattle.session_core.proofs.tables.Tables.step_define.Goals as goal
 
 pub returns-then-not-is_defined-clause-steps : goal.returns-then-not-is_defined-clause-steps

@@ -1,4 +1,4 @@
-use Rattle.std.proofs.Common.{◌≡◌, true, false, sym, ap, ◌∙◌, rules}
+use Rattle.std.proofs.Common.{◌≡◌, sym, ap, ◌∙◌, rules}
 use Rattle.session_core.specs.Kinds.{is_resolved}
 use Rattle.session_core.specs.Meant.{meant}
 use Rattle.session_core.specs.Replies.{resolve_reply}

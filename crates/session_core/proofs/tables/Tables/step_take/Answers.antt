@@ -1,5 +1,4 @@
-use Rattle.std.proofs.Common.{◌≡◌, Ok, Some, refl, sym, ap, subst, ◌∙◌, rules}
-use Rattle.session_model.specs.declared.entry.Event.TheVariants as event
+use Rattle.std.proofs.Common.{◌≡◌, Ok, Some, refl, sym, subst, rules}
 use Rattle.session_model.specs.declared.entry.Reply.TheVariants as reply
 use Rattle.session_core.specs.Moves.{Moves}
 use Rattle.session_model.specs.Change.{Start, Finish, bindings_of}

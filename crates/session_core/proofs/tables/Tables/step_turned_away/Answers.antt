@@ -1,9 +1,7 @@
-use Rattle.std.proofs.Common.{◌≡◌, false, sym, ap, ◌∙◌, rules}
-use Rattle.session_model.specs.Plain.{UnitRow}
+use Rattle.std.proofs.Common.{◌∙◌, rules}
 use Rattle.session_model.specs.Answer.{called}
-use Rattle.session_model.specs.declared.entry.Reply.{Reply}
 use Rattle.session_core.specs.Meant.{meant}
-use Rattle.session_core.specs.Replies.{reply_to, may_place}
+use Rattle.session_core.specs.Replies.{may_place}
 use Rattle.session_core.proofs.Called.{place_gone, place_told, place_keeps}
 use Rattle.session_core.proofs.tables.Tables.step_turned_away.Goals as goal
 

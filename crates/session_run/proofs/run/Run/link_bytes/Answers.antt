@@ -1,4 +1,3 @@
-use Rattle.std.proofs.Common.{sym}
 use Rattle.session_run.specs.Drive.{unit_of}
 use Rattle.session_run.proofs.Driving.{image_at, not_refused}
 use Rattle.session_run.proofs.run.Run.link_bytes.Goals as goal

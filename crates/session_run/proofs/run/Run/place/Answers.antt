@@ -1,6 +1,6 @@
 use Rattle.session_model.specs.declared.entry.Reply.TheVariants as reply
 use Rattle.session_model.specs.Answer.{CODE_START}
-use Rattle.session_run.proofs.Driving.{went_ok, went_stopped, place_goes, place_allowed}
+use Rattle.session_run.proofs.Driving.{went_ok, went_stopped, place_goes}
 use Rattle.session_run.proofs.run.Run.place.Goals as goal
 
 pub returns-clause-ok : goal.returns-clause-ok
