@@ -57,9 +57,10 @@ def compare(orc, folder, start, source, name, compiler, level):
     run(["riscv64-linux-gnu-ld", "-static", "--no-relax", start, folder / f"{stem}.o", "-o", folder / stem])
     wanted, status, _, there = outcome(["qemu-riscv64", folder / stem], folder)
     written, answered, log, here = outcome([orc, "run", f"{stem}.o", "--fuel", FUEL], folder)
-    alike = (wanted, status) == (written, answered) and log.startswith(b"end exited ")
+    end = log.decode().splitlines()[-1]
+    alike = (wanted, status) == (written, answered) and end.startswith("end exited ")
     verdict = "alike" if alike else "UNLIKE"
-    print(f"{stem:24} {verdict} status {answered} {log.decode().strip()!r} orc {here:.3f} s, qemu {there:.3f} s")
+    print(f"{stem:24} {verdict} status {answered} {end!r} orc {here:.3f} s, qemu {there:.3f} s")
     return alike
 
 

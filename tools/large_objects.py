@@ -132,7 +132,7 @@ def measure_run(orc, name, data):
             began = time.monotonic()
             done = subprocess.run([orc, "run", "large.o", "--entry", "s1", "--fuel", "1"], cwd=place, capture_output=True)
             best = min(best, time.monotonic() - began)
-            line = done.stderr.decode().strip()
+            line = done.stderr.decode().splitlines()[-1]
     print(f"{name:34} {len(data) / MIB:5.1f} MiB  {best:6.3f} s  {line}")
 
 
