@@ -8,6 +8,7 @@ use Rattle.std.proofs.lemmas.List.Elements.{All-append, All-take}
 use Rattle.orc_ids.specs.declared.ids.NameId.{NameId}
 use Rattle.session_model.specs.Meaning.{Meaning}
 use Rattle.session_model.specs.Calls.{lookup_event}
+use Rattle.session_model.specs.History.{HasPlaces}
 use Rattle.session_model.specs.declared.entry.Entry.{Entry}
 use Rattle.session_model.specs.declared.entry.Reply.TheVariants as reply
 use Rattle.session_run.specs.declared.run.Run.{Run}
@@ -61,7 +62,7 @@ use Rattle.session_run.specs.Run.{IsRun}
 use Rattle.session_run.specs.Whole.{said}
 use Rattle.session_run.proofs.Calling.{whole_is_run}
 use Rattle.orc_cli.specs.declared.answer.ObjectWhy.TheVariants.{Elf}
-use Rattle.orc_cli.specs.Answered.{IsOfBytes, carried, full}
+use Rattle.orc_cli.specs.Answered.{IsOfBytes, HasSession, carried, full}
 use Rattle.orc_cli.specs.Form.{is_plain, fits_form, is_in_form}
 use Rattle.orc_cli.specs.Logged.{IsSession, IsAnsweredMissing, IsFoundAt, missed, ran, filled}
 use Rattle.orc_cli.specs.Lone.{IsPrepared, IsOutside, Refuses}
@@ -126,11 +127,11 @@ known_looked jmax names run h (Err stop) g x = subst (AreKnown names) (sym x.at.
 
 -- What a lookup answers
 
-pub missed_answer : (jmax : ℕ) (names : List (List ℕ)) (run : Run) (request : Request) (h : List (Entry ObjectUnit)) (answer : Answer) (output journal : List ℕ) → HasMissed run h → answer ≡ Missing request.entry → output ≡ [] → journal ≡ text_of_history names (plain_history meaning_of h) → IsRunOf jmax names run request answer output journal
-missed_answer jmax names run request h answer output journal x e o j = unnamed x.unnamed e o (j ∙ ap (text_of_history names) x.whole)
+pub missed_answer : (jmax : ℕ) (names : List (List ℕ)) (run : Run) (request : Request) (h : List (Entry ObjectUnit)) (answer : Answer) (output journal : List ℕ) → HasMissed run h → HasPlaces jmax (plain_history meaning_of h) → answer ≡ Missing request.entry → output ≡ [] → journal ≡ text_of_history names (plain_history meaning_of h) → IsRunOf jmax names run request answer output journal
+missed_answer jmax names run request h answer output journal x p e o j = unnamed x.unnamed (subst (HasPlaces jmax) x.whole p) e o (j ∙ ap (text_of_history names) x.whole)
 
-pub found_answer : (jmax : ℕ) (names : List (List ℕ)) (run : Run) (request : Request) (h : List (Entry ObjectUnit)) (pc : ℕ) (image : List Segment) (end : RunEnd) (answer : Answer) (output journal : List ℕ) → HasFound run h pc image → RunsTo (byte_at image) pc [] request.fuel end output → answer ≡ answer_of end → journal ≡ text_of_history names (plain_history meaning_of h) → IsRunOf jmax names run request answer output journal
-found_answer jmax names run request h pc image end answer output journal x r e j = named x.offer end x.named
+pub found_answer : (jmax : ℕ) (names : List (List ℕ)) (run : Run) (request : Request) (h : List (Entry ObjectUnit)) (pc : ℕ) (image : List Segment) (end : RunEnd) (answer : Answer) (output journal : List ℕ) → HasFound run h pc image → HasPlaces jmax (plain_history meaning_of h) → RunsTo (byte_at image) pc [] request.fuel end output → answer ≡ answer_of end → journal ≡ text_of_history names (plain_history meaning_of h) → IsRunOf jmax names run request answer output journal
+found_answer jmax names run request h pc image end answer output journal x places r e j = named x.offer end x.named (subst (HasPlaces jmax) x.whole places)
     (subst (λ p. RunsTo (memory (state (journal_of run))) p [] request.fuel end output) x.its (subst (λ m. RunsTo m pc [] request.fuel end output) same r))
     e (j ∙ ap (text_of_history names) x.whole)
   where
@@ -142,8 +143,8 @@ take_again zero xs = refl
 take_again (suc n) [] = refl
 take_again (suc n) (x ∷ xs) = ap (λ ys. x ∷ ys) (take_again n xs)
 
-pub filled_answer : (jmax : ℕ) (names : List (List ℕ)) (run : Run) (request : Request) (h : List (Entry ObjectUnit)) (len : ℕ) (answer : Answer) (output journal : List ℕ) → IsStopped jmax run h (StopFull len) → answer ≡ JournalFull len → output ≡ [] → journal ≡ text_of_history names (plain_history meaning_of h) → IsRunOf jmax names run request answer output journal
-filled_answer jmax names run request h len answer output journal x e o j = cut len (subst (λ hs. HasNoPlace jmax (journal_of run) hs len) same x.at.1) e o (j ∙ ap (text_of_history names) same)
+pub filled_answer : (jmax : ℕ) (names : List (List ℕ)) (run : Run) (request : Request) (h : List (Entry ObjectUnit)) (len : ℕ) (answer : Answer) (output journal : List ℕ) → IsStopped jmax run h (StopFull len) → HasPlaces jmax (plain_history meaning_of h) → answer ≡ JournalFull len → output ≡ [] → journal ≡ text_of_history names (plain_history meaning_of h) → IsRunOf jmax names run request answer output journal
+filled_answer jmax names run request h len answer output journal x p e o j = cut len (subst (λ hs. HasNoPlace jmax (journal_of run) hs len) same x.at.1) (subst (HasPlaces jmax) same p) e o (j ∙ ap (text_of_history names) same)
   where
     same : plain_history meaning_of h ≡ take len (journal_of run)
     same = x.at.0 ∙ (sym (take_again x.n (journal_of run)) ∙ ap (λ k. take k (journal_of run)) (sym (x.at.1.all ∙ ap length x.at.0)))
@@ -206,6 +207,7 @@ its_session jmax bytes o names run request read p = record {
   read = read;
   graph = p.graph;
   made = p.made;
+  named = p.named;
   main = main_of run;
   main_is = p.main_is;
   entry = entry_of run;
@@ -234,12 +236,12 @@ entry_at o entry = position_from-zero (is_named entry) o.symbols
 
 -- the answer of a run whose entry is there
 ran_answer : (jmax : ℕ) (bytes : List ℕ) (o : ElfObject) (names : List (List ℕ)) (run : Run) (request : Request) (answer : Answer) (output journal : List ℕ) (i k : ℕ) (end : RunEnd) → object_of bytes ≡ Ok o → (p : IsPrepared o request.entry names run) → entry_symbol o request.entry ≡ Some k →
-    entry_match run ≡ Some i → RunsTo (memory (state (journal_of run))) ((unit_of run).address i CODE_START) [] request.fuel end output → answer ≡ answer_of end → journal ≡ text_of_history names (journal_of run) → IsOfBytes jmax bytes request answer output journal
+    entry_match run ≡ Some i → HasPlaces jmax (journal_of run) → RunsTo (memory (state (journal_of run))) ((unit_of run).address i CODE_START) [] request.fuel end output → answer ≡ answer_of end → journal ≡ text_of_history names (journal_of run) → IsOfBytes jmax bytes request answer output journal
 unfolding its_session
-ran_answer jmax bytes o names run request answer output journal i k end read p at e runs is j =
+ran_answer jmax bytes o names run request answer output journal i k end read p at e places runs is j =
     carried (subst (λ x. AnswersAs x request answer output) (sym (outcome_is bytes o names run request.entry read p ∙ ap (λ s. entered (lone_image p.graph) (option_map (lone_address p.graph) s)) at))
     (record { end = end; runs = subst (λ m. RunsTo m (lone_address p.graph k) [] request.fuel end output) memory_is (subst (λ pc. RunsTo (memory (state (journal_of run))) pc [] request.fuel end output) address_is runs); is = is }))
-    (ran names (journal_of run) (its_session jmax bytes o names run request read p) ((unit_of run).address i CODE_START) end (there_found run i e) runs is j)
+    (ran names (journal_of run) (its_session jmax bytes o names run request read p) ((unit_of run).address i CODE_START) end (there_found run i e) places runs is j)
   where
     its : IsEntry p.graph (entry_of run).0 k
     its = entry_is names o p.graph request.entry (entry_of run).0 k (parts_made names o p.graph p.made) p.entry_is (plain_of o p.graph p.form) p.named (sym (entry_at o request.entry) ∙ at)
@@ -255,11 +257,11 @@ ran_answer jmax bytes o names run request answer output journal i k end read p a
 
 -- the answer of a run whose entry isn't
 missing_answer : (jmax : ℕ) (bytes : List ℕ) (o : ElfObject) (names : List (List ℕ)) (run : Run) (request : Request) (answer : Answer) (output journal : List ℕ) → object_of bytes ≡ Ok o → (p : IsPrepared o request.entry names run) → entry_symbol o request.entry ≡ None →
-    entry_match run ≡ None → answer ≡ Missing request.entry → output ≡ [] → journal ≡ text_of_history names (journal_of run) → IsOfBytes jmax bytes request answer output journal
+    entry_match run ≡ None → HasPlaces jmax (journal_of run) → answer ≡ Missing request.entry → output ≡ [] → journal ≡ text_of_history names (journal_of run) → IsOfBytes jmax bytes request answer output journal
 unfolding its_session
-missing_answer jmax bytes o names run request answer output journal read p at e is out j =
+missing_answer jmax bytes o names run request answer output journal read p at e places is out j =
     carried (subst (λ x. AnswersAs x request answer output) (sym (outcome_is bytes o names run request.entry read p ∙ ap (λ s. entered (lone_image p.graph) (option_map (lone_address p.graph) s)) at)) (record { is = is; silent = out }))
-    (missed names (journal_of run) (its_session jmax bytes o names run request read p) (there_missing run e) is out j)
+    (missed names (journal_of run) (its_session jmax bytes o names run request read p) (there_missing run e) places is out j)
 
 -- the entry is offered exactly where the object has its symbol
 matches_some : (o : ElfObject) (names : List (List ℕ)) (run : Run) (entry : List ℕ) (k : ℕ) → (p : IsPrepared o entry names run) → entry_symbol o entry ≡ Some k → (i : ℕ) × (entry_match run ≡ Some i)
@@ -269,18 +271,25 @@ matches_some o names run entry k p at = let its = entry_is names o p.graph entry
 matches_none : (o : ElfObject) (names : List (List ℕ)) (run : Run) (entry : List ℕ) → (p : IsPrepared o entry names run) → entry_symbol o entry ≡ None → entry_match run ≡ None
 matches_none o names run entry p at = ap (λ (u : Meaning). offer_named (entry_of run) u) p.unit ∙ entry_none names o p.graph entry (entry_of run).0 (parts_made names o p.graph p.made) p.entry_is (plain_of o p.graph p.form) p.named (sym (entry_at o entry) ∙ at)
 
+-- a session is begun for what is entered
+entered_session : (image : List ℕ) (pc : Option ℕ) → HasSession (entered image pc)
+entered_session image (Some pc) = tt
+entered_session image None = tt
+
 -- what a run answers is what the bytes of its file answer
 pub prepared_answers : (jmax : ℕ) (bytes : List ℕ) (o : ElfObject) (names : List (List ℕ)) (run : Run) (request : Request) (answer : Answer) (output journal : List ℕ) → object_of bytes ≡ Ok o → IsPrepared o request.entry names run → IsRunOf jmax names run request answer output journal → IsOfBytes jmax bytes request answer output journal
-prepared_answers jmax bytes o names run request answer output journal read p (cut len full_at e out j) = full len e full_at.few (filled names (journal_of run) len (its_session jmax bytes o names run request read p) full_at e out j)
-prepared_answers jmax bytes o names run request answer output journal read p (unnamed none e out j) = split (entry_symbol o request.entry) refl
+prepared_answers jmax bytes o names run request answer output journal read p (cut len full_at places e out j) =
+    full len e full_at.few (subst HasSession (sym (outcome_is bytes o names run request.entry read p)) (entered_session (lone_image p.graph) (option_map (lone_address p.graph) (entry_symbol o request.entry))))
+    (filled names (journal_of run) len (its_session jmax bytes o names run request read p) full_at places e out j)
+prepared_answers jmax bytes o names run request answer output journal read p (unnamed none places e out j) = split (entry_symbol o request.entry) refl
   where
     split : (s : Option ℕ) → entry_symbol o request.entry ≡ s → IsOfBytes jmax bytes request answer output journal
     split (Some k) at = let i = matches_some o names run request.entry k p at in absurd (none-some i.0 (sym none ∙ i.1))
-    split None at = missing_answer jmax bytes o names run request answer output journal read p at none e out j
-prepared_answers jmax bytes o names run request answer output journal read p (named i end some runs is j) = split (entry_symbol o request.entry) refl
+    split None at = missing_answer jmax bytes o names run request answer output journal read p at none places e out j
+prepared_answers jmax bytes o names run request answer output journal read p (named i end some places runs is j) = split (entry_symbol o request.entry) refl
   where
     split : (s : Option ℕ) → entry_symbol o request.entry ≡ s → IsOfBytes jmax bytes request answer output journal
-    split (Some k) at = ran_answer jmax bytes o names run request answer output journal i k end read p at some runs is j
+    split (Some k) at = ran_answer jmax bytes o names run request answer output journal i k end read p at some places runs is j
     split None at = absurd (none-some i (sym (matches_none o names run request.entry p at) ∙ some))
 
 -- A run of an object in the form

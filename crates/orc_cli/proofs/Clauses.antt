@@ -15,11 +15,11 @@ use Rattle.orc_cli.specs.declared.answer.Answer.TheVariants.{Exited, Usage, Read
 use Rattle.orc_cli.specs.Words.{Request}
 use Rattle.orc_cli.specs.EndLine.{end_line_of}
 use Rattle.orc_cli.specs.Outcomes.{Outcome, refused, missing, starts, outcome_of, AnswersAs, answer_of}
-use Rattle.orc_cli.specs.Answered.{Told, Held, HoldsWhole, HoldsPart, HoldsAsBefore, HasFailed, IsFound, in_words, in_reading, in_length, in_file, wanting, refuses, carried, full, IsWritten, whole, out_failed, log_failed, IsFinished, IsAnswered, found, unwritten}
+use Rattle.orc_cli.specs.Answered.{HasSession, Told, Held, HoldsWhole, HoldsPart, HoldsAsBefore, HasFailed, IsFound, in_words, in_reading, in_length, in_file, wanting, refuses, carried, full, IsWritten, whole, out_failed, log_failed, IsFinished, IsAnswered, found, unwritten}
 use Rattle.orc_cli.specs.ByNames.{IsStaticRun}
 use Rattle.orc_cli.proofs.Static.{only_run}
 use Rattle.orc_cli.specs.Logged.{IsLog, missed, ran, filled, HasLog}
-use Rattle.orc_cli.specs.Causes.{IsBefore, IsInSession, HasFilled, HasStopped, HasFault, IsTold, IsLongFile, OfFile, IsRefused, IsMissing, HasRun, HasRunOn, IsEndOf, IsQuiet, IsCut, IsWanting}
+use Rattle.orc_cli.specs.Causes.{IsBefore, IsInSession, HasFilled, HasStopped, HasFault, IsCutShort, IsTold, IsLongFile, OfFile, IsRefused, IsMissing, HasRun, HasRunOn, IsEndOf, IsQuiet, IsCut, IsWanting}
 
 -- what was found and finished is answered
 pub answered : (jmax : ℕ) (asked : Result Request UsageKind) (told : Told) (before after : ℕ) (out out' log log' : Held) (f answer : Answer) (output journal : List ℕ)
@@ -40,7 +40,7 @@ Cause jmax asked told before after (Missing name) output = OfFile asked told (Is
 Cause jmax asked told before after (Trap pc cause) output = OfFile asked told (HasRun (HasTrapped pc cause) output)
 Cause jmax asked told before after OutOfFuel output = OfFile asked told (HasRun IsOutOfFuel output)
 Cause jmax asked told before after OutputFull output = OfFile asked told (HasRun IsFull output)
-Cause jmax asked told before after (JournalFull len) output = (jmax < 16) × (output ≡ [])
+Cause jmax asked told before after (JournalFull len) output = (jmax < 12) × (output ≡ [])
 Cause jmax asked told before after NoMemory output = output ≡ []
 
 end_cause : (jmax : ℕ) (asked : Result Request UsageKind) (told : Told) (before after : ℕ) (output : List ℕ) (end : RunEnd)
@@ -72,9 +72,9 @@ end_not_full IsOutOfFuel len e = cc
 end_not_full IsFull len e = cc
 
 full_silent : (jmax : ℕ) (bytes : List ℕ) (run : Request) (answer : Answer) (output journal : List ℕ) (len : ℕ) → IsLog jmax bytes run answer output journal → answer ≡ JournalFull len → output ≡ []
-full_silent jmax bytes run answer output journal len (missed names h s m is out _) e = out
-full_silent jmax bytes run answer output journal len (ran names h s pc end f runs is _) e = absurd (end_not_full end len (sym is ∙ e))
-full_silent jmax bytes run answer output journal len (filled names h n s f is out _) e = out
+full_silent jmax bytes run answer output journal len (missed names h s m _ is out _) e = out
+full_silent jmax bytes run answer output journal len (ran names h s pc end f _ runs is _) e = absurd (end_not_full end len (sym is ∙ e))
+full_silent jmax bytes run answer output journal len (filled names h n s f _ is out _) e = out
 
 -- every answer that is found has its cause
 cause_of : (jmax : ℕ) (asked : Result Request UsageKind) (told : Told) (before after : ℕ) (answer : Answer) (output journal : List ℕ)
@@ -93,7 +93,7 @@ cause_of jmax asked told before after answer output journal (in_file run q bytes
     subst P (sym e) (refl, record { run = run; asks = q; bytes = bytes; short = short; content = content; fact = x }, s)
 cause_of jmax asked told before after answer output journal (in_file run q bytes short content (carried gives _)) =
     outcome_cause jmax asked told before after answer output run q bytes short content (outcome_of bytes run.entry) refl gives
-cause_of jmax asked told before after answer output journal (in_file run q bytes short content (full len e few log)) =
+cause_of jmax asked told before after answer output journal (in_file run q bytes short content (full len e few _ log)) =
     let P : Answer → Type 0 = λ a. Cause jmax asked told before after a output in
     subst P (sym e) (few, full_silent jmax bytes run answer output journal len log e)
 cause_of jmax asked told before after answer output journal (wanting e s _) =
@@ -152,6 +152,11 @@ pub refused_only : (jmax : ℕ) (asked : Result Request UsageKind) (told : Told)
 refused_only jmax asked told before after out out' log log' answer is k why e =
     let c = (cause_at jmax asked told before after out out' log log' answer (ObjectRefused k why) e (λ w. cc) (λ w. cc) is).cause in (c.0, c.1)
 
+pub full_only : (jmax : ℕ) (asked : Result Request UsageKind) (told : Told) (before after : ℕ) (out out' log log' : Held) (answer : Answer)
+    → IsAnswered jmax asked told before after out out' log log' answer → (len : ℕ) → answer ≡ JournalFull len → jmax < 12
+full_only jmax asked told before after out out' log log' answer is len e =
+    (cause_at jmax asked told before after out out' log log' answer (JournalFull len) e (λ w. cc) (λ w. cc) is).cause.0
+
 pub missing_only : (jmax : ℕ) (asked : Result Request UsageKind) (told : Told) (before after : ℕ) (out out' log log' : Held) (answer : Answer)
     → IsAnswered jmax asked told before after out out' log log' answer → (name : List ℕ) → answer ≡ Missing name → OfFile asked told (IsMissing name)
 missing_only jmax asked told before after out out' log log' answer is name e =
@@ -187,9 +192,9 @@ run_not_before IsFull h = absurd h
 
 -- a session that is told is not one that was not begun
 log_not_before : {P : Type 0} (jmax : ℕ) (bytes : List ℕ) (run : Request) (answer : Answer) (output journal : List ℕ) → IsLog jmax bytes run answer output journal → IsBefore answer → P
-log_not_before jmax bytes run answer output journal (missed names h s m e _ _) b = absurd (subst IsBefore e b)
-log_not_before jmax bytes run answer output journal (ran names h s pc end f r e _) b = run_not_before end (subst IsBefore e b)
-log_not_before jmax bytes run answer output journal (filled names h len s f e _ _) b = absurd (subst IsBefore e b)
+log_not_before jmax bytes run answer output journal (missed names h s m _ e _ _) b = absurd (subst IsBefore e b)
+log_not_before jmax bytes run answer output journal (ran names h s pc end f _ r e _) b = run_not_before end (subst IsBefore e b)
+log_not_before jmax bytes run answer output journal (filled names h len s f _ e _ _) b = absurd (subst IsBefore e b)
 
 -- where no session was begun, there is no journal
 no_journal : (jmax : ℕ) (asked : Result Request UsageKind) (told : Told) (before after : ℕ) (answer : Answer) (output journal : List ℕ) → IsFound jmax asked told before after answer output journal → IsBefore answer → journal ≡ []
@@ -198,13 +203,13 @@ no_journal jmax asked told before after answer output journal (in_reading _ _ _ 
 no_journal jmax asked told before after answer output journal (in_length _ _ _ _ _ j) b = j
 no_journal jmax asked told before after answer output journal (in_file run _ bytes _ _ (refuses _ _ _ _ j)) b = j
 no_journal jmax asked told before after answer output journal (in_file run _ bytes _ _ (carried _ log)) b = log_not_before jmax bytes run answer output journal log b
-no_journal jmax asked told before after answer output journal (in_file run _ bytes _ _ (full _ _ _ log)) b = log_not_before jmax bytes run answer output journal log b
+no_journal jmax asked told before after answer output journal (in_file run _ bytes _ _ (full _ _ _ _ log)) b = log_not_before jmax bytes run answer output journal log b
 no_journal jmax asked told before after answer output journal (wanting _ _ j) b = j
 
 pub log_line : (jmax : ℕ) (asked : Result Request UsageKind) (told : Told) (before after : ℕ) (out out' log log' : Held) (answer : Answer)
-    → IsAnswered jmax asked told before after out out' log log' answer → IsBefore answer → answer ≢ NoMemory → HoldsWhole log log' (end_line_of answer)
-log_line jmax asked told before after out out' log log' answer is b nm =
-    let w = cause_at jmax asked told before after out out' log log' answer answer refl (λ e. absurd (subst IsBefore e b)) nm is in
+    → IsAnswered jmax asked told before after out out' log log' answer → IsBefore answer → HoldsWhole log log' (end_line_of answer)
+log_line jmax asked told before after out out' log log' answer is b =
+    let w = cause_at jmax asked told before after out out' log log' answer answer refl (λ e. absurd (subst IsBefore e b)) (λ e. absurd (subst IsBefore e b)) is in
     let P : List ℕ → Type 0 = λ text. HoldsWhole log log' (text ++ end_line_of answer) in
     subst P (no_journal jmax asked told before after answer w.output w.journal w.is_found b) w.log_holds
 
@@ -216,12 +221,12 @@ end_not_wanting IsOutOfFuel e = cc
 end_not_wanting IsFull e = cc
 
 log_not_wanting : {P : Type 0} (jmax : ℕ) (bytes : List ℕ) (run : Request) (answer : Answer) (output journal : List ℕ) → IsLog jmax bytes run answer output journal → answer ≡ NoMemory → P
-log_not_wanting jmax bytes run answer output journal (missed names h s m is _ _) e = absurd (missing_not_wanting run.entry (sym is ∙ e))
+log_not_wanting jmax bytes run answer output journal (missed names h s m _ is _ _) e = absurd (missing_not_wanting run.entry (sym is ∙ e))
   where
     missing_not_wanting : (name : List ℕ) → Missing name ≡ NoMemory → ⊥
     missing_not_wanting name e = cc
-log_not_wanting jmax bytes run answer output journal (ran names h s pc end f runs is _) e = absurd (end_not_wanting end (sym is ∙ e))
-log_not_wanting jmax bytes run answer output journal (filled names h len s f is _ _) e = absurd (full_not_wanting len (sym is ∙ e))
+log_not_wanting jmax bytes run answer output journal (ran names h s pc end f _ runs is _) e = absurd (end_not_wanting end (sym is ∙ e))
+log_not_wanting jmax bytes run answer output journal (filled names h len s f _ is _ _) e = absurd (full_not_wanting len (sym is ∙ e))
   where
     full_not_wanting : (len : ℕ) → JournalFull len ≡ NoMemory → ⊥
     full_not_wanting len e = cc
@@ -232,7 +237,7 @@ wanting_journal jmax asked told before after answer output journal (in_reading _
 wanting_journal jmax asked told before after answer output journal (in_length _ _ _ _ _ j) e = j
 wanting_journal jmax asked told before after answer output journal (in_file run _ bytes _ _ (refuses _ _ _ _ j)) e = j
 wanting_journal jmax asked told before after answer output journal (in_file run _ bytes _ _ (carried _ log)) e = log_not_wanting jmax bytes run answer output journal log e
-wanting_journal jmax asked told before after answer output journal (in_file run _ bytes _ _ (full _ _ _ log)) e = log_not_wanting jmax bytes run answer output journal log e
+wanting_journal jmax asked told before after answer output journal (in_file run _ bytes _ _ (full _ _ _ _ log)) e = log_not_wanting jmax bytes run answer output journal log e
 wanting_journal jmax asked told before after answer output journal (wanting _ _ j) e = j
 
 -- where a session was begun, its journal is told
@@ -242,7 +247,7 @@ told_journal jmax asked told before after answer output journal (in_reading _ _ 
 told_journal jmax asked told before after answer output journal (in_length _ _ _ e _ _) i = absurd (subst IsInSession e i)
 told_journal jmax asked told before after answer output journal (in_file run q bytes short content (refuses _ _ e _ _)) i = absurd (subst IsInSession e i)
 told_journal jmax asked told before after answer output journal (in_file run q bytes short content (carried _ log)) i = record { run = run; asks = q; bytes = bytes; short = short; content = content; fact = log }
-told_journal jmax asked told before after answer output journal (in_file run q bytes short content (full _ _ _ log)) i = record { run = run; asks = q; bytes = bytes; short = short; content = content; fact = log }
+told_journal jmax asked told before after answer output journal (in_file run q bytes short content (full _ _ _ _ log)) i = record { run = run; asks = q; bytes = bytes; short = short; content = content; fact = log }
 told_journal jmax asked told before after answer output journal (wanting e _ _) i = absurd (subst IsInSession e i)
 
 pub session_log : (jmax : ℕ) (asked : Result Request UsageKind) (told : Told) (before after : ℕ) (out out' log log' : Held) (answer : Answer)
@@ -350,17 +355,20 @@ usage_told jmax asked told before after out out' log log' answer (found f output
       | inr e ↦ inr (inl e)
     ]
 
+-- what an outcome answers, unless the journal was full, which comes after no refusal
+abbrev Gives : (jmax : ℕ) → Outcome → Request → Answer → List ℕ → Type 0
+Gives jmax x run answer output = AnswersAs x run answer output ⊎ (HasSession x × HasFilled jmax answer)
+
 -- what bytes that are told answer
 data Tells (jmax : ℕ) (bytes : List ℕ) (run : Request) (f : Answer) (output : List ℕ) : Type 0 where
   tells_long : FILE_LIMIT < length bytes → f ≡ TooLong 0 → Tells jmax bytes run f output
-  tells_short : length bytes ≤ FILE_LIMIT → AnswersAs (outcome_of bytes run.entry) run f output → Tells jmax bytes run f output
+  tells_short : length bytes ≤ FILE_LIMIT → Gives jmax (outcome_of bytes run.entry) run f output → Tells jmax bytes run f output
   tells_fault : f ≡ FileFault 0 → Tells jmax bytes run f output
   tells_wanting : f ≡ NoMemory → Tells jmax bytes run f output
-  tells_full : HasFilled jmax f → Tells jmax bytes run f output
 
 -- the bytes that were held are those that are told
 held_told : (jmax : ℕ) (asked : Result Request UsageKind) (told : Told) (f : Answer) (output bytes : List ℕ) (asks : Request)
-    → IsTold asked told bytes asks → (run : Request) → asked ≡ Ok run → (held : List ℕ) → length held ≤ FILE_LIMIT → HasContent told run.file held → AnswersAs (outcome_of held run.entry) run f output → Tells jmax bytes asks f output
+    → IsTold asked told bytes asks → (run : Request) → asked ≡ Ok run → (held : List ℕ) → length held ≤ FILE_LIMIT → HasContent told run.file held → Gives jmax (outcome_of held run.entry) run f output → Tells jmax bytes asks f output
 held_told jmax asked told f output bytes asks t run q held short content gives =
     let is = t.asks in
     let same : run ≡ asks = cc in
@@ -369,9 +377,9 @@ held_told jmax asked told f output bytes asks t run q held short content gives =
     let there : t.contents asks.file ≡ Some held = subst Q same (subst P t.tells content) in
     let has = t.has in
     let these : held ≡ bytes = cc in
-    let R : Request → Type 0 = λ r. AnswersAs (outcome_of held r.entry) r f output in
+    let R : Request → Type 0 = λ r. Gives jmax (outcome_of held r.entry) r f output in
     let S : List ℕ → Type 0 = λ b. length b ≤ FILE_LIMIT in
-    let U : List ℕ → Type 0 = λ b. AnswersAs (outcome_of b asks.entry) asks f output in
+    let U : List ℕ → Type 0 = λ b. Gives jmax (outcome_of b asks.entry) asks f output in
     tells_short (subst S these short) (subst U these (subst R same gives))
 
 told_found : (jmax : ℕ) (asked : Result Request UsageKind) (told : Told) (before after : ℕ) (f : Answer) (output journal bytes : List ℕ) (asks : Request)
@@ -385,9 +393,9 @@ told_found jmax asked told before after f output journal bytes asks t (in_length
     let Q : Request → Type 0 = λ r. IsSomeAnd (t.contents r.file) (λ held. FILE_LIMIT < length held) in
     let R : Option (List ℕ) → Type 0 = λ x. IsSomeAnd x (λ held. FILE_LIMIT < length held) in
     tells_long (subst R t.has (subst Q same (subst P t.tells l))) e
-told_found jmax asked told before after f output journal bytes asks t (in_file run q held short content (refuses why x e s _)) = held_told jmax asked told f output bytes asks t run q held short content (let P : Outcome → Type 0 = λ o. AnswersAs o run f output in subst P (sym x) (record { is = e; silent = s }))
-told_found jmax asked told before after f output journal bytes asks t (in_file run q held short content (carried gives _)) = held_told jmax asked told f output bytes asks t run q held short content gives
-told_found jmax asked told before after f output journal bytes asks t (in_file run q held short content (full len e few _)) = tells_full (len, e, few)
+told_found jmax asked told before after f output journal bytes asks t (in_file run q held short content (refuses why x e s _)) = held_told jmax asked told f output bytes asks t run q held short content (inl (let P : Outcome → Type 0 = λ o. AnswersAs o run f output in subst P (sym x) (record { is = e; silent = s })))
+told_found jmax asked told before after f output journal bytes asks t (in_file run q held short content (carried gives _)) = held_told jmax asked told f output bytes asks t run q held short content (inl gives)
+told_found jmax asked told before after f output journal bytes asks t (in_file run q held short content (full len e few begun _)) = held_told jmax asked told f output bytes asks t run q held short content (inr (begun, (len, e, few)))
 told_found jmax asked told before after f output journal bytes asks t (wanting e _ _) = tells_wanting e
 
 -- the same of what was written
@@ -402,82 +410,92 @@ told_answered jmax asked told before after out out' log log' answer bytes run t 
       | inr e ↦ inl (inl e)
     ]
 
-long_of : (jmax : ℕ) (bytes : List ℕ) (run : Request) (answer : Answer) (output : List ℕ) → FILE_LIMIT < length bytes → Tells jmax bytes run answer output → (answer ≡ TooLong 0) ⊎ HasFault jmax answer
+long_of : (jmax : ℕ) (bytes : List ℕ) (run : Request) (answer : Answer) (output : List ℕ) → FILE_LIMIT < length bytes → Tells jmax bytes run answer output → (answer ≡ TooLong 0) ⊎ HasFault answer
 long_of jmax bytes run answer output l (tells_long _ e) = inl e
 long_of jmax bytes run answer output l (tells_short s _) = absurd (omega arith)
 long_of jmax bytes run answer output l (tells_fault e) = inr (inl e)
-long_of jmax bytes run answer output l (tells_wanting e) = inr (inr (inl (inr e)))
-long_of jmax bytes run answer output l (tells_full e) = inr (inr (inr e))
+long_of jmax bytes run answer output l (tells_wanting e) = inr (inr (inr e))
 
 pub too_long_told : (jmax : ℕ) (asked : Result Request UsageKind) (told : Told) (before after : ℕ) (out out' log log' : Held) (answer : Answer)
     → IsAnswered jmax asked told before after out out' log log' answer
-    → (bytes : List ℕ) (run : Request) → IsTold asked told bytes run → FILE_LIMIT < length bytes → (answer ≡ TooLong 0) ⊎ HasFault jmax answer
+    → (bytes : List ℕ) (run : Request) → IsTold asked told bytes run → FILE_LIMIT < length bytes → (answer ≡ TooLong 0) ⊎ HasFault answer
 too_long_told jmax asked told before after out out' log log' answer is bytes run t l =
     elim (told_answered jmax asked told before after out out' log log' answer bytes run t is) [
-      | inl s ↦ inr (inr (inl s))
+      | inl s ↦ inr (inr s)
       | inr h ↦ long_of jmax bytes run answer h.0 l h.1
     ]
 
 -- what a short file answers, by its outcome
 short_of : (jmax : ℕ) (bytes : List ℕ) (run : Request) (answer : Answer) (output : List ℕ) (x : Outcome) → length bytes ≤ FILE_LIMIT → outcome_of bytes run.entry ≡ x
-    → Tells jmax bytes run answer output → AnswersAs x run answer output ⊎ HasFault jmax answer
+    → Tells jmax bytes run answer output → Gives jmax x run answer output ⊎ HasFault answer
 short_of jmax bytes run answer output x s h (tells_long l _) = absurd (omega arith)
 short_of jmax bytes run answer output x s h (tells_short _ gives) =
-    let P : Outcome → Type 0 = λ y. AnswersAs y run answer output in inl (subst P h gives)
+    let P : Outcome → Type 0 = λ y. Gives jmax y run answer output in inl (subst P h gives)
 short_of jmax bytes run answer output x s h (tells_fault e) = inr (inl e)
-short_of jmax bytes run answer output x s h (tells_wanting e) = inr (inr (inl (inr e)))
-short_of jmax bytes run answer output x s h (tells_full e) = inr (inr (inr e))
+short_of jmax bytes run answer output x s h (tells_wanting e) = inr (inr (inr e))
 
 short_told : (jmax : ℕ) (asked : Result Request UsageKind) (told : Told) (before after : ℕ) (out out' log log' : Held) (answer : Answer)
     → IsAnswered jmax asked told before after out out' log log' answer
     → (bytes : List ℕ) (run : Request) (x : Outcome) → IsTold asked told bytes run → length bytes ≤ FILE_LIMIT → outcome_of bytes run.entry ≡ x
-    → ((output : List ℕ) × AnswersAs x run answer output) ⊎ HasFault jmax answer
+    → ((output : List ℕ) × Gives jmax x run answer output) ⊎ HasFault answer
 short_told jmax asked told before after out out' log log' answer is bytes run x t s h =
     elim (told_answered jmax asked told before after out out' log log' answer bytes run t is) [
-      | inl stopped ↦ inr (inr (inl stopped))
+      | inl stopped ↦ inr (inr stopped)
       | inr held ↦ elim (short_of jmax bytes run answer held.0 x s h held.1) [ inl gives ↦ inl (held.0, gives) | inr fault ↦ inr fault ]
     ]
+
+refusal_given : (jmax : ℕ) (why : ObjectWhy) (run : Request) (answer : Answer) (output : List ℕ) → Gives jmax (refused why) run answer output → answer ≡ ObjectRefused 0 why
+refusal_given jmax why run answer output (inl gives) = gives.is
+refusal_given jmax why run answer output (inr cut) = absurd cut.0
 
 pub refused_told : (jmax : ℕ) (asked : Result Request UsageKind) (told : Told) (before after : ℕ) (out out' log log' : Held) (answer : Answer)
     → IsAnswered jmax asked told before after out out' log log' answer
     → (bytes : List ℕ) (run : Request) (why : ObjectWhy) → IsTold asked told bytes run → length bytes ≤ FILE_LIMIT → outcome_of bytes run.entry ≡ refused why
-    → (answer ≡ ObjectRefused 0 why) ⊎ HasFault jmax answer
+    → (answer ≡ ObjectRefused 0 why) ⊎ HasFault answer
 refused_told jmax asked told before after out out' log log' answer is bytes run why t s h =
-    elim (short_told jmax asked told before after out out' log log' answer is bytes run (refused why) t s h) [ inl gives ↦ inl gives.1.is | inr fault ↦ inr fault ]
+    elim (short_told jmax asked told before after out out' log log' answer is bytes run (refused why) t s h) [ inl gives ↦ inl (refusal_given jmax why run answer gives.0 gives.1) | inr fault ↦ inr fault ]
+
+missing_given : (jmax : ℕ) (run : Request) (answer : Answer) (output : List ℕ) → Gives jmax missing run answer output → (answer ≡ Missing run.entry) ⊎ IsCutShort jmax answer
+missing_given jmax run answer output (inl gives) = inl gives.is
+missing_given jmax run answer output (inr cut) = inr (inr cut.1)
 
 pub missing_told : (jmax : ℕ) (asked : Result Request UsageKind) (told : Told) (before after : ℕ) (out out' log log' : Held) (answer : Answer)
     → IsAnswered jmax asked told before after out out' log log' answer
     → (bytes : List ℕ) (run : Request) → IsTold asked told bytes run → length bytes ≤ FILE_LIMIT → outcome_of bytes run.entry ≡ missing
-    → (answer ≡ Missing run.entry) ⊎ HasFault jmax answer
+    → (answer ≡ Missing run.entry) ⊎ IsCutShort jmax answer
 missing_told jmax asked told before after out out' log log' answer is bytes run t s h =
-    elim (short_told jmax asked told before after out out' log log' answer is bytes run missing t s h) [ inl gives ↦ inl gives.1.is | inr fault ↦ inr fault ]
+    elim (short_told jmax asked told before after out out' log log' answer is bytes run missing t s h) [ inl gives ↦ missing_given jmax run answer gives.0 gives.1 | inr fault ↦ inr (inl fault) ]
+
+run_given : (jmax : ℕ) (image : List ℕ) (pc : ℕ) (run : Request) (answer : Answer) (output : List ℕ) → Gives jmax (starts image pc) run answer output → IsEndOf image pc run.fuel answer ⊎ IsCutShort jmax answer
+run_given jmax image pc run answer output (inl gives) = inl (output, gives)
+run_given jmax image pc run answer output (inr cut) = inr (inr cut.1)
 
 pub ran_told : (jmax : ℕ) (asked : Result Request UsageKind) (told : Told) (before after : ℕ) (out out' log log' : Held) (answer : Answer)
     → IsAnswered jmax asked told before after out out' log log' answer
     → (bytes image : List ℕ) (run : Request) (pc : ℕ) → IsTold asked told bytes run → length bytes ≤ FILE_LIMIT → outcome_of bytes run.entry ≡ starts image pc
-    → IsEndOf image pc run.fuel answer ⊎ HasFault jmax answer
+    → IsEndOf image pc run.fuel answer ⊎ IsCutShort jmax answer
 ran_told jmax asked told before after out out' log log' answer is bytes image run pc t s h =
-    short_told jmax asked told before after out out' log log' answer is bytes run (starts image pc) t s h
+    elim (short_told jmax asked told before after out out' log log' answer is bytes run (starts image pc) t s h) [ inl gives ↦ run_given jmax image pc run answer gives.0 gives.1 | inr fault ↦ inr (inl fault) ]
 
 -- what a static run says of what was found, and of what out has gained
 static_found : (jmax : ℕ) (out out' : Held) (answer f : Answer) (output bytes wanted : List ℕ) (run : Request) (end : RunEnd)
     → answer ≡ f → HoldsWhole out out' output → length bytes ≤ FILE_LIMIT → IsStaticRun bytes run end wanted → Tells jmax bytes run f output
-    → ((answer ≡ answer_of end) × HoldsWhole out out' wanted) ⊎ HasFault jmax answer
+    → ((answer ≡ answer_of end) × HoldsWhole out out' wanted) ⊎ IsCutShort jmax answer
 static_found jmax out out' answer f output bytes wanted run end e ho s static (tells_long l _) = absurd (omega arith)
-static_found jmax out out' answer f output bytes wanted run end e ho s static (tells_short _ gives) =
+static_found jmax out out' answer f output bytes wanted run end e ho s static (tells_short _ (inl gives)) =
     let same = only_run bytes run end wanted f output static gives in
     let P : List ℕ → Type 0 = λ text. HoldsWhole out out' text in
     inl (e ∙ same.0, subst P same.1 ho)
-static_found jmax out out' answer f output bytes wanted run end e ho s static (tells_fault fault) = inr (inl (e ∙ fault))
-static_found jmax out out' answer f output bytes wanted run end e ho s static (tells_wanting w) = inr (inr (inl (inr (e ∙ w))))
-static_found jmax out out' answer f output bytes wanted run end e ho s static (tells_full w) = inr (inr (inr (w.0, e ∙ w.1, w.2)))
+static_found jmax out out' answer f output bytes wanted run end e ho s static (tells_short _ (inr cut)) = inr (inr (cut.1.0, e ∙ cut.1.1, cut.1.2))
+static_found jmax out out' answer f output bytes wanted run end e ho s static (tells_fault fault) = inr (inl (inl (e ∙ fault)))
+static_found jmax out out' answer f output bytes wanted run end e ho s static (tells_wanting w) = inr (inl (inr (inr (e ∙ w))))
 
 pub by_names : (jmax : ℕ) (asked : Result Request UsageKind) (told : Told) (before after : ℕ) (out out' log log' : Held) (answer : Answer)
     → IsAnswered jmax asked told before after out out' log log' answer
     → (bytes wanted : List ℕ) (run : Request) (end : RunEnd) → IsTold asked told bytes run → length bytes ≤ FILE_LIMIT → IsStaticRun bytes run end wanted
-    → ((answer ≡ answer_of end) × HoldsWhole out out' wanted) ⊎ HasFault jmax answer
-by_names jmax asked told before after out out' log log' answer (unwritten e _ _) bytes wanted run end t s static = inr (inr (inl (inr e)))
+    → ((answer ≡ answer_of end) × HoldsWhole out out' wanted) ⊎ IsCutShort jmax answer
+by_names jmax asked told before after out out' log log' answer (unwritten e _ _) bytes wanted run end t s static = inr (inl (inr (inr e)))
 by_names jmax asked told before after out out' log log' answer (found f output journal is (whole e ho hl)) bytes wanted run end t s static =
     static_found jmax out out' answer f output bytes wanted run end e ho s static (told_found jmax asked told before after f output journal bytes run t is)
-by_names jmax asked told before after out out' log log' answer (found f output journal is (out_failed e _ _ _)) bytes wanted run end t s static = inr (inr (inl (inl e)))
-by_names jmax asked told before after out out' log log' answer (found f output journal is (log_failed e _ _ _)) bytes wanted run end t s static = inr (inr (inl (inl e)))
+by_names jmax asked told before after out out' log log' answer (found f output journal is (out_failed e _ _ _)) bytes wanted run end t s static = inr (inl (inr (inl e)))
+by_names jmax asked told before after out out' log log' answer (found f output journal is (log_failed e _ _ _)) bytes wanted run end t s static = inr (inl (inr (inl e)))

@@ -10,19 +10,25 @@ use Rattle.orc_cli.specs.declared.answer.Answer.TheVariants.{Usage, FileFault, W
 use Rattle.orc_cli.specs.declared.answer.ObjectWhy.{ObjectWhy}
 use Rattle.orc_cli.specs.Logged.{IsLog}
 use Rattle.orc_cli.specs.EndLine.{end_line_of}
-use Rattle.orc_cli.specs.Outcomes.{AnswersAs, outcome_of, refused}
+use Rattle.orc_cli.specs.Outcomes.{AnswersAs, Outcome, outcome_of, refused, missing, starts}
 use Rattle.orc_cli.specs.Words.{Request}
 
 -- the contents of files by their names, where the files tell them
 abbrev pub Told : Type 0
 Told = Option (List ℕ → Option (List ℕ))
 
+-- a session is begun for the object
+abbrev pub HasSession : Outcome → Type 0
+HasSession (refused why) = ⊥
+HasSession missing = Unit {0}
+HasSession (starts image pc) = Unit {0}
+
 -- What the bytes of a file answer: they are refused, and no session is begun; or their session's journal says it. Where
 -- that isn't cut, the answer is that of the bytes' outcome too.
 pub data IsOfBytes (jmax : ℕ) (bytes : List ℕ) (run : Request) (answer : Answer) (output journal : List ℕ) : Type 0 where
   refuses : (why : ObjectWhy) → outcome_of bytes run.entry ≡ refused why → answer ≡ ObjectRefused 0 why → output ≡ [] → journal ≡ [] → IsOfBytes jmax bytes run answer output journal
   carried : AnswersAs (outcome_of bytes run.entry) run answer output → IsLog jmax bytes run answer output journal → IsOfBytes jmax bytes run answer output journal
-  full : (len : ℕ) → answer ≡ JournalFull len → jmax < 16 → IsLog jmax bytes run answer output journal → IsOfBytes jmax bytes run answer output journal
+  full : (len : ℕ) → answer ≡ JournalFull len → jmax < 12 → HasSession (outcome_of bytes run.entry) → IsLog jmax bytes run answer output journal → IsOfBytes jmax bytes run answer output journal
 
 -- What was found, in this order: the words are no command; the file couldn't be read, and the files' count of faults
 -- rose; the file is longer than 16 MiB; else what its bytes answer, which are those that the files tell: they are refused,

@@ -1,6 +1,7 @@
 -- A run that is carried through a session, and what its journal says of the answer.
 use Rattle.std.specs.Prelude.{◌≡◌, ℕ, ◌<◌, List, [], length, take, Some, None}
 use Rattle.session_model.specs.Answer.{CODE_START}
+use Rattle.session_model.specs.History.{HasPlaces}
 use Rattle.session_model.specs.Memory.{memory}
 use Rattle.session_model.specs.State.{state}
 use Rattle.session_run.specs.declared.run.Run.{Run}
@@ -25,9 +26,9 @@ pub record AreGiven (names : List (List ℕ)) (run : Run) : Type 0 where
   pub entry : (entry_of run).0 < length names
 
 -- The entry isn't offered, and the journal is whole; or the run is that on the session's memory from the entry's address;
--- or the journal was full after some of its entries.
+-- or the journal was full after some of its entries. Each entry had its place.
 pub data IsRunOf (jmax : ℕ) (names : List (List ℕ)) (run : Run) (request : Request) (answer : Answer) (output journal : List ℕ) : Type 0 where
-  unnamed : entry_match run ≡ None → answer ≡ Missing request.entry → output ≡ [] → journal ≡ text_of_history names (journal_of run) → IsRunOf jmax names run request answer output journal
-  named : (i : ℕ) (end : RunEnd) → entry_match run ≡ Some i → RunsTo (memory (state (journal_of run))) ((unit_of run).address i CODE_START) [] request.fuel end output →
+  unnamed : entry_match run ≡ None → HasPlaces jmax (journal_of run) → answer ≡ Missing request.entry → output ≡ [] → journal ≡ text_of_history names (journal_of run) → IsRunOf jmax names run request answer output journal
+  named : (i : ℕ) (end : RunEnd) → entry_match run ≡ Some i → HasPlaces jmax (journal_of run) → RunsTo (memory (state (journal_of run))) ((unit_of run).address i CODE_START) [] request.fuel end output →
       answer ≡ answer_of end → journal ≡ text_of_history names (journal_of run) → IsRunOf jmax names run request answer output journal
-  cut : (len : ℕ) → HasNoPlace jmax (journal_of run) (take len (journal_of run)) len → answer ≡ JournalFull len → output ≡ [] → journal ≡ text_of_history names (take len (journal_of run)) → IsRunOf jmax names run request answer output journal
+  cut : (len : ℕ) → HasNoPlace jmax (journal_of run) (take len (journal_of run)) len → HasPlaces jmax (take len (journal_of run)) → answer ≡ JournalFull len → output ≡ [] → journal ≡ text_of_history names (take len (journal_of run)) → IsRunOf jmax names run request answer output journal

@@ -17,13 +17,17 @@ use Rattle.orc_cli.specs.Words.{Request}
 abbrev pub HasStopped : Answer → Type 0
 HasStopped answer = (answer ≡ WriteFault) ⊎ (answer ≡ NoMemory)
 
--- the journal was full, which has fewer than 16 places
+-- the journal was full, which has fewer than 12 places
 abbrev pub HasFilled : ℕ → Answer → Type 0
-HasFilled jmax answer = (len : ℕ) × (answer ≡ JournalFull len) × (jmax < 16)
+HasFilled jmax answer = (len : ℕ) × (answer ≡ JournalFull len) × (jmax < 12)
 
--- the file couldn't be read, a write failed, memory ran out, or the journal was full
-abbrev pub HasFault : ℕ → Answer → Type 0
-HasFault jmax answer = (answer ≡ FileFault 0) ⊎ HasStopped answer ⊎ HasFilled jmax answer
+-- the file couldn't be read, a write failed, or memory ran out
+abbrev pub HasFault : Answer → Type 0
+HasFault answer = (answer ≡ FileFault 0) ⊎ HasStopped answer
+
+-- one of these, or the journal was full
+abbrev pub IsCutShort : ℕ → Answer → Type 0
+IsCutShort jmax answer = HasFault answer ⊎ HasFilled jmax answer
 
 -- the words ask for a run, and the files tell that its file has these bytes
 pub record IsTold (asked : Result Request UsageKind) (told : Told) (bytes : List ℕ) (run : Request) : Type 0 where

@@ -9,11 +9,13 @@ use Rattle.elf_read.specs.declared.object.ElfObject.{ElfObject}
 use Rattle.elf_read.specs.Object.{object_of}
 use Rattle.link_model.specs.declared.graph.LinkGraph.{LinkGraph}
 use Rattle.link_graph.specs.Checks.{graph_of_object}
+use Rattle.link_graph.specs.Read.{AreNamed}
 use Rattle.object_unit.specs.Meaning.{graph_meaning}
 use Rattle.session_model.specs.Meaning.{Meaning}
 use Rattle.session_model.specs.Memory.{memory}
 use Rattle.session_model.specs.State.{state}
 use Rattle.session_model.specs.Calls.{lookup_event}
+use Rattle.session_model.specs.History.{HasPlaces}
 use Rattle.session_model.specs.declared.entry.Entry.{Entry}
 use Rattle.session_model.specs.declared.entry.Reply.TheVariants as reply
 use Rattle.session_run.specs.Run.{IsRun, lookup_of}
@@ -34,6 +36,8 @@ pub record IsSession (jmax : ℕ) (bytes : List ℕ) (run : Request) (names : Li
   pub read : object_of bytes ≡ Ok object
   pub graph : LinkGraph
   pub made : graph_of_object names object ≡ Ok graph
+  -- each of its symbols that isn't local has its own name there
+  pub named : AreNamed names object.symbols
   pub main : NameId
   pub main_is : IsNumberOf names (codes "main") main.0
   pub entry : NameId
@@ -59,13 +63,13 @@ pub record IsFoundAt (h : List (Entry Meaning)) (address : ℕ) : Type 0 where
 
 -- What the journal of a run says of the answer: the entry is missing where the lookup was answered so; or the answer and
 -- the output are those of the run on the session's memory, from the address that was found; or the journal was full
--- after some of its entries. The log has the journal's text.
+-- after some of its entries. Each entry had its place. The log has the journal's text.
 pub data IsLog (jmax : ℕ) (bytes : List ℕ) (run : Request) (answer : Answer) (output journal : List ℕ) : Type 0 where
-  missed : (names : List (List ℕ)) (h : List (Entry Meaning)) (s : IsSession jmax bytes run names h) → IsAnsweredMissing s.entry h →
+  missed : (names : List (List ℕ)) (h : List (Entry Meaning)) (s : IsSession jmax bytes run names h) → IsAnsweredMissing s.entry h → HasPlaces jmax h →
       answer ≡ Missing run.entry → output ≡ [] → journal ≡ text_of_history names h → IsLog jmax bytes run answer output journal
-  ran : (names : List (List ℕ)) (h : List (Entry Meaning)) (s : IsSession jmax bytes run names h) (pc : ℕ) (end : RunEnd) → IsFoundAt h pc →
+  ran : (names : List (List ℕ)) (h : List (Entry Meaning)) (s : IsSession jmax bytes run names h) (pc : ℕ) (end : RunEnd) → IsFoundAt h pc → HasPlaces jmax h →
       RunsTo (memory (state h)) pc [] run.fuel end output → answer ≡ answer_of end → journal ≡ text_of_history names h → IsLog jmax bytes run answer output journal
-  filled : (names : List (List ℕ)) (h : List (Entry Meaning)) (len : ℕ) → IsSession jmax bytes run names h → HasNoPlace jmax h (take len h) len →
+  filled : (names : List (List ℕ)) (h : List (Entry Meaning)) (len : ℕ) → IsSession jmax bytes run names h → HasNoPlace jmax h (take len h) len → HasPlaces jmax (take len h) →
       answer ≡ JournalFull len → output ≡ [] → journal ≡ text_of_history names (take len h) → IsLog jmax bytes run answer output journal
 
 -- log has gained the journal's text and the end line, and out the output

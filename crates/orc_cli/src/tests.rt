@@ -1,4 +1,4 @@
-ghost use Rattle.std.specs.Prelude.{◌≡◌, All, None, IfOk};
+ghost use Rattle.std.specs.Prelude.{◌≡◌, ◌≤◌, All, None, IfOk};
 
 mod common;
 mod hello;
@@ -178,8 +178,30 @@ const FIVE_LOG: &[u8] = b"\
 end journal full 4
 ";
 
-#[test]
-fn a_journal_of_five_is_full_at_the_take(rt: HostRuntime) -> Result<(), Fail> {
+/// The same where it has eleven: there is no place for the image.
+const ELEVEN_LOG: &[u8] = b"\
+1 s0 dylib main = made d0
+2 s0 tracker d0 = tracker t0
+3 s0 define d0 t0 o0 = defined u0 i0 1
+4 s1 ask d0:all ready main = pending q0
+5 s1 take = start u0
+6 s1 place u0 48 16 = placed 10000000
+7 s1 resolve u0 = resolved
+8 s1 link u0 = done q1
+9 s1 take = finish u0 bound
+10 s1 emit u0 i0: = emitted
+11 s1 collect q0 = found 10 i0@10000000
+end journal full 11
+";
+
+/// The status and the log of a run of `hello.o` with a journal of so many places.
+fn sized_run<R: Threads + Wait + RandomSource + Abort + AllocGlobal, const JMAX: usize>(
+    rt: &R,
+    status: u8,
+    expected: &[u8],
+) -> Result<(), Fail>
+    requires { JMAX ≤ JOURNAL_LIMIT }
+{
     let alloc = rt.alloc();
     let words = words_of(alloc, &["orc", "run", "hello.o"])?;
     let mut source = SureSource::new(Bytes::copy_of(alloc, b"unread")?);
@@ -188,8 +210,8 @@ fn a_journal_of_five_is_full_at_the_take(rt: HostRuntime) -> Result<(), Fail> {
     let mut out = SureSink::new(alloc);
     let mut log = SureSink::new(alloc);
     let notes = two_notes(alloc)?;
-    let ended = orc_sized::<_, _, _, _, _, _, _, 5>(
-        &rt,
+    let ended = orc_sized::<_, _, _, _, _, _, _, JMAX>(
+        rt,
         alloc,
         words.as_slice(),
         &mut source,
@@ -199,10 +221,24 @@ fn a_journal_of_five_is_full_at_the_take(rt: HostRuntime) -> Result<(), Fail> {
         &OpenGate,
         notes,
     );
-    assert_eq!(rt; ended.status, 113);
-    assert_eq!(rt; out.bytes(), Some(b"".as_slice()));
-    assert_eq!(rt; log.bytes(), Some(FIVE_LOG));
+    assert_eq!(rt; ended.status, status);
+    assert_eq!(rt; log.bytes(), Some(expected));
     Ok(())
+}
+
+#[test]
+fn a_journal_of_five_is_full_at_the_take(rt: HostRuntime) -> Result<(), Fail> {
+    sized_run::<_, 5>(&rt, 113, FIVE_LOG)
+}
+
+#[test]
+fn a_journal_of_eleven_is_full_at_the_image(rt: HostRuntime) -> Result<(), Fail> {
+    sized_run::<_, 11>(&rt, 113, ELEVEN_LOG)
+}
+
+#[test]
+fn a_journal_of_twelve_has_a_whole_run(rt: HostRuntime) -> Result<(), Fail> {
+    sized_run::<_, 12>(&rt, 0, HELLO_LOG)
 }
 
 #[test]

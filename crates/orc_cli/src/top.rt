@@ -11,7 +11,7 @@ ghost use Rattle.orc_cli.specs.Outcomes.{refused, missing, starts, outcome_of, a
 ghost use Rattle.orc_cli.specs.ByNames.{IsStaticRun};
 ghost use Rattle.orc_cli.specs.Logged.{HasLog};
 ghost use Rattle.orc_cli.specs.Answered.{IsAnswered, held_by};
-ghost use Rattle.orc_cli.specs.Causes.{IsBefore, IsInSession, HasStopped, HasFault, IsTold, IsLongFile, OfFile, IsRefused, IsMissing, HasRunOn, IsEndOf, IsQuiet, IsCut, IsWanting};
+ghost use Rattle.orc_cli.specs.Causes.{IsBefore, IsInSession, HasStopped, HasFault, IsCutShort, IsTold, IsLongFile, OfFile, IsRefused, IsMissing, HasRunOn, IsEndOf, IsQuiet, IsCut, IsWanting};
 
 use crate::answer::{Answer, ObjectWhy};
 use crate::finding::find_answer;
@@ -67,6 +67,9 @@ pub fn orc<
 
     ensures status { result.status ≡ status_of result.answer }
 
+    // The journal has more places than a run has entries.
+    ensures never_full { (len : ℕ) → result.answer ≢ Answer.JournalFull len }
+
     // The words.
     ensures usage_only { (kind : UsageKind) → result.answer ≡ Answer.Usage kind
         → asked_by words.now ≡ Err kind }
@@ -92,19 +95,19 @@ pub fn orc<
     ensures too_long_told { (bytes : List ℕ) (run : Request)
         → IsTold (asked_by words.now) (F.holds files.old) bytes run
         → FILE_LIMIT < length bytes
-        → (result.answer ≡ Answer.TooLong 0) ⊎ HasFault JOURNAL_LIMIT result.answer }
+        → (result.answer ≡ Answer.TooLong 0) ⊎ HasFault result.answer }
     ensures refused_told { (bytes : List ℕ) (run : Request) (why : ObjectWhy)
         → IsTold (asked_by words.now) (F.holds files.old) bytes run
         → length bytes ≤ FILE_LIMIT → outcome_of bytes run.entry ≡ refused why
-        → (result.answer ≡ Answer.ObjectRefused 0 why) ⊎ HasFault JOURNAL_LIMIT result.answer }
+        → (result.answer ≡ Answer.ObjectRefused 0 why) ⊎ HasFault result.answer }
     ensures missing_told { (bytes : List ℕ) (run : Request)
         → IsTold (asked_by words.now) (F.holds files.old) bytes run
         → length bytes ≤ FILE_LIMIT → outcome_of bytes run.entry ≡ missing
-        → (result.answer ≡ Answer.Missing run.entry) ⊎ HasFault JOURNAL_LIMIT result.answer }
+        → (result.answer ≡ Answer.Missing run.entry) ⊎ HasFault result.answer }
     ensures ran_told { (bytes image : List ℕ) (run : Request) (pc : ℕ)
         → IsTold (asked_by words.now) (F.holds files.old) bytes run
         → length bytes ≤ FILE_LIMIT → outcome_of bytes run.entry ≡ starts image pc
-        → IsEndOf image pc run.fuel result.answer ⊎ HasFault JOURNAL_LIMIT result.answer }
+        → IsEndOf image pc run.fuel result.answer ⊎ HasFault result.answer }
 
     // Each answer on a file comes only where the bytes of the file say so.
     ensures too_long_only { (k : ℕ) → result.answer ≡ Answer.TooLong k
@@ -124,13 +127,13 @@ pub fn orc<
         → IsTold (asked_by words.now) (F.holds files.old) bytes run
         → length bytes ≤ FILE_LIMIT → IsStaticRun bytes run end output
         → ((result.answer ≡ answer_of end) × Appends (O.held out.old) (O.held out.new) output)
-        ⊎ HasFault JOURNAL_LIMIT result.answer }
+        ⊎ HasFault result.answer }
     ensures out_quiet { IsQuiet result.answer → Appends (O.held out.old) (O.held out.new) [] }
 
     // Log has gained the end line, and before it, where a session was begun, the text of its one
     // journal, which says the answer. After a failed write, or where memory ran out, each sink has
     // gained a first part of its text.
-    ensures log_line { IsBefore result.answer → result.answer ≢ Answer.NoMemory
+    ensures log_line { IsBefore result.answer
         → Appends (L.held log.old) (L.held log.new) (end_line_of result.answer) }
     ensures session { IsInSession result.answer
         → OfFile (asked_by words.now) (F.holds files.old)
@@ -177,6 +180,9 @@ pub fn orc_sized<
 
     ensures status { result.status ≡ status_of result.answer }
 
+    // A run has at most twelve entries.
+    ensures full_only { (len : ℕ) → result.answer ≡ Answer.JournalFull len → JMAX < 12 }
+
     // The words.
     ensures usage_only { (kind : UsageKind) → result.answer ≡ Answer.Usage kind
         → asked_by words.now ≡ Err kind }
@@ -202,19 +208,19 @@ pub fn orc_sized<
     ensures too_long_told { (bytes : List ℕ) (run : Request)
         → IsTold (asked_by words.now) (F.holds files.old) bytes run
         → FILE_LIMIT < length bytes
-        → (result.answer ≡ Answer.TooLong 0) ⊎ HasFault JMAX result.answer }
+        → (result.answer ≡ Answer.TooLong 0) ⊎ HasFault result.answer }
     ensures refused_told { (bytes : List ℕ) (run : Request) (why : ObjectWhy)
         → IsTold (asked_by words.now) (F.holds files.old) bytes run
         → length bytes ≤ FILE_LIMIT → outcome_of bytes run.entry ≡ refused why
-        → (result.answer ≡ Answer.ObjectRefused 0 why) ⊎ HasFault JMAX result.answer }
+        → (result.answer ≡ Answer.ObjectRefused 0 why) ⊎ HasFault result.answer }
     ensures missing_told { (bytes : List ℕ) (run : Request)
         → IsTold (asked_by words.now) (F.holds files.old) bytes run
         → length bytes ≤ FILE_LIMIT → outcome_of bytes run.entry ≡ missing
-        → (result.answer ≡ Answer.Missing run.entry) ⊎ HasFault JMAX result.answer }
+        → (result.answer ≡ Answer.Missing run.entry) ⊎ IsCutShort JMAX result.answer }
     ensures ran_told { (bytes image : List ℕ) (run : Request) (pc : ℕ)
         → IsTold (asked_by words.now) (F.holds files.old) bytes run
         → length bytes ≤ FILE_LIMIT → outcome_of bytes run.entry ≡ starts image pc
-        → IsEndOf image pc run.fuel result.answer ⊎ HasFault JMAX result.answer }
+        → IsEndOf image pc run.fuel result.answer ⊎ IsCutShort JMAX result.answer }
 
     // Each answer on a file comes only where the bytes of the file say so.
     ensures too_long_only { (k : ℕ) → result.answer ≡ Answer.TooLong k
@@ -234,13 +240,13 @@ pub fn orc_sized<
         → IsTold (asked_by words.now) (F.holds files.old) bytes run
         → length bytes ≤ FILE_LIMIT → IsStaticRun bytes run end output
         → ((result.answer ≡ answer_of end) × Appends (O.held out.old) (O.held out.new) output)
-        ⊎ HasFault JMAX result.answer }
+        ⊎ IsCutShort JMAX result.answer }
     ensures out_quiet { IsQuiet result.answer → Appends (O.held out.old) (O.held out.new) [] }
 
     // Log has gained the end line, and before it, where a session was begun, the text of its one
     // journal, which says the answer. After a failed write, or where memory ran out, each sink has
     // gained a first part of its text.
-    ensures log_line { IsBefore result.answer → result.answer ≢ Answer.NoMemory
+    ensures log_line { IsBefore result.answer
         → Appends (L.held log.old) (L.held log.new) (end_line_of result.answer) }
     ensures session { IsInSession result.answer
         → OfFile (asked_by words.now) (F.holds files.old)

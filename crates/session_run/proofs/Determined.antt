@@ -1,4 +1,4 @@
--- Each call of a run has one right reply, and a journal of 16 entries has its place.
+-- Each call of a run has one right reply, and a journal of 12 entries has its place.
 use Rattle.std.proofs.Common.{◌≡◌, ℕ, ◌≤◌, Bool, true, false, cond, ◌&&◌, List, [], ◌∷◌, length, slice_get, refl, sym, ap, subst, ◌∙◌, arith, Some, None, unwrap_or, is_some}
 use Rattle.std.specs.Prelude.{count_by}
 use Rattle.std.proofs.lemmas.Bool.{both_ways}

@@ -29,7 +29,7 @@ pub went_on : {U : Type 0} (means : U → Meaning) (jmax : ℕ) (before after : 
     plain_history means old ≡ before →
     before ++ said s.0 (plain_event means e) expected ∷ [] ≡ after →
     ((r : Reply) → result ≡ Ok r → Answers jmax before (state before) s.0 (plain_event means e) r → r ≡ expected) →
-    (is_full jmax (state before) s.0 (plain_event means e) ≡ true → jmax < 16) →
+    (is_full jmax (state before) s.0 (plain_event means e) ≡ true → jmax < 12) →
     Performs means jmax old new s e result → WentOn jmax before after (plain_history means new) expected result
 went_on means jmax before after s e expected old new (Ok r) at to one few p =
     let reply_is = one r refl (subst (λ h. Answers jmax h (state h) s.0 (plain_event means e) r) at p.answered) in

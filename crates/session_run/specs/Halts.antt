@@ -8,14 +8,14 @@ use Rattle.session_model.specs.State.{state}
 use Rattle.session_model.specs.declared.entry.Entry.{Entry}
 use Rattle.session_model.specs.declared.entry.Reply.{Reply}
 
--- After these entries of a whole run the journal has no place for the run's next one. So it has fewer than 16 places in
+-- After these entries of a whole run the journal has no place for the run's next one. So it has fewer than 12 places in
 -- all.
 pub record HasNoPlace (jmax : ℕ) (whole h : List (Entry Meaning)) (len : ℕ) : Type 0 where
   pub all : len ≡ length h
   pub next : Entry Meaning
   pub there : slice_get whole len ≡ Some next
   pub full : is_full jmax (state h) next.seat.0 next.event ≡ true
-  pub few : jmax < 16
+  pub few : jmax < 12
 
 -- the journal is full, or memory ran out
 abbrev pub IsHalted : ℕ → List (Entry Meaning) → List (Entry Meaning) → Stop → Type 0

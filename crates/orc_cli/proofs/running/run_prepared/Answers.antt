@@ -14,11 +14,11 @@ text_of-requires g c =
 pub returns-in-Ok-Found : goal.returns-in-Ok-Found
 returns-in-Ok-Found g c =
     found_answer g.row.JMAX c.args.prepared.now.names c.args.prepared.now.run (request c.args.words.now) c.lookup-looked.new.session c.in-Ok-Found.pc c.in-Ok-Found.image c.in_ok-end-in-Ok-Found.field-0.end c.answer_of.result c.in_ok-end-in-Ok-Found.field-0.output c.in_ok-journal.journal
-    (search rules) (search rules) c.answer_of.ensures
+    (search rules) c.journal.ensures.places (search rules) c.answer_of.ensures
     (c.in_ok-journal.ensures ∙ ap (λ h. text_of_history c.args.prepared.now.names (plain_history meaning_of h)) c.journal.ensures.entries)
 
 pub returns-in-Err-JournalFull : goal.returns-in-Err-JournalFull
 returns-in-Err-JournalFull g c =
     filled_answer g.row.JMAX c.args.prepared.now.names c.args.prepared.now.run (request c.args.words.now) c.lookup-looked.new.session c.in-Err-JournalFull.len _ c.new-in-Err-JournalFull.result c.in_ok-journal.journal
-    (search rules) (search rules) (search rules)
+    (search rules) c.journal.ensures.places (search rules) (search rules)
     (c.in_ok-journal.ensures ∙ ap (λ h. text_of_history c.args.prepared.now.names (plain_history meaning_of h)) c.journal.ensures.entries)

@@ -1,6 +1,9 @@
 -- Each clause follows from what was found and written.
-use Rattle.orc_cli.proofs.Clauses.{usage_only, usage_told, no_read_fault, file_fault, write_fault, too_long_told, refused_told, missing_told, ran_told, too_long_only, refused_only, missing_only, ran_only, by_names, out_quiet, log_line, session_log, write_cut, memory_wanting}
+use Rattle.orc_cli.proofs.Clauses.{full_only, usage_only, usage_told, no_read_fault, file_fault, write_fault, too_long_told, refused_told, missing_told, ran_told, too_long_only, refused_only, missing_only, ran_only, by_names, out_quiet, log_line, session_log, write_cut, memory_wanting}
 use Rattle.orc_cli.proofs.top.orc_sized.Goals as goal
+
+pub returns-clause-full_only : goal.returns-clause-full_only
+returns-clause-full_only g c = full_only _ _ _ _ _ _ _ _ _ _ c.perform.ensures.answered
 
 pub returns-clause-usage_only : goal.returns-clause-usage_only
 returns-clause-usage_only g c = usage_only _ _ _ _ _ _ _ _ _ _ c.perform.ensures.answered
