@@ -48,10 +48,5 @@ fn is_placed(place: SymPlace) -> bool
 pub(crate) fn name_cells(edges: &[Edge]) -> bool
     ensures { result ≡ list_any needs_cell edges.now }
 {
-    for edge in edges {
-        if edge.kind == GOT_HI20 {
-            return true;
-        }
-    }
-    false
+    edges.iter().any(|edge| edge.kind == GOT_HI20)
 }

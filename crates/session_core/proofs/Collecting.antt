@@ -6,7 +6,7 @@ use Rattle.std.proofs.lemmas.Option.{none-some}
 use Rattle.orc_ids.specs.declared.ids.QueryId.{QueryId}
 use Rattle.orc_ids.specs.declared.ids.SeatNo.{SeatNo}
 use Rattle.orc_ids.specs.declared.lookup.Stop.{Stop}
-use Rattle.orc_ids.specs.declared.lookup.Stop.TheVariants.{JournalFull}
+use Rattle.orc_ids.specs.declared.lookup.Stop.TheVariants.{JournalFull, NoMemory}
 use Rattle.session_model.specs.Meaning.{Meaning}
 use Rattle.session_model.specs.State.{state, plain_history}
 use Rattle.session_model.specs.declared.entry.Entry.{Entry}
@@ -47,6 +47,10 @@ pub collects_full : {U : Type 0} (means : U → Meaning) (jmax : ℕ) (t : Table
     (why ≡ JournalFull (length h)) × (lacks_places means jmax h 1 ≡ true) → Collects means jmax h h s q (Err why)
 collects_full means jmax t h s q r why one is settled full = subst (λ w. Collects means jmax h h s q (Err w)) (sym full.0)
     (stopped_full means jmax h s (event.Collect q) 1 (JournalFull (length h)) refl (refl, full.1), not_open means jmax t h q r one is settled)
+
+-- it found no memory
+pub collects_no_memory : {U : Type 0} (means : U → Meaning) (jmax : ℕ) (t : Tables U) (h : List (Entry U)) (s : SeatNo) (q : QueryId) (r : Reply) → AreOne means jmax t h → r ≡ collect_reply t.ends.items q → is_unsettled r ≡ false → Collects means jmax h h s q (Err NoMemory)
+collects_no_memory means jmax t h s q r one is settled = (refl, not_open means jmax t h q r one is settled)
 
 pub collects_entered : {U : Type 0} (means : U → Meaning) (jmax : ℕ) (old new : List (Entry U)) (s : SeatNo) (q : QueryId) (r : Reply) → is_unsettled r ≡ false → Enters means jmax old new (record { seat = s; event = event.Collect q; reply = r }) → Collects means jmax old new s q (Ok r)
 collects_entered means jmax old new s q reply.Open e x = absurd (both_ways true e refl)

@@ -23,7 +23,8 @@ use Rattle.session_model.specs.declared.rows.Row.{Row}
 use Rattle.session_model.specs.declared.rows.Verdict.{Verdict}
 use Rattle.session_model.specs.declared.rows.Verdict.TheVariants.{Kept, Replaces, Discarded, Clashes}
 use Rattle.session_model.specs.declared.rows.UnitPhase.TheVariants as stage
-use Rattle.session_core.specs.Defines.{is_defined, IsDefinable, clash_of, first_clash, AllStrong, offered_row, offered_rows}
+use Rattle.session_core.specs.Kinds.{is_defined}
+use Rattle.session_core.specs.Defines.{IsDefinable, clash_of, first_clash, AllStrong, offered_row, offered_rows}
 use Rattle.session_core.specs.Strong.{AreStrong}
 use Rattle.session_core.specs.Tied.{is_named}
 use Rattle.std.proofs.lemmas.Simd.{splat_is_map}

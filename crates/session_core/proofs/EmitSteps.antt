@@ -1,5 +1,5 @@
 -- A unit is emitted.
-use Rattle.std.proofs.Common.{◌≡◌, ℕ, ◌+◌, ◌<◌, ◌≤◌, ◌^◌, List, [], ◌∷◌, length, slice_get, map, Some, is_some, refl, ap, sym, subst, ◌∙◌, arith}
+use Rattle.std.proofs.Common.{◌≡◌, ℕ, ◌+◌, ◌<◌, ◌≤◌, ◌^◌, true, List, [], ◌∷◌, length, slice_get, map, is_some, refl, ap, sym, subst, ◌∙◌, arith}
 use Rattle.orc_ids.specs.declared.groups.Group.{Group}
 use Rattle.orc_ids.specs.declared.ids.UnitId.{UnitId}
 use Rattle.session_model.specs.Meaning.{Meaning}
@@ -11,14 +11,12 @@ use Rattle.session_model.specs.declared.entry.Reply.TheVariants as reply
 use Rattle.session_model.specs.declared.rows.InstRow.{InstRow}
 use Rattle.session_model.specs.declared.rows.Phase.{Phase}
 use Rattle.session_laws.proofs.Elements.{numbered_some, numbered_length, same_element}
-use Rattle.session_core.specs.declared.ready.Search.{Search}
 use Rattle.session_core.specs.declared.tables.Tables.{Tables}
 use Rattle.session_core.specs.Meant.{meant, unit_row}
 use Rattle.session_core.specs.Tied.{IsTied}
 use Rattle.session_core.specs.Moves.{IsReached, Moves}
 use Rattle.session_core.specs.Replies.{emit_reply, may_emit}
 use Rattle.session_core.specs.Rows.{emitted_row, ArePhased}
-use Rattle.session_core.specs.Search.{IsSparse}
 use Rattle.session_core.specs.Units.{done_unit, AreSameUnits}
 use Rattle.session_core.specs.Settles.{CanSettle, Settles}
 use Rattle.session_core.proofs.Calm.{WaitsNoMore, waits_changed}
@@ -42,12 +40,12 @@ done_waits m n u e = subst (WaitsNoMore m.units) (sym e) (waits_changed m.units 
 pub emit_held : (m : Plain) (s : ℕ) (u : UnitId) (groups : List Group) → emit_reply m s u groups ≡ reply.Emitted → 1 ≤ kept m
 emit_held m s u groups e = let x = emit_right m s u groups e in count_least (λ y. is_some y.seat) u.0 x.unit m.units x.there (held_seat s x.unit x.holds)
 
-pub emit_settles : {U : Type 0} (means : U → Meaning) (old mid : Tables U) (u : UnitId) (groups : List Group) (search : Search) → IsTied means old → IsSparse (length old.rows.items) search →
+pub emit_settles : {U : Type 0} (means : U → Meaning) (old mid : Tables U) (u : UnitId) (groups : List Group) → IsTied means old →
     mid.rows.items ≡ numbered (emitted_row u.0 groups) 0 old.rows.items → map (unit_row means) mid.units.items ≡ changed_at u.0 done_unit (map (unit_row means) old.units.items) →
-    mid.queries.items ≡ old.queries.items → mid.ends.items ≡ old.ends.items → mid.unsettled.items ≡ old.unsettled.items → mid.jobs ≡ old.jobs → CanSettle means mid (Some search)
-emit_settles means old mid u groups search t sparse rows units queries ends waiting jobs =
-    can_settle means old mid (Some search) t queries ends waiting jobs (done_waits (meant means old) (meant means mid) u.0 units)
-    (λ k q a b. subst (λ n. IsSparse n search) (sym (numbered_length (emitted_row u.0 groups) 0 old.rows.items) ∙ ap length (sym rows)) sparse)
+    mid.queries.items ≡ old.queries.items → mid.ends.items ≡ old.ends.items → mid.unsettled.items ≡ old.unsettled.items → mid.jobs ≡ old.jobs → mid.search ≡ old.search → CanSettle means mid true
+emit_settles means old mid u groups t rows units queries ends waiting jobs search =
+    can_settle means old mid true t queries ends waiting jobs (done_waits (meant means old) (meant means mid) u.0 units) (λ k q a b. tt)
+    (ap length rows ∙ numbered_length (emitted_row u.0 groups) 0 old.rows.items) search
 
 pub emit_moves : {U : Type 0} (means : U → Meaning) (old mid new : Tables U) (s : ℕ) (u : UnitId) (groups : List Group) → IsTied means old → IsReached (meant means old) → old.entries + 1 < 2 ^ 32 → emit_reply (meant means old) s u groups ≡ reply.Emitted →
     mid.rows.items ≡ numbered (emitted_row u.0 groups) 0 old.rows.items → map (unit_row means) mid.units.items ≡ changed_at u.0 done_unit (map (unit_row means) old.units.items) → AreSameUnits means old.units.items mid.units.items →
@@ -59,5 +57,5 @@ emit_moves means old mid new s u groups t reached numbered_now e rows units same
     let mid_is : meant means mid ≡ record m { entries = m.entries + 1; rows = numbered (emitted_row u.0 groups) 0 m.rows; units = changed_at u.0 done_unit m.units } = cc (rows, units, entries, dylibs, trackers, queries, jobs, taken) in
     settling_moves means (Emit u.0 groups) old mid new t reached mid_is
     (subst (ArePhased old.rows.items) (sym rows) (emitted_phased u.0 groups old.rows.items))
-    same (done_waits m (meant means mid) u.0 units) (ap (λ v. v.items) queries) (ap (λ v. v.items) ends) (ap (λ v. v.items) dylibs) (ap (λ v. v.items) trackers)
+    same (done_waits m (meant means mid) u.0 units) (ap (λ v. v.items) queries) (ap (λ v. v.items) ends) dylibs (ap (λ v. v.items) trackers)
     (omega (arith, held, t.held, kept_less m (meant means mid) u.0 done_unit x.unit units x.there (held_seat s x.unit x.holds) refl)) numbered_now settles

@@ -20,6 +20,7 @@ use Rattle.session_model.specs.declared.rows.UnitPhase.TheVariants as stage
 use Rattle.session_core.specs.Meant.{meant, unit_row, dylib_row}
 use Rattle.session_core.specs.Ends.{noted}
 use Rattle.session_core.specs.Defines.{IsDefinable, AllStrong, NamesPut, offered_row, offered_rows}
+use Rattle.session_core.specs.Search.{IsSparse}
 use Rattle.session_core.specs.Tied.{IsTied, IsSized, IsSpan, RowFits, present_row}
 use Rattle.session_core.specs.Moves.{IsReached, Moves}
 use Rattle.session_core.specs.declared.tables.TableUnit.{TableUnit}
@@ -82,7 +83,7 @@ module _ {U : Type 0} (means : U → Meaning) where
   -- the tables with one more unit
   pub record IsEntered (d t : ℕ) (v : Meaning) (x : TableUnit U) (old new : Tables U) : Type 0 where
     pub entries : new.entries ≡ old.entries + 1
-    pub dylibs : NamesPut d (length old.rows.items) v.offers old.dylibs.items new.dylibs.items
+    pub dylibs : NamesPut d (length old.rows.items) v.offers old.dylibs new.dylibs
     pub trackers : new.trackers.items ≡ old.trackers.items
     pub rows : new.rows.items ≡ old.rows.items ++ offered_rows d (length old.units.items) 0 v.offers
     pub units : new.units.items ≡ old.units.items ++ x ∷ []
@@ -95,6 +96,7 @@ module _ {U : Type 0} (means : U → Meaning) where
     pub made : unit_row means x ≡ made_unit t v
     pub first : x.first ≡ length old.rows.items
     pub count : x.count ≡ length v.offers
+    pub search : IsSparse (length new.rows.items) new.search
 
   units_count : (units : List (TableUnit U)) → length (map (unit_row means) units) ≡ length units
   units_count [] = refl
@@ -236,7 +238,7 @@ module _ {U : Type 0} (means : U → Meaning) where
   sized_entered : (d t : ℕ) (v : Meaning) (x : TableUnit U) (old new : Tables U) → IsTied means old → old.entries + 1 < 2 ^ 32 → IsDefinable (meant means old) d v.offers → IsEntered d t v x old new → IsSized new
   sized_entered d t v x old new tied numbered fits e = record {
     entries = rw e.entries numbered;
-    dylibs = subst (λ n. n ≤ 64) (sym (kept_length dylib_row old.dylibs.items new.dylibs.items e.dylibs.rows)) tied.sized.dylibs;
+    dylibs = subst (λ n. n ≤ 64) (sym (kept_length dylib_row old.dylibs new.dylibs e.dylibs.rows)) tied.sized.dylibs;
     trackers = rw e.trackers tied.sized.trackers;
     units = let n : length new.units.items ≡ length old.units.items + 1 = ap length e.units ∙ length-append old.units.items (x ∷ []) in
         let b : length (map (unit_row means) old.units.items) < 65536 = fits.units in
@@ -252,11 +254,11 @@ module _ {U : Type 0} (means : U → Meaning) where
   stands_entered : (d t : ℕ) (v : Meaning) (x : TableUnit U) (old new : Tables U) → IsEntered d t v x old new → StandsAs old.rows.items new.rows.items
   stands_entered d t v x old new e = subst (StandsAs old.rows.items) (sym e.rows) (appended_stand old.rows.items (offered_rows d (length old.units.items) 0 v.offers) (offered_unasked d (length old.units.items) v.offers))
 
-  dylib_below : (d t : ℕ) (v : Meaning) (x : TableUnit U) (old new : Tables U) → IsEntered d t v x old new → (i : ℕ) → i < length old.dylibs.items → i < length new.dylibs.items
-  dylib_below d t v x old new e i b = subst (λ n. i < n) (sym (kept_length dylib_row old.dylibs.items new.dylibs.items e.dylibs.rows)) b
+  dylib_below : (d t : ℕ) (v : Meaning) (x : TableUnit U) (old new : Tables U) → IsEntered d t v x old new → (i : ℕ) → i < length old.dylibs → i < length new.dylibs
+  dylib_below d t v x old new e i b = subst (λ n. i < n) (sym (kept_length dylib_row old.dylibs new.dylibs e.dylibs.rows)) b
 
-  dylibs_count : (old : Tables U) → length (map dylib_row old.dylibs.items) ≡ length old.dylibs.items
-  dylibs_count old = mapped_length dylib_row old.dylibs.items
+  dylibs_count : (old : Tables U) → length (map dylib_row old.dylibs) ≡ length old.dylibs
+  dylibs_count old = mapped_length dylib_row old.dylibs
 
   waits_entered : (d t : ℕ) (v : Meaning) (x : TableUnit U) (old new : Tables U) → IsTied means old → IsEntered d t v x old new → WaitsOpen (meant means new) new.ends.items
   waits_entered d t v x old new tied e u y k at waiting query = split (pushed_cases (map (unit_row means) old.units.items) (made_unit t v) u y (ap (λ (m : Plain). slice_get m.units u) (sym (entered_meant d t v x old new e)) ∙ at))
@@ -272,10 +274,10 @@ module _ {U : Type 0} (means : U → Meaning) where
     spans = spans_entered d t v x old new tied e;
     owned = owned_entered d t v x old new tied e;
     rows = rows_entered d t v x old new tied e;
-    homes = all_rows (λ r. r.dylib.0 < length new.dylibs.items) d t v x old new e (λ i r h. dylib_below d t v x old new e r.dylib.0 (tied.homes i r h))
+    homes = all_rows (λ r. r.dylib.0 < length new.dylibs) d t v x old new e (λ i r h. dylib_below d t v x old new e r.dylib.0 (tied.homes i r h))
         (λ k o h. dylib_below d t v x old new e d (subst (λ n. d < n) (dylibs_count old) fits.dylib));
     strong = all_rows (λ r. is_strong r.flags ≡ true) d t v x old new e tied.strong (λ k o h. (strong k o h).0);
-    named = λ f y at name. named_entered old.rows.items d (length old.units.items) v old.dylibs.items new.dylibs.items lawful fits.free e.dylibs tied.named f y at name ∙ ap (λ rows. present_row rows f name) (sym e.rows);
+    named = λ f y at name. named_entered old.rows.items d (length old.units.items) v old.dylibs new.dylibs lawful fits.free e.dylibs tied.named f y at name ∙ ap (λ rows. present_row rows f name) (sym e.rows);
     held = held_entered d t v x old new tied e;
     ends = rw (e.ends, e.queries) tied.ends;
     unsettled = rw (e.ends, e.unsettled) tied.unsettled;
@@ -283,6 +285,7 @@ module _ {U : Type 0} (means : U → Meaning) where
     rooms = rw (e.unsettled, e.queries) tied.rooms;
     finishes = rw (e.unsettled, e.jobs) tied.finishes;
     waits = waits_entered d t v x old new tied e;
+    search = e.search;
   }
 
   pub entered_moves : (d t : ℕ) (v : Meaning) (x : TableUnit U) (old new : Tables U) → IsTied means old → IsReached (meant means old) → old.entries + 1 < 2 ^ 32 → IsLawful v → AllStrong v.offers → IsDefinable (meant means old) d v.offers → IsEntered d t v x old new → Moves means (Define d t v) old new

@@ -32,13 +32,13 @@ module _ {U : Type 0} (means : U → Meaning) (jmax : ℕ) where
   collects_grow : (old new : List (Entry U)) (s : SeatNo) (q : QueryId) (r : Result Reply Stop) → Collects means jmax old new s q r → Grows old new
   collects_grow old new s q (Ok reply.Open) p = same old new p.0
   collects_grow old new s q (Err (JournalFull len)) p = same old new p.0.0
-  collects_grow old new s q (Err NoMemory) p = same old new p
+  collects_grow old new s q (Err NoMemory) p = same old new p.0
   collects_grow old new s q (Ok r) p = (record { seat = s; event = event.Collect q; reply = r } ∷ [], p.grown)
 
   takes_grow : (old new : List (Entry U)) (s : SeatNo) (r : Result Reply Stop) → Takes means jmax old new s r → Grows old new
   takes_grow old new s (Ok (reply.Idle held)) p = same old new p.0
   takes_grow old new s (Err (JournalFull len)) p = same old new p.0.0
-  takes_grow old new s (Err NoMemory) p = same old new p
+  takes_grow old new s (Err NoMemory) p = same old new p.0
   takes_grow old new s (Ok r) p = (record { seat = s; event = event.Take; reply = r } ∷ [], p.grown)
 
   makes_grow : (old new : List (Entry U)) (s : SeatNo) (c : Command U) (r : Result Reply Stop) → Makes means jmax old new s c r → Grows old new

@@ -21,6 +21,8 @@ use Rattle.session_core.specs.Ends.{open_numbers}
 use Rattle.session_core.specs.Defines.{SameNames}
 use Rattle.session_core.specs.Tied.{IsTied, IsSized, IsSpan, RowFits, is_named, present_row}
 use Rattle.session_core.specs.Moves.{IsSame}
+use Rattle.session_core.specs.Search.{IsSparse}
+use Rattle.session_core.specs.declared.ready.Search.{Search}
 use Rattle.session_core.specs.declared.tables.OpenQuery.{OpenQuery}
 use Rattle.session_core.specs.declared.tables.TableUnit.{TableUnit}
 use Rattle.session_core.specs.declared.tables.Tables.{Tables}
@@ -79,7 +81,7 @@ module _ {U : Type 0} (means : U → Meaning) where
       record { unit = p.0; there = p.1; offer = subst (λ (z : Meaning × List Bool × ℕ × ℕ). r.offer < length z.0.offers) p.2 f.offer }
 
   pub record IsKept (old new : Tables U) : Type 0 where
-    pub dylibs : SameNames old.dylibs.items new.dylibs.items
+    pub dylibs : SameNames old.dylibs new.dylibs
     pub rows : KeepsRows old.rows.items new.rows.items
     pub units : KeepsUnits means old.units.items new.units.items
 
@@ -93,6 +95,7 @@ module _ {U : Type 0} (means : U → Meaning) where
     pub rooms : (j : ℕ) (o : OpenQuery) (q : Query) → slice_get t.unsettled.items j ≡ Some o → slice_get t.queries.items o.query ≡ Some q → length q.matched ≤ vec_capacity o.room
     pub finishes : deque_len t.jobs + length t.unsettled.items ≤ deque_capacity t.jobs
     pub waits : WaitsOpen (meant means t) t.ends.items
+    pub search : IsSparse (length t.rows.items) t.search
 
   pub tied_kept : (old new : Tables U) → IsTied means old → IsKept old new → IsBooked new → IsTied means new
   tied_kept old new t k b = record {
@@ -112,8 +115,8 @@ module _ {U : Type 0} (means : U → Meaning) where
           offer = subst (λ (z : InstRow). z.offer < length (means f.unit.unit).offers) (sym p.2) f.offer;
         };
     homes = λ i r e. let p = kept_at still old.rows.items new.rows.items k.rows i r e in
-        subst (λ n. r.dylib.0 < n) (sym (kept_length dylib_row old.dylibs.items new.dylibs.items k.dylibs.rows))
-        (subst (λ (z : InstRow). z.dylib.0 < length old.dylibs.items) (sym p.2) (t.homes i p.0 p.1));
+        subst (λ n. r.dylib.0 < n) (sym (kept_length dylib_row old.dylibs new.dylibs k.dylibs.rows))
+        (subst (λ (z : InstRow). z.dylib.0 < length old.dylibs) (sym p.2) (t.homes i p.0 p.1));
     strong = λ i r e. let p = kept_at still old.rows.items new.rows.items k.rows i r e in
         ap (λ (z : InstRow). is_strong z.flags) p.2 ∙ t.strong i p.0 p.1;
     named = λ d x e name. let p = k.dylibs.each d x e in
@@ -125,12 +128,40 @@ module _ {U : Type 0} (means : U → Meaning) where
     rooms = b.rooms;
     finishes = b.finishes;
     waits = b.waits;
+    search = b.search;
   }
+
+  -- A search changes nothing but its memory.
+  searched_tied : (t : Tables U) (s : Search) → IsTied means t → IsSparse (length t.rows.items) s → IsTied means (record t { search = s })
+  searched_tied t s k sparse = record {
+    sized = record { entries = k.sized.entries; dylibs = k.sized.dylibs; trackers = k.sized.trackers; units = k.sized.units; rows = k.sized.rows; queries = k.sized.queries };
+    lives = k.lives;
+    spans = k.spans;
+    owned = k.owned;
+    rows = k.rows;
+    homes = k.homes;
+    strong = k.strong;
+    named = k.named;
+    held = k.held;
+    ends = k.ends;
+    unsettled = k.unsettled;
+    unmet = k.unmet;
+    rooms = k.rooms;
+    finishes = k.finishes;
+    waits = k.waits;
+    search = sparse;
+  }
+
+  pub searched_same : (t : Tables U) (s : Search) → IsTied means t → IsSparse (length t.rows.items) s → IsSame means t (record t { search = s })
+  searched_same t s k sparse = record { meant = refl; ends = refl; tied = searched_tied t s k sparse }
+
+  pub same_again : (old mid new : Tables U) → IsSame means old mid → IsSame means mid new → IsSame means old new
+  same_again old mid new a b = record { meant = b.meant ∙ a.meant; ends = b.ends ∙ a.ends; tied = b.tied }
 
   -- Reserving memory changes nothing else.
   pub record IsReserved (old new : Tables U) : Type 0 where
     pub entries : new.entries ≡ old.entries
-    pub dylibs : SameNames old.dylibs.items new.dylibs.items
+    pub dylibs : SameNames old.dylibs new.dylibs
     pub trackers : new.trackers.items ≡ old.trackers.items
     pub rows : new.rows.items ≡ old.rows.items
     pub units : new.units.items ≡ old.units.items
@@ -142,6 +173,7 @@ module _ {U : Type 0} (means : U → Meaning) where
     pub room : deque_capacity old.jobs ≤ deque_capacity new.jobs
     pub taken : new.taken.items ≡ old.taken.items
     pub held : new.held ≡ old.held
+    pub search : (n : ℕ) → IsSparse n old.search → IsSparse n new.search
 
   pub reserved_meant : (old new : Tables U) → IsReserved old new → meant means new ≡ meant means old
   reserved_meant old new r = rw (r.entries, r.dylibs.rows, r.trackers, r.rows, r.units, r.queries, r.jobs, r.taken) refl
@@ -150,7 +182,7 @@ module _ {U : Type 0} (means : U → Meaning) where
   booked old new t r = record {
     sized = record {
       entries = rw r.entries t.sized.entries;
-      dylibs = subst (λ n. n ≤ 64) (sym (kept_length dylib_row old.dylibs.items new.dylibs.items r.dylibs.rows)) t.sized.dylibs;
+      dylibs = subst (λ n. n ≤ 64) (sym (kept_length dylib_row old.dylibs new.dylibs r.dylibs.rows)) t.sized.dylibs;
       trackers = rw r.trackers t.sized.trackers;
       units = rw r.units t.sized.units;
       rows = rw r.rows t.sized.rows;
@@ -163,6 +195,7 @@ module _ {U : Type 0} (means : U → Meaning) where
     rooms = rw (r.unsettled, r.queries) t.rooms;
     finishes = room_kept (deque_len old.jobs) (deque_len new.jobs) (length old.unsettled.items) (length new.unsettled.items) (deque_capacity old.jobs) (deque_capacity new.jobs) r.listed (ap length r.unsettled) t.finishes r.room;
     waits = subst (λ (m : Plain). WaitsOpen m new.ends.items) (sym (reserved_meant old new r)) (subst (λ l. WaitsOpen (meant means old) l) (sym r.ends) t.waits);
+    search = subst (λ xs. IsSparse (length xs) new.search) (sym r.rows) (r.search (length old.rows.items) t.search);
   }
 
   pub reserved_same : (old new : Tables U) → IsTied means old → IsReserved old new → IsSame means old new

@@ -19,6 +19,7 @@ use Rattle.session_core.specs.Ends.{open_numbers}
 use Rattle.session_core.specs.declared.tables.OpenQuery.{OpenQuery}
 use Rattle.session_model.specs.Query.{is_met}
 use Rattle.session_core.specs.Moves.{IsSame}
+use Rattle.session_core.specs.Search.{IsSparse}
 use Rattle.session_core.specs.Units.{IsSameUnit, AreSameUnits}
 use Rattle.session_laws.proofs.Elements.{mapped_length}
 use Rattle.session_core.proofs.Calm.{WaitsNoMore, waits_same}
@@ -97,11 +98,11 @@ rows_fit means old new r same f =
 
 -- with the same rows, names, queries and ends, the tables stay tied
 pub tied_kept : {U : Type 0} (means : U → Meaning) (old new : Tables U) → IsTied means old → AreSameUnits means old.units.items new.units.items →
-    new.rows.items ≡ old.rows.items → new.dylibs.items ≡ old.dylibs.items → new.queries.items ≡ old.queries.items → new.ends.items ≡ old.ends.items → new.unsettled.items ≡ old.unsettled.items →
+    new.rows.items ≡ old.rows.items → new.dylibs ≡ old.dylibs → new.queries.items ≡ old.queries.items → new.ends.items ≡ old.ends.items → new.unsettled.items ≡ old.unsettled.items → new.search ≡ old.search →
     old.entries ≤ new.entries → new.entries < 2 ^ 32 → length new.trackers.items ≤ 65536 →
     new.held ≡ kept (meant means new) → WaitsNoMore (meant means old).units (meant means new).units →
     deque_len new.jobs + length new.unsettled.items ≤ deque_capacity new.jobs → IsTied means new
-tied_kept means old new t same rows dylibs queries ends waiting more below trackers held waits room = record {
+tied_kept means old new t same rows dylibs queries ends waiting search more below trackers held waits room = record {
   sized = record {
     entries = below;
     dylibs = subst (λ xs. length xs ≤ 64) (sym dylibs) t.sized.dylibs;
@@ -126,6 +127,7 @@ tied_kept means old new t same rows dylibs queries ends waiting more below track
   rooms = λ j o q a b. t.rooms j o q (ap (λ xs. slice_get xs j) (sym waiting) ∙ a) (ap (λ xs. slice_get xs o.query) (sym queries) ∙ b);
   finishes = room;
   waits = λ u y k e p q. let x = waits u y e p in ap (λ xs. slice_get xs k) ends ∙ t.waits u x.0 k x.1 x.2 (x.3 ∙ q);
+  search = subst (IsSparse (length new.rows.items)) (sym search) (subst (λ xs. IsSparse (length xs) old.search) (sym rows) t.search);
 }
   where
     before : (u : ℕ) (y : TableUnit _) → slice_get new.units.items u ≡ Some y → (x : TableUnit _) × (slice_get old.units.items u ≡ Some x)
@@ -167,14 +169,14 @@ on_err P (Err e) p = p
 
 -- with the same vectors but for their memory, the tables stand for the same session
 pub same_kept : {U : Type 0} (means : U → Meaning) (old new : Tables U) → IsTied means old →
-    new.entries ≡ old.entries → new.dylibs.items ≡ old.dylibs.items → new.trackers.items ≡ old.trackers.items → new.rows.items ≡ old.rows.items → new.units.items ≡ old.units.items →
-    new.queries.items ≡ old.queries.items → new.ends.items ≡ old.ends.items → new.unsettled.items ≡ old.unsettled.items → new.jobs.items ≡ old.jobs.items → new.taken.items ≡ old.taken.items → new.held ≡ old.held →
+    new.entries ≡ old.entries → new.dylibs ≡ old.dylibs → new.trackers.items ≡ old.trackers.items → new.rows.items ≡ old.rows.items → new.units.items ≡ old.units.items →
+    new.queries.items ≡ old.queries.items → new.ends.items ≡ old.ends.items → new.unsettled.items ≡ old.unsettled.items → new.jobs.items ≡ old.jobs.items → new.taken.items ≡ old.taken.items → new.held ≡ old.held → new.search ≡ old.search →
     deque_len new.jobs + length new.unsettled.items ≤ deque_capacity new.jobs → IsSame means old new
-same_kept means old new t entries dylibs trackers rows units queries ends waiting jobs taken held room =
+same_kept means old new t entries dylibs trackers rows units queries ends waiting jobs taken held search room =
     let same : meant means new ≡ meant means old = cc (entries, dylibs, trackers, rows, units, queries, jobs, taken) in
     record {
       meant = same;
       ends = ends;
-      tied = tied_kept means old new t (subst (AreSameUnits means old.units.items) (sym units) (same_units means old.units.items)) rows dylibs queries ends waiting (omega (arith, entries)) (subst (λ n. n < 2 ^ 32) (sym entries) t.sized.entries)
+      tied = tied_kept means old new t (subst (AreSameUnits means old.units.items) (sym units) (same_units means old.units.items)) rows dylibs queries ends waiting search (omega (arith, entries)) (subst (λ n. n < 2 ^ 32) (sym entries) t.sized.entries)
           (subst (λ xs. length xs ≤ 65536) (sym trackers) t.sized.trackers) (held ∙ t.held ∙ sym (ap kept same)) (subst (λ (n : Plain). WaitsNoMore (meant means old).units n.units) (sym same) (waits_same (meant means old).units)) room;
     }

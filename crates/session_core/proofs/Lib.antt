@@ -21,6 +21,7 @@ pub mod Quiet
 pub mod DefineLemmas
 pub mod SetLemmas
 pub mod NamesLemmas
+pub mod Numbers
 pub mod Kept
 pub mod Waits
 pub mod Present
@@ -48,3 +49,4 @@ pub mod TakenJobs
 pub mod HeldCalls
 pub mod Growing
 pub mod EmittedUnits
+pub mod TestUnits

@@ -15,7 +15,8 @@ use Rattle.session_model.specs.declared.entry.Reply.TheVariants.{Defunct, WrongP
 use Rattle.session_core.specs.Links.{link_unit_reply, IsHeldUnit}
 use Rattle.session_core.specs.Meant.{meant, unit_row}
 use Rattle.session_core.specs.Replies.{may_link, reply_to, link_reply}
-use Rattle.session_core.specs.Seeking.{is_lodged, link_answer}
+use Rattle.session_core.specs.Kinds.{is_lodged}
+use Rattle.session_core.specs.Seeking.{link_answer}
 use Rattle.session_core.specs.declared.tables.TableUnit.{TableUnit}
 use Rattle.session_core.specs.declared.tables.Tables.{Tables}
 use Rattle.session_core.proofs.SetLemmas.{read_is}

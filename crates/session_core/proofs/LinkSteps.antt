@@ -25,7 +25,8 @@ use Rattle.session_core.specs.Links.{linked_units, finish_jobs}
 use Rattle.session_core.specs.Lodged.{fresh_end, still_open, new_query, waiting_now, IsLodged}
 use Rattle.session_core.specs.Meant.{meant, unit_row}
 use Rattle.session_core.specs.Moves.{IsReached, Moves}
-use Rattle.session_core.specs.Seeking.{is_lodged, link_answer}
+use Rattle.session_core.specs.Kinds.{is_lodged}
+use Rattle.session_core.specs.Seeking.{link_answer}
 use Rattle.session_core.specs.Tied.{IsTied}
 use Rattle.session_core.specs.Units.{AreSameUnits, linked_now}
 use Rattle.session_core.specs.declared.tables.OpenQuery.{OpenQuery}
@@ -143,6 +144,7 @@ module _ {U : Type 0} (means : U → Meaning) where
     pub listed : deque_len new.jobs ≡ deque_len mid.jobs + cond met 1 0
     pub capacity : deque_capacity new.jobs ≡ deque_capacity mid.jobs
     pub held : new.held + 1 ≡ mid.held
+    pub search : new.search ≡ mid.search
 
   awaited_meant : (u : ℕ) (found : List (Option InstId)) (end : Option Ending) (b : Bool) (old mid new : Tables U) → IsLodged means found level.Resolved (Some u) None end old mid → IsAwaited u (length old.queries.items) b mid new →
       meant means new ≡ record (if b then finish_listed u (awaiting found u (meant means old)) else awaiting found u (meant means old)) { entries = old.entries + 1 }
@@ -169,6 +171,7 @@ module _ {U : Type 0} (means : U → Meaning) where
     room = e.room;
     finishes = fits;
     held = held;
+    search = a.search ∙ e.search;
     unlost = unlost;
     waits = λ v y k at w q. waits_awaited b refl v y k (ap (λ us. slice_get us v) (sym (a.units ∙ ap (λ (m : Plain). linked_units b u (changed_at u (waiting_now (length old.queries.items)) m.units)) (sym e.claims))) ∙ at) w q;
   }

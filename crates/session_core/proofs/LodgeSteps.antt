@@ -9,21 +9,26 @@ use Rattle.std.specs.Vec.{vec_capacity}
 use Rattle.std.specs.VecDeque.{deque_len, deque_capacity}
 use Rattle.std.proofs.lemmas.Option.{none-some, same_Some, slice_get_within}
 use Rattle.orc_ids.specs.declared.ids.InstId.{InstId}
+use Rattle.orc_ids.specs.declared.ids.SeatNo.{SeatNo}
 use Rattle.orc_ids.specs.declared.lookup.Level.{Level}
 use Rattle.orc_ids.specs.declared.lookup.OrderItem.{OrderItem}
 use Rattle.orc_ids.specs.declared.lookup.Wanted.{Wanted}
 use Rattle.session_model.specs.Meaning.{Meaning}
 use Rattle.session_model.specs.Plain.{Plain, kept}
 use Rattle.session_model.specs.Query.{is_met, first_lost}
-use Rattle.session_model.specs.Change.{Change, Ask, settled, all_claimed, matched, waits_for}
-use Rattle.session_model.specs.Answer.{answer_ask}
+use Rattle.session_model.specs.Change.{Change, Ask, change_of, settled, all_claimed, matched, waits_for}
+use Rattle.session_model.specs.Answer.{answer_ask, Answers}
+use Rattle.session_model.specs.declared.entry.Event.{Event}
+use Rattle.session_model.specs.declared.entry.Reply.{Reply}
 use Rattle.session_model.specs.declared.rows.Ending.{Ending}
 use Rattle.session_model.specs.declared.rows.Query.{Query}
-use Rattle.session_core.specs.Ends.{noted, open_numbers}
+use Rattle.session_core.specs.Ends.{noted, open_numbers, AreEnds}
 use Rattle.session_core.specs.Lodged.{fresh_end, end_at, still_open, new_query, IsLodged}
 use Rattle.session_core.specs.Meant.{meant}
 use Rattle.session_core.specs.Moves.{IsReached, IsSame, Moves, moved}
-use Rattle.session_core.specs.Seeking.{is_lodged}
+use Rattle.session_core.specs.Search.{IsSparse}
+use Rattle.session_core.specs.Kinds.{is_lodged}
+use Rattle.session_core.specs.Steps.{Steps}
 use Rattle.session_core.specs.Tied.{IsTied}
 use Rattle.session_core.specs.Units.{IsSameUnit, AreSameUnits}
 use Rattle.session_core.specs.declared.tables.OpenQuery.{OpenQuery}
@@ -79,6 +84,7 @@ module _ {U : Type 0} (means : U → Meaning) where
     pub room : length found ≤ vec_capacity waiting.room
     pub finishes : deque_len new.jobs + length new.unsettled.items ≤ deque_capacity new.jobs
     pub held : new.held ≡ kept (meant means new)
+    pub search : new.search ≡ old.search
     -- and nothing that it matched is lost
     pub unlost : is_some (first_lost old.rows.items found) ≡ false
     -- a unit that waits did so before, or waits for the new query
@@ -112,7 +118,7 @@ module _ {U : Type 0} (means : U → Meaning) where
   pub noted_tied : (found : List (Option InstId)) (lev : Level) (unit tag : Option ℕ) (old new : Tables U) → IsTied means old → old.entries + 1 < 2 ^ 32 → IsNoted found lev unit tag old new → IsTied means new
   noted_tied found lev unit tag old new tied numbered e = tied_kept means old new tied
       (record {
-        dylibs = subst (λ ds. SameNames old.dylibs.items ds) (sym (ap (λ v. v.items) e.dylibs)) (same_names old.dylibs.items);
+        dylibs = subst (λ ds. SameNames old.dylibs ds) (sym e.dylibs) (same_names old.dylibs);
         rows = ap (map still) e.rows ∙ all_still found (meant means old);
         units = e.units;
       })
@@ -137,6 +143,7 @@ module _ {U : Type 0} (means : U → Meaning) where
             (ap (λ l. slice_get l j) (sym e.unsettled) ∙ at) (ap (λ l. slice_get l o.query) (sym e.queries) ∙ there);
         finishes = e.finishes;
         waits = λ u y k at w q. waits_push found lev unit tag old new tied e u k (e.waits u y k at w q);
+        search = subst (IsSparse (length new.rows.items)) (sym e.search) (subst (λ n. IsSparse n old.search) (sym (kept_length still old.rows.items new.rows.items (ap (map still) e.rows ∙ all_still found (meant means old)))) tied.search);
       })
 
   pub noted_ends : (found : List (Option InstId)) (lev : Level) (unit tag : Option ℕ) (old new : Tables U) → IsTied means old → IsNoted found lev unit tag old new → new.ends.items ≡ noted (meant means new) new.queries.items old.ends.items
@@ -169,6 +176,7 @@ module _ {U : Type 0} (means : U → Meaning) where
         let c : length (still_open (fresh_end old.rows.items lev found) e.waiting) ≤ 1 = open_count (fresh_end old.rows.items lev found) e.waiting in
         let j : deque_len new.jobs + (length old.unsettled.items + 1) ≤ deque_capacity new.jobs = e.jobs in omega (arith, n, c, j);
     held = e.held ∙ (tied.held ∙ (sym (all_held found (meant means old)) ∙ ap kept e.claims));
+    search = e.search;
     unlost = unlost;
     waits = λ u y k at w q. inl (waited_before found (meant means old) u y k (ap (λ (m : Plain). slice_get m.units u) e.claims ∙ at) w q);
   }
@@ -201,6 +209,13 @@ module _ {U : Type 0} (means : U → Meaning) where
     leads = v.leads ∙ ap (λ (m : Plain). moved c m) s.meant;
     ends = v.ends ∙ ap (λ l. noted (meant means new) new.queries.items l) s.ends;
     tied = v.tied;
+  }
+
+  -- nor does it change a step
+  pub steps_from_same : (s : SeatNo) (e : Event Meaning) (r : Reply) (old mid new : Tables U) → IsSame means old mid → Steps means s e r mid new → Steps means s e r old new
+  steps_from_same s e r old mid new same steps = record {
+    answered = λ jmax past leads ends. subst (λ m. Answers jmax past m s.0 e r) same.meant (steps.answered jmax past (leads ∙ sym same.meant) (subst (AreEnds past) (sym same.ends) ends));
+    moves = moves_from_same (change_of s.0 e r) old mid new same steps.moves;
   }
 
   same_entries : (old mid : Tables U) → IsSame means old mid → mid.entries ≡ old.entries

@@ -39,6 +39,7 @@ use Rattle.session_core.specs.Units.{let_go_of}
 use Rattle.session_laws.proofs.Rising.{start_listed, finish_linked}
 use Rattle.session_core.specs.declared.tables.Tables.{Tables}
 use Rattle.session_core.specs.Meant.{meant, unit_row}
+use Rattle.session_core.specs.Search.{IsSparse}
 use Rattle.session_core.specs.Tied.{IsTied, IsSpan, RowFits, is_named, present_row}
 use Rattle.session_core.specs.Moves.{IsReached, Moves}
 use Rattle.session_core.specs.Units.{AreSameUnits}
@@ -49,17 +50,17 @@ pub quiet_step : {U : Type 0} (means : U → Meaning) (c : Change) (old new : Ta
     meant means new ≡ record (changed c (meant means old)) { entries = old.entries + 1 } →
     (changed c (meant means old)).rows ≡ old.rows.items → (changed c (meant means old)).queries ≡ old.queries.items → WaitsNoMore (meant means old).units (changed c (meant means old)).units →
     AreSameUnits means old.units.items new.units.items →
-    new.dylibs.items ≡ old.dylibs.items → new.ends.items ≡ old.ends.items → new.unsettled.items ≡ old.unsettled.items →
+    new.dylibs ≡ old.dylibs → new.ends.items ≡ old.ends.items → new.unsettled.items ≡ old.unsettled.items → new.search ≡ old.search →
     old.entries + 1 < 2 ^ 32 → length new.trackers.items ≤ 65536 → new.held ≡ kept (changed c (meant means old)) →
     deque_len new.jobs + length new.unsettled.items ≤ deque_capacity new.jobs → Moves means c old new
-quiet_step means c old new tied reached leads rows queries waits same dylibs ends unsettled numbered trackers held room =
+quiet_step means c old new tied reached leads rows queries waits same dylibs ends unsettled search numbered trackers held room =
     let now_rows : new.rows.items ≡ old.rows.items = ap (λ (m : Plain). m.rows) leads ∙ rows in
     let now_queries : new.queries.items ≡ old.queries.items = ap (λ (m : Plain). m.queries) leads ∙ queries in
     let entries : new.entries ≡ old.entries + 1 = ap (λ (m : Plain). m.entries) leads in
     quiet_moves means c old new tied
     (calm_kept (meant means old) (changed c (meant means old)) rows queries waits (reached_calm (meant means old) reached))
     leads now_rows now_queries ends
-    (tied_kept means old new tied same now_rows dylibs now_queries ends unsettled (omega (arith, entries)) (omega (arith, entries, numbered)) trackers (held ∙ sym (ap kept leads)) (subst (λ (n : Plain). WaitsNoMore (meant means old).units n.units) (sym leads) waits) room)
+    (tied_kept means old new tied same now_rows dylibs now_queries ends unsettled search (omega (arith, entries)) (omega (arith, entries, numbered)) trackers (held ∙ sym (ap kept leads)) (subst (λ (n : Plain). WaitsNoMore (meant means old).units n.units) (sym leads) waits) room)
 
 -- a unit whose job Start is the oldest isn't held
 pub start_unheld : (m : Plain) (u : UnitId) → IsReached m → (js : List Job) × (m.jobs ≡ job.Start u ∷ js) → (x : UnitRow) × (slice_get m.units u.0 ≡ Some x) × (is_some x.seat ≡ false)
@@ -127,21 +128,21 @@ none_named d name k (r ∷ rs) h =
     let other : is_named d name r ≡ false = and_left (r.present && r.dylib.0 == d) (r.name.0 == name) (and_right r.present (r.dylib.0 == d) (ne_eqb r.dylib.0 d (λ e. absurd (omega (arith, e, h 0 r refl))))) in
     ap (λ b. if b then Some (record { inst = record { 0 = k }; flags = r.flags }) else first_row (is_named d name) (k + 1) rs) other ∙ none_named d name (k + 1) rs (λ i. h (suc i))
 
-pub new_named : {U : Type 0} (means : U → Meaning) (t : Tables U) (d : ℕ) (x y : TableDylib) → IsTied means t → slice_get (t.dylibs.items ++ x ∷ []) d ≡ Some y → ((n : ℕ) → get nat_eq x.present n ≡ None) → (name : ℕ) → get nat_eq y.present name ≡ present_row t.rows.items d name
-new_named means t d x y tied e none name = split (pushed_cases t.dylibs.items x d y e)
+pub new_named : {U : Type 0} (means : U → Meaning) (t : Tables U) (d : ℕ) (x y : TableDylib) → IsTied means t → slice_get (t.dylibs ++ x ∷ []) d ≡ Some y → ((n : ℕ) → get nat_eq x.present n ≡ None) → (name : ℕ) → get nat_eq y.present name ≡ present_row t.rows.items d name
+new_named means t d x y tied e none name = split (pushed_cases t.dylibs x d y e)
   where
-    split : (slice_get t.dylibs.items d ≡ Some y) ⊎ ((d ≡ length t.dylibs.items) × (y ≡ x)) → get nat_eq y.present name ≡ present_row t.rows.items d name
+    split : (slice_get t.dylibs d ≡ Some y) ⊎ ((d ≡ length t.dylibs) × (y ≡ x)) → get nat_eq y.present name ≡ present_row t.rows.items d name
     split (inl a) = tied.named d y a name
     split (inr b) = ap (λ (z : TableDylib). get nat_eq z.present name) b.1 ∙ none name ∙ sym (ap (option_map (λ (r : Row). r.inst.0)) (none_named d name 0 t.rows.items (λ i r f. subst (λ n. r.dylib.0 < n) (sym b.0) (tied.homes i r f))))
 
 -- with one more dylib without names, the tables stay tied
-pub tied_dylib : {U : Type 0} (means : U → Meaning) (old new : Tables U) (x : TableDylib) → IsTied means old → ((n : ℕ) → get nat_eq x.present n ≡ None) → length old.dylibs.items < 64 →
-    new.dylibs.items ≡ old.dylibs.items ++ x ∷ [] → new.units ≡ old.units → new.rows ≡ old.rows → new.queries ≡ old.queries → new.ends ≡ old.ends → new.unsettled ≡ old.unsettled → new.jobs ≡ old.jobs → new.trackers ≡ old.trackers → new.held ≡ old.held →
+pub tied_dylib : {U : Type 0} (means : U → Meaning) (old new : Tables U) (x : TableDylib) → IsTied means old → ((n : ℕ) → get nat_eq x.present n ≡ None) → length old.dylibs < 64 →
+    new.dylibs ≡ old.dylibs ++ x ∷ [] → new.units ≡ old.units → new.rows ≡ old.rows → new.queries ≡ old.queries → new.ends ≡ old.ends → new.unsettled ≡ old.unsettled → new.jobs ≡ old.jobs → new.trackers ≡ old.trackers → new.held ≡ old.held → new.search ≡ old.search →
     old.entries ≤ new.entries → new.entries < 2 ^ 32 → IsTied means new
-tied_dylib means old new x t none left dylibs units rows queries ends waiting jobs trackers held more below = record {
+tied_dylib means old new x t none left dylibs units rows queries ends waiting jobs trackers held search more below = record {
   sized = record {
     entries = below;
-    dylibs = omega (arith, ap length dylibs, length-append old.dylibs.items (x ∷ []), left);
+    dylibs = omega (arith, ap length dylibs, length-append old.dylibs (x ∷ []), left);
     trackers = subst (λ v. length v.items ≤ 65536) (sym trackers) t.sized.trackers;
     units = subst (λ v. length v.items ≤ 65536) (sym units) t.sized.units;
     rows = subst (λ v. length v.items ≤ 262144) (sym rows) t.sized.rows;
@@ -151,7 +152,7 @@ tied_dylib means old new x t none left dylibs units rows queries ends waiting jo
   spans = λ u y e. subst (λ v. IsSpan v.items u y.first y.count) (sym rows) (t.spans u y (ap (λ v. slice_get v.items u) (sym units) ∙ e));
   owned = λ u y e. ap (λ v. length (own_rows u 0 v.items)) rows ∙ t.owned u y (ap (λ v. slice_get v.items u) (sym units) ∙ e);
   rows = λ i r e. subst (λ v. RowFits means v.items r) (sym units) (t.rows i r (ap (λ v. slice_get v.items i) (sym rows) ∙ e));
-  homes = λ i r e. omega (arith, t.homes i r (ap (λ v. slice_get v.items i) (sym rows) ∙ e), ap length dylibs, length-append old.dylibs.items (x ∷ []));
+  homes = λ i r e. omega (arith, t.homes i r (ap (λ v. slice_get v.items i) (sym rows) ∙ e), ap length dylibs, length-append old.dylibs (x ∷ []));
   strong = λ i r e. t.strong i r (ap (λ v. slice_get v.items i) (sym rows) ∙ e);
   named = λ d y e name. new_named means old d x y t (ap (λ xs. slice_get xs d) (sym dylibs) ∙ e) none name ∙ ap (λ v. present_row v.items d name) (sym rows);
   held = held ∙ t.held ∙ ap (λ v. count_by (λ (y : UnitRow). is_some y.seat) (map (unit_row means) v.items)) (sym units);
@@ -161,4 +162,5 @@ tied_dylib means old new x t none left dylibs units rows queries ends waiting jo
   rooms = λ j o q a b. t.rooms j o q (ap (λ v. slice_get v.items j) (sym waiting) ∙ a) (ap (λ v. slice_get v.items o.query) (sym queries) ∙ b);
   waits = λ u y k e p q. ap (λ v. slice_get v.items k) ends ∙ t.waits u y k (ap (λ v. slice_get (map (unit_row means) v.items) u) (sym units) ∙ e) p q;
   finishes = subst (λ v. deque_len v + length new.unsettled.items ≤ deque_capacity v) (sym jobs) (subst (λ v. deque_len old.jobs + length v.items ≤ deque_capacity old.jobs) (sym waiting) t.finishes);
+  search = subst (IsSparse (length new.rows.items)) (sym search) (subst (λ v. IsSparse (length v.items) old.search) (sym rows) t.search);
 }

@@ -96,10 +96,11 @@ linking_waits m n u e = subst (WaitsNoMore m.units) (sym e) (waits_changed m.uni
 
 pub resolve_settles : {U : Type 0} (means : U → Meaning) (old mid : Tables U) (s : ℕ) (u : UnitId) (address : ℕ → ℕ) → IsTied means old → IsReached (meant means old) → resolve_reply (meant means old) s u ≡ reply.Resolved →
     mid.rows.items ≡ map (resolved_row u.0 address) old.rows.items → map (unit_row means) mid.units.items ≡ changed_at u.0 linking_unit (map (unit_row means) old.units.items) →
-    mid.queries.items ≡ old.queries.items → mid.ends.items ≡ old.ends.items → mid.unsettled.items ≡ old.unsettled.items → mid.jobs ≡ old.jobs → CanSettle means mid None
-resolve_settles means old mid s u address t reached e rows units queries ends waiting jobs =
-    can_settle means old mid None t queries ends waiting jobs (linking_waits (meant means old) (meant means mid) u.0 units)
+    mid.queries.items ≡ old.queries.items → mid.ends.items ≡ old.ends.items → mid.unsettled.items ≡ old.unsettled.items → mid.jobs ≡ old.jobs → mid.search ≡ old.search → CanSettle means mid false
+resolve_settles means old mid s u address t reached e rows units queries ends waiting jobs search =
+    can_settle means old mid false t queries ends waiting jobs (linking_waits (meant means old) (meant means mid) u.0 units)
     (ready_untold means old mid.rows.items t (λ i. ap (λ l. is_ready l i) rows ∙ resolved_ready (meant means old) s u address reached e i))
+    (ap length rows ∙ mapped_length (resolved_row u.0 address) old.rows.items) search
 
 resolved_is : (m : Plain) (u : ℕ) (x : UnitRow) → slice_get m.units u ≡ Some x → changed (Resolve u) m ≡ record m { rows = resolved_rows u x m.rows; units = changed_at u linking_unit m.units }
 resolved_is m u x t = ap (λ o. option_map_or (λ (y : UnitRow). record m { rows = resolved_rows u y m.rows; units = changed_at u linking_unit m.units }) o m) t
@@ -115,7 +116,7 @@ resolve_moves means old mid new s u x t reached numbered e there rows units same
     settling_moves means (Resolve u.0) old mid new t reached
     (mid_is ∙ ap (λ (n : Plain). record n { entries = m.entries + 1 }) (sym (resolved_is m u.0 (unit_row means x) y)))
     (subst (ArePhased old.rows.items) (sym rows) (resolved_phased u.0 (λ k. (means x.unit).address k (unwrap_or x.base 0)) old.rows.items))
-    same (linking_waits m (meant means mid) u.0 units) (ap (λ v. v.items) queries) (ap (λ v. v.items) ends) (ap (λ v. v.items) dylibs) (ap (λ v. v.items) trackers)
+    same (linking_waits m (meant means mid) u.0 units) (ap (λ v. v.items) queries) (ap (λ v. v.items) ends) dylibs (ap (λ v. v.items) trackers)
     (held ∙ t.held ∙ kept_same m (meant means mid) u.0 linking_unit (unit_row means x) units y refl) numbered settles
 
 -- an instance is of a name that its unit offers

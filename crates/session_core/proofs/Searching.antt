@@ -11,7 +11,7 @@ use Rattle.std.proofs.lemmas.Map.Steps.{length-le_from_distinct_below}
 use Rattle.session_laws.proofs.Elements.{pushed_cases, front_some, pushed_last}
 use Rattle.session_laws.proofs.Paths.{reaches_self, reaches_dep, reach_transitive, closed_reached, test_from_ready, ready_from_test}
 use Rattle.orc_ids.specs.declared.ids.InstId.{InstId}
-use Rattle.session_model.specs.Plain.{phase_deps, emitted_at}
+use Rattle.session_model.specs.Plain.{phase_deps, is_emitted, emitted_at}
 use Rattle.session_model.specs.Reach.{Reaches, is_ready, deps_at}
 use Rattle.session_model.specs.Query.{all_at}
 use Rattle.orc_ids.specs.declared.lookup.Level.TheVariants.{Ready}
@@ -58,7 +58,7 @@ any_in (x ∷ xs) q e = split (cases_eq q x) (any_in xs q)
         let rest = later (ap (λ b. b || list_any (eqb q) xs) (sym (ne_eqb q x n)) ∙ e) in
         record { at = suc rest.at; there = rest.there }
 
-pub seen_fit : (place seen : List ℕ) → AtPlaces place seen → length seen ≤ length place
+seen_fit : (place seen : List ℕ) → AtPlaces place seen → length seen ≤ length place
 seen_fit place seen k = length-le_from_distinct_below seen (length place) (distinct place seen k) (λ q e.
     let there = any_in seen q e in slice_get_within place q there.at (k there.at q there.there))
 
@@ -232,6 +232,18 @@ explored_more rows roots head j seen new e there v all = record {
     closed h i k (inr is) t c =
         let same : j ≡ i = same_Some j i (sym (v.stays head j there) ∙ ap (slice_get new) (sym is) ∙ t) in
         all k (subst (λ n. Contains (deps_at rows n) k) (sym same) c)
+
+emitted_below : (rows : List InstRow) (i : ℕ) → emitted_at rows i ≡ true → i < length rows
+emitted_below rows i e = split (slice_get rows i) refl
+  where
+    split : (o : Option InstRow) → slice_get rows i ≡ o → i < length rows
+    split None t = absurd (both_ways false refl (ap (λ o. option_map_or (λ (r : InstRow). is_emitted r.phase) o false) (sym t) ∙ e))
+    split (Some r) t = slice_get_within rows i r t
+
+-- it has come to no more than there are
+pub explored_fit : (rows : List InstRow) (roots : List (Option InstId)) (head : ℕ) (place seen : List ℕ) → AtPlaces place seen → Explored rows roots head seen → length seen ≤ length rows
+explored_fit rows roots head place seen k e = length-le_from_distinct_below seen (length rows) (distinct place seen k) (λ q t.
+    let there = any_in seen q t in emitted_below rows q (e.emitted there.at q there.there))
 
 pub explored_all : (rows : List InstRow) (roots : List (Option InstId)) (head : ℕ) (seen : List ℕ) → Explored rows roots head seen → length seen ≤ head → Explored rows roots (length seen) seen
 explored_all rows roots head seen e le = record { emitted = e.emitted; reached = e.reached; begun = e.begun; closed = λ h j k b t c. e.closed h j k (omega (arith, b, le)) t c }

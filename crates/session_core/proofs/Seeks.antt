@@ -1,7 +1,9 @@
 -- A lookup's answer, where no generator exists.
-use Rattle.std.proofs.Common.{◌≡◌, ℕ, Bool, true, false, not, ◌&&◌, ◌==◌, List, [], ◌∷◌, refl, ap, ap₂, sym, ◌∙◌, Option, Some, None, unwrap_or, option_map, ◌⊎◌, inl, inr}
+use Rattle.std.proofs.Common.{◌≡◌, ℕ, Bool, true, false, not, ◌&&◌, ◌==◌, List, [], ◌∷◌, refl, ap, ap₂, sym, ◌∙◌, Option, Some, None, unwrap_or, option_map, IfSome, ◌⊎◌, inl, inr}
 use Rattle.std.specs.List.{position_from}
 use Rattle.std.specs.Option.{option_map_or}
+use Rattle.std.specs.Option.{IfNone}
+use Rattle.orc_ids.specs.declared.ids.InstId.{InstId}
 use Rattle.orc_ids.specs.declared.lookup.Level.{Level}
 use Rattle.orc_ids.specs.declared.lookup.OrderItem.{OrderItem}
 use Rattle.orc_ids.specs.declared.lookup.Wanted.{Wanted}
@@ -16,7 +18,8 @@ use Rattle.session_model.specs.declared.rows.Match.TheVariants.{Instance, Offere
 use Rattle.session_model.specs.declared.rows.Row.{Row}
 use Rattle.session_model.specs.declared.entry.Reply.TheVariants as reply
 use Rattle.orc_ids.specs.declared.ids.QueryId.{QueryId}
-use Rattle.session_core.specs.Seeking.{is_lodged, found_error, first_error, first_missing, lodged_answer}
+use Rattle.session_core.specs.Kinds.{is_lodged}
+use Rattle.session_core.specs.Seeking.{found_error, first_error, first_missing, lodged_answer}
 
 -- no match is an offer
 offer_or : (a b : Option Match) → offer_of a ≡ None → offer_of b ≡ None → offer_of (or_else a b) ≡ None
@@ -68,6 +71,17 @@ answers_missing m order wanted lev r e none is = ap₂ (λ a b. unwrap_or a (unw
 
 pub answers_lodged : (m : Plain) (order : List OrderItem) (wanted : List Wanted) (lev : Level) → m.generators ≡ [] → None ≡ first_error m.rows (matched m order wanted) → None ≡ first_missing m order wanted → lodged_answer m lev (matched m order wanted) ≡ answer_lookup m order wanted lev
 answers_lodged m order wanted lev e none all = ap₂ (λ a b. unwrap_or a (unwrap_or b (lodged_answer m lev (matched m order wanted)))) none all ∙ sym (answer_parts m order wanted lev e)
+
+-- nothing is in error: the first missing name is answered, or the query is lodged
+pub missing_refused : (m : Plain) (order : List OrderItem) (wanted : List Wanted) (r : Option Reply) → m.generators ≡ [] → None ≡ first_error m.rows (matched m order wanted) → r ≡ first_missing m order wanted →
+    IfSome r (λ reply. (lev : Level) → reply ≡ answer_lookup m order wanted lev)
+missing_refused m order wanted None e none is = tt
+missing_refused m order wanted (Some r) e none is = λ lev. answers_missing m order wanted lev r e none is
+
+pub missing_lodged : (m : Plain) (order : List OrderItem) (wanted : List Wanted) (found : List (Option InstId)) (r : Option Reply) → m.generators ≡ [] → None ≡ first_error m.rows (matched m order wanted) → found ≡ matched m order wanted → r ≡ first_missing m order wanted →
+    IfNone r ((lev : Level) → answer_lookup m order wanted lev ≡ lodged_answer m lev found)
+missing_lodged m order wanted found None e none its is = λ lev. sym (ap (lodged_answer m lev) its ∙ answers_lodged m order wanted lev e none is)
+missing_lodged m order wanted found (Some r) e none its is = tt
 
 -- the answers of a lookup that is lodged
 pub lodged_from : (r : Reply) → (q : QueryId) × ((r ≡ reply.Done q) ⊎ (r ≡ reply.Pending q)) → is_lodged r ≡ true

@@ -11,6 +11,7 @@ use Rattle.session_model.specs.Plain.{Plain}
 use Rattle.session_model.specs.Query.{is_met, ending}
 use Rattle.session_model.specs.Change.{settled_one, finish_listed, waits_for}
 use Rattle.session_model.specs.declared.rows.Query.{Query}
+use Rattle.session_core.specs.declared.ready.Search.{Search}
 use Rattle.session_core.specs.declared.tables.OpenQuery.{OpenQuery}
 use Rattle.session_core.specs.declared.tables.QueryEnd.{QueryEnd}
 use Rattle.session_core.specs.declared.tables.Tables.{Tables}
@@ -59,7 +60,7 @@ place_is t at q c o e = same_Some c.place o (sym c.there ∙ e)
 
 pub met_step : {U : Type 0} (means : U → Meaning) (old new : Tables U) (at : ℕ) (q : Query) (z : OpenQuery) (e : QueryEnd) → (c : CanEnd old at q) → is_met old.rows.items q ≡ true →
     new.unsettled.items ≡ set old.unsettled.items at z → z.query ≡ c.place.query → new.ends.items ≡ set old.ends.items c.place.query (Some e) → e ≡ record { at = old.entries; end = ending old.rows.items q } →
-    meant means new ≡ settle_link c.place.query q.unit (meant means old) → AreSameUnits means old.units.items new.units.items → new.dylibs.items ≡ old.dylibs.items → new.held ≡ old.held →
+    meant means new ≡ settle_link c.place.query q.unit (meant means old) → AreSameUnits means old.units.items new.units.items → new.dylibs ≡ old.dylibs → new.held ≡ old.held →
     deque_len new.jobs ≤ deque_len old.jobs + 1 → deque_capacity new.jobs ≡ deque_capacity old.jobs → SettlesAt means c.place.query old new
 met_step means old new at q z e c met unsettled number ends end leads same dylibs held jobs room =
     let m : Plain = meant means old in
@@ -111,7 +112,18 @@ unmet_step means t at q c unmet =
 
 pub met_ended : {U : Type 0} (means : U → Meaning) (old new : Tables U) (at : ℕ) (q : Query) (z : OpenQuery) (e : QueryEnd) → (c : CanEnd old at q) → is_met old.rows.items q ≡ true → (o : OpenQuery) → slice_get old.unsettled.items at ≡ Some o →
     new.unsettled.items ≡ set old.unsettled.items at z → z.query ≡ c.place.query → new.ends.items ≡ set old.ends.items c.place.query (Some e) → e ≡ record { at = old.entries; end = ending old.rows.items q } →
-    meant means new ≡ settle_link c.place.query q.unit (meant means old) → AreSameUnits means old.units.items new.units.items → new.dylibs.items ≡ old.dylibs.items → new.held ≡ old.held →
+    meant means new ≡ settle_link c.place.query q.unit (meant means old) → AreSameUnits means old.units.items new.units.items → new.dylibs ≡ old.dylibs → new.held ≡ old.held →
     deque_len new.jobs ≤ deque_len old.jobs + 1 → deque_capacity new.jobs ≡ deque_capacity old.jobs → SettlesAt means o.query old new
 met_ended means old new at q z e c met o t unsettled number ends end leads same dylibs held jobs room =
     subst (λ (p : OpenQuery). SettlesAt means p.query old new) (place_is old at q c o t) (met_step means old new at q z e c met unsettled number ends end leads same dylibs held jobs room)
+
+-- A search changes nothing of what settles
+
+pub searched_end : {U : Type 0} (t : Tables U) (at : ℕ) (q : Query) (s : Search) → CanEnd t at q → CanEnd (record t { search = s }) at q
+searched_end t at q s c = record { place = c.place; there = c.there; query = c.query; waits = c.waits; room = c.room; job = c.job }
+
+pub searched_settles : {U : Type 0} (means : U → Meaning) (k : ℕ) (t new : Tables U) (s : Search) → SettlesAt means k (record t { search = s }) new → SettlesAt means k t new
+searched_settles means k t new s a = record { leads = a.leads; ends = a.ends; numbers = a.numbers; rooms = a.rooms; same = a.same; dylibs = a.dylibs; held = a.held; jobs = a.jobs; room = a.room }
+
+pub settles_searched : {U : Type 0} (means : U → Meaning) (k : ℕ) (t : Tables U) (s : Search) → SettlesAt means k t t → SettlesAt means k t (record t { search = s })
+settles_searched means k t s a = record { leads = a.leads; ends = a.ends; numbers = a.numbers; rooms = a.rooms; same = a.same; dylibs = a.dylibs; held = a.held; jobs = a.jobs; room = a.room }

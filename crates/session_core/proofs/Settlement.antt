@@ -22,7 +22,6 @@ use Rattle.session_model.specs.declared.rows.Query.{Query}
 use Rattle.session_model.specs.declared.rows.Row.{Row}
 use Rattle.session_laws.proofs.Settling.{settling_keeps, settled_rows, settled_queries}
 use Rattle.session_laws.specs.Sound.{IsSound}
-use Rattle.session_core.specs.declared.ready.Search.{Search}
 use Rattle.session_core.specs.declared.tables.OpenQuery.{OpenQuery}
 use Rattle.session_core.specs.declared.tables.QueryEnd.{QueryEnd}
 use Rattle.session_core.specs.declared.tables.TableUnit.{TableUnit}
@@ -32,6 +31,7 @@ use Rattle.session_core.specs.Ends.{noted, noted_end, open_numbers}
 use Rattle.session_core.specs.Tied.{IsTied, IsSpan, RowFits, WaitsOpen, is_named, present_row}
 use Rattle.session_core.specs.Moves.{IsReached, Moves}
 use Rattle.session_core.specs.Rows.{ArePhased}
+use Rattle.session_core.specs.Search.{IsSparse}
 use Rattle.session_core.specs.Units.{AreSameUnits}
 use Rattle.session_core.specs.Settles.{LinksOwn, CanTell, CanSettle, Settles}
 use Rattle.session_core.proofs.Calm.{WaitsNoMore, reached_sound}
@@ -126,7 +126,7 @@ all_ready_same rows new h (None ∷ os) = all_ready_same rows new h os
 all_ready_same rows new h (Some i ∷ os) = ap (λ b. b && all_at new Ready os) (h i.0) ∙ ap (λ b. is_ready rows i.0 && b) (all_ready_same rows new h os)
 
 -- an open query of level Ready isn't at it, where readiness stays
-pub ready_untold : {U : Type 0} (means : U → Meaning) (t : Tables U) (new : List InstRow) → IsTied means t → ((i : ℕ) → is_ready new i ≡ is_ready t.rows.items i) → (k : ℕ) (q : Query) → slice_get t.queries.items k ≡ Some q → slice_get t.ends.items k ≡ Some None → CanTell new None q
+pub ready_untold : {U : Type 0} (means : U → Meaning) (t : Tables U) (new : List InstRow) → IsTied means t → ((i : ℕ) → is_ready new i ≡ is_ready t.rows.items i) → (k : ℕ) (q : Query) → slice_get t.queries.items k ≡ Some q → slice_get t.ends.items k ≡ Some None → CanTell new false q
 ready_untold means t new tied same k q a b lev =
     all_ready_same t.rows.items new same q.matched
     ∙ ap (λ (l : Level). all_at t.rows.items l q.matched) (sym lev)
@@ -137,15 +137,16 @@ ready_untold means t new tied same k q a b lev =
 pub waits_open : {U : Type 0} (means : U → Meaning) (old mid : Tables U) → IsTied means old → WaitsNoMore (meant means old).units (meant means mid).units → mid.ends.items ≡ old.ends.items → WaitsOpen (meant means mid) mid.ends.items
 waits_open means old mid t waits ends u y k e p q = let x = waits u y e p in ap (λ l. slice_get l k) ends ∙ t.waits u x.0 k x.1 x.2 (x.3 ∙ q)
 
-pub can_settle : {U : Type 0} (means : U → Meaning) (old mid : Tables U) (search : Option Search) → IsTied means old → mid.queries.items ≡ old.queries.items → mid.ends.items ≡ old.ends.items → mid.unsettled.items ≡ old.unsettled.items → mid.jobs ≡ old.jobs → WaitsNoMore (meant means old).units (meant means mid).units →
-    ((k : ℕ) (q : Query) → slice_get old.queries.items k ≡ Some q → slice_get old.ends.items k ≡ Some None → CanTell mid.rows.items search q) → CanSettle means mid search
-can_settle means old mid search t queries ends waiting jobs waits tells = record {
+pub can_settle : {U : Type 0} (means : U → Meaning) (old mid : Tables U) (searches : Bool) → IsTied means old → mid.queries.items ≡ old.queries.items → mid.ends.items ≡ old.ends.items → mid.unsettled.items ≡ old.unsettled.items → mid.jobs ≡ old.jobs → WaitsNoMore (meant means old).units (meant means mid).units →
+    ((k : ℕ) (q : Query) → slice_get old.queries.items k ≡ Some q → slice_get old.ends.items k ≡ Some None → CanTell mid.rows.items searches q) → length mid.rows.items ≡ length old.rows.items → mid.search ≡ old.search → CanSettle means mid searches
+can_settle means old mid searches t queries ends waiting jobs waits tells count search = record {
   ends = ap length ends ∙ t.ends ∙ ap length (sym queries);
   unsettled = ap (map (λ (o : OpenQuery). o.query)) waiting ∙ t.unsettled ∙ ap (open_numbers 0) (sym ends);
   rooms = λ j o q a b. t.rooms j o q (ap (λ l. slice_get l j) (sym waiting) ∙ a) (ap (λ l. slice_get l o.query) (sym queries) ∙ b);
   finishes = subst (λ l. deque_len mid.jobs + length l ≤ deque_capacity mid.jobs) (sym waiting) (subst (λ d. deque_len d + length old.unsettled.items ≤ deque_capacity d) (sym jobs) t.finishes);
   waits = waits_open means old mid t waits ends;
   tells = λ k q a b. tells k q (ap (λ l. slice_get l k) (sym queries) ∙ a) (ap (λ l. slice_get l k) (sym ends) ∙ b);
+  search = subst (IsSparse (length mid.rows.items)) (sym search) (subst (λ n. IsSparse n old.search) (sym count) t.search);
 }
 
 links_own : (m n : Plain) → IsSound m → n.queries ≡ m.queries → WaitsNoMore m.units n.units → LinksOwn n
@@ -159,7 +160,7 @@ links_own m n s queries waits u y k q e p its there =
 pub settling_moves : {U : Type 0} (means : U → Meaning) (c : Change) (old mid new : Tables U) → IsTied means old → IsReached (meant means old) →
     meant means mid ≡ record (changed c (meant means old)) { entries = old.entries + 1 } →
     ArePhased old.rows.items mid.rows.items → AreSameUnits means old.units.items mid.units.items → WaitsNoMore (meant means old).units (meant means mid).units →
-    mid.queries.items ≡ old.queries.items → mid.ends.items ≡ old.ends.items → mid.dylibs.items ≡ old.dylibs.items → mid.trackers.items ≡ old.trackers.items → mid.held ≡ kept (meant means mid) → old.entries + 1 < 2 ^ 32 →
+    mid.queries.items ≡ old.queries.items → mid.ends.items ≡ old.ends.items → mid.dylibs ≡ old.dylibs → mid.trackers.items ≡ old.trackers.items → mid.held ≡ kept (meant means mid) → old.entries + 1 < 2 ^ 32 →
     Settles means mid new → Moves means c old new
 settling_moves means c old mid new t reached leads phased same waits queries ends dylibs trackers held numbered s =
     let m : Plain = meant means mid in
@@ -168,7 +169,7 @@ settling_moves means c old mid new t reached leads phased same waits queries end
     let entries : new.entries ≡ mid.entries = ap (λ (n : Plain). n.entries) s.leads ∙ (settled_rest m).0 in
     let counted : mid.entries ≡ old.entries + 1 = ap (λ (n : Plain). n.entries) leads in
     let now_trackers : new.trackers.items ≡ old.trackers.items = ap (λ (n : Plain). n.trackers) s.leads ∙ (settled_rest m).1 ∙ trackers in
-    let now_dylibs : new.dylibs.items ≡ old.dylibs.items = s.dylibs ∙ dylibs in
+    let now_dylibs : new.dylibs ≡ old.dylibs = s.dylibs ∙ dylibs in
     let units = same_after means old.units.items mid.units.items new.units.items same s.same in
     let count : length mid.ends.items ≡ length mid.queries.items = ap length ends ∙ t.ends ∙ ap length (sym queries) in
     let now_phased : ArePhased old.rows.items new.rows.items = subst (ArePhased old.rows.items) (sym rows) phased in
@@ -191,7 +192,7 @@ settling_moves means c old mid new t reached leads phased same waits queries end
         owned = λ u y e. let x = unit_before units u y e in let z = units.each u x.0 y x.1 e in
             ap length (own_phased u 0 old.rows.items new.rows.items now_phased) ∙ t.owned u x.0 x.1 ∙ ap (count_by (λ (b : Bool). b)) (sym z.live);
         rows = λ i q e. let r = before old.rows.items new.rows.items i q now_phased e in subst (RowFits means new.units.items) (sym r.2) (fit units r.0 q (t.rows i r.0 r.1));
-        homes = λ i q e. let r = before old.rows.items new.rows.items i q now_phased e in subst (λ n. q.dylib.0 < n) (ap length (sym now_dylibs)) (subst (λ (x : InstRow). x.dylib.0 < length old.dylibs.items) (sym r.2) (t.homes i r.0 r.1));
+        homes = λ i q e. let r = before old.rows.items new.rows.items i q now_phased e in subst (λ n. q.dylib.0 < n) (ap length (sym now_dylibs)) (subst (λ (x : InstRow). x.dylib.0 < length old.dylibs) (sym r.2) (t.homes i r.0 r.1));
         strong = λ i q e. let r = before old.rows.items new.rows.items i q now_phased e in ap (λ (x : InstRow). is_strong x.flags) r.2 ∙ t.strong i r.0 r.1;
         named = λ d x e name. t.named d x (ap (λ xs. slice_get xs d) (sym now_dylibs) ∙ e) name ∙ sym (phased_present d name old.rows.items new.rows.items now_phased);
         held = s.held ∙ held ∙ sym (ap kept s.leads ∙ settled_kept m);
@@ -201,6 +202,7 @@ settling_moves means c old mid new t reached leads phased same waits queries end
         rooms = s.rooms;
         finishes = s.finishes;
         waits = subst (λ (n : Plain). WaitsOpen n new.ends.items) (sym s.leads) (subst (WaitsOpen (settled m)) (sym s.ends) (waits_noted m m mid.ends.items refl count (waits_open means old mid t waits ends) links));
+        search = s.search;
       };
     }
   where

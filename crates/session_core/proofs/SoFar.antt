@@ -12,7 +12,6 @@ use Rattle.session_model.specs.Change.{settled_one}
 use Rattle.session_model.specs.declared.rows.Query.{Query}
 use Rattle.session_laws.proofs.Settling.{settled_one_keeps}
 use Rattle.session_laws.proofs.Elements.{changed_elsewhere, mapped_some, mapped_length}
-use Rattle.session_core.specs.declared.ready.Search.{Search}
 use Rattle.session_core.specs.declared.tables.OpenQuery.{OpenQuery}
 use Rattle.session_core.specs.declared.tables.QueryEnd.{QueryEnd}
 use Rattle.session_core.specs.declared.tables.Tables.{Tables}
@@ -20,6 +19,7 @@ use Rattle.session_core.specs.Meant.{meant}
 use Rattle.session_model.specs.Lists.{changed_at}
 use Rattle.session_core.specs.Ends.{noted, noted_end, open_numbers}
 use Rattle.session_core.specs.Units.{AreSameUnits}
+use Rattle.session_core.specs.Search.{IsSparse}
 use Rattle.session_core.specs.Settles.{settled_number, settled_for, note_at, noted_for, open_at, SettlesAt, CanEnd, CanSettle, Settles, CanTell}
 use Rattle.session_core.proofs.KeptUnits.{same_units, same_after}
 use Rattle.session_core.proofs.Owned.{drop_one}
@@ -29,7 +29,7 @@ abbrev pub numbers_of : List OpenQuery → List ℕ
 numbers_of os = map (λ (o : OpenQuery). o.query) os
 
 -- so many of the open queries were looked at
-pub record SoFar {U : Type 0} (means : U → Meaning) (at : ℕ) (start now : Tables U) (search : Option Search) : Type 0 where
+pub record SoFar {U : Type 0} (means : U → Meaning) (at : ℕ) (start now : Tables U) (searches : Bool) : Type 0 where
   pub leads : settled_for (drop at (open_numbers 0 start.ends.items)) (meant means now) ≡ settled_for (open_numbers 0 start.ends.items) (meant means start)
   pub ends : noted_for (meant means start) (drop at (open_numbers 0 start.ends.items)) now.ends.items ≡ noted_for (meant means start) (open_numbers 0 start.ends.items) start.ends.items
   pub numbers : numbers_of now.unsettled.items ≡ open_numbers 0 start.ends.items
@@ -39,10 +39,11 @@ pub record SoFar {U : Type 0} (means : U → Meaning) (at : ℕ) (start now : Ta
   pub queries : now.queries.items ≡ start.queries.items
   pub entries : now.entries ≡ start.entries
   pub same : AreSameUnits means start.units.items now.units.items
-  pub dylibs : now.dylibs.items ≡ start.dylibs.items
+  pub dylibs : now.dylibs ≡ start.dylibs
   pub held : now.held ≡ start.held
   pub room : deque_len now.jobs + length (open_numbers 0 now.ends.items) ≤ deque_capacity now.jobs
-  pub tells : (k : ℕ) (q : Query) → slice_get start.queries.items k ≡ Some q → slice_get start.ends.items k ≡ Some None → CanTell start.rows.items search q
+  pub tells : (k : ℕ) (q : Query) → slice_get start.queries.items k ≡ Some q → slice_get start.ends.items k ≡ Some None → CanTell start.rows.items searches q
+  pub search : IsSparse (length now.rows.items) now.search
 
 open_now : (ends : List (Option QueryEnd)) (i k : ℕ) → slice_get (open_numbers 0 ends) i ≡ Some k → slice_get ends k ≡ Some None
 open_now ends i k t = let p = open_there 0 ends i k t in ap (slice_get ends) (omega (arith, p.1)) ∙ p.2
@@ -53,8 +54,8 @@ open_some j n (None ∷ ends) t = omega arith
 open_some j zero (Some e ∷ ends) t = absurd (none-some e (sym (same_Some (Some e) None t)))
 open_some j (suc n) (Some e ∷ ends) t = open_some (j + 1) n ends t
 
-pub none_yet : {U : Type 0} (means : U → Meaning) (start : Tables U) (search : Option Search) → CanSettle means start search → SoFar means 0 start start search
-none_yet means start search c = record {
+pub none_yet : {U : Type 0} (means : U → Meaning) (start : Tables U) (searches : Bool) → CanSettle means start searches → SoFar means 0 start start searches
+none_yet means start searches c = record {
   leads = refl;
   ends = refl;
   numbers = c.unsettled;
@@ -68,18 +69,19 @@ none_yet means start search c = record {
   held = refl;
   room = omega (arith, c.finishes, ap length c.unsettled, mapped_length (λ (o : OpenQuery). o.query) start.unsettled.items);
   tells = c.tells;
+  search = c.search;
 }
 
-pub number_at : {U : Type 0} (means : U → Meaning) (at : ℕ) (start now : Tables U) (search : Option Search) → SoFar means at start now search → (o : OpenQuery) → slice_get now.unsettled.items at ≡ Some o → slice_get (open_numbers 0 start.ends.items) at ≡ Some o.query
-number_at means at start now search s o t = ap (λ l. slice_get l at) (sym s.numbers) ∙ mapped_some (λ (o : OpenQuery). o.query) now.unsettled.items at o t
+pub number_at : {U : Type 0} (means : U → Meaning) (at : ℕ) (start now : Tables U) (searches : Bool) → SoFar means at start now searches → (o : OpenQuery) → slice_get now.unsettled.items at ≡ Some o → slice_get (open_numbers 0 start.ends.items) at ≡ Some o.query
+number_at means at start now searches s o t = ap (λ l. slice_get l at) (sym s.numbers) ∙ mapped_some (λ (o : OpenQuery). o.query) now.unsettled.items at o t
 
-pub next_open : {U : Type 0} (means : U → Meaning) (at : ℕ) (start now : Tables U) (search next : Option Search) → CanSettle means start search → SoFar means at start now next → at < length now.unsettled.items → (o : OpenQuery) × (slice_get now.unsettled.items at ≡ Some o)
-next_open means at start now search next c s b = element_there now.unsettled.items at b
+pub next_open : {U : Type 0} (means : U → Meaning) (at : ℕ) (start now : Tables U) (searches : Bool) → CanSettle means start searches → SoFar means at start now searches → at < length now.unsettled.items → (o : OpenQuery) × (slice_get now.unsettled.items at ≡ Some o)
+next_open means at start now searches c s b = element_there now.unsettled.items at b
 
-pub can_end : {U : Type 0} (means : U → Meaning) (at : ℕ) (start now : Tables U) (search now_search : Option Search) → CanSettle means start search → SoFar means at start now now_search → at < length now.unsettled.items → (q : Query) × CanEnd now at q × CanTell now.rows.items now_search q
-can_end means at start now search now_search c s b =
+pub can_end : {U : Type 0} (means : U → Meaning) (at : ℕ) (start now : Tables U) (searches : Bool) → CanSettle means start searches → SoFar means at start now searches → at < length now.unsettled.items → (q : Query) × CanEnd now at q × CanTell now.rows.items searches q
+can_end means at start now searches c s b =
     let o = element_there now.unsettled.items at b in
-    let n = number_at means at start now now_search s o.0 o.1 in
+    let n = number_at means at start now searches s o.0 o.1 in
     let was = open_now start.ends.items at o.0.query n in
     let q = element_there start.queries.items o.0.query (omega (arith, c.ends, slice_get_within start.ends.items o.0.query None was)) in
     let is = s.ahead at o.0.query (omega arith) n in (
@@ -92,7 +94,7 @@ can_end means at start now search now_search c s b =
         room = s.rooms at o.0 q.0 o.1 is q.1;
         job = omega (arith, s.room, open_some 0 o.0.query now.ends.items is);
       },
-      subst (λ rows. CanTell rows now_search q.0) (sym s.rows) (s.tells o.0.query q.0 q.1 was),
+      subst (λ rows. CanTell rows searches q.0) (sym s.rows) (s.tells o.0.query q.0 q.1 was),
     )
 
 -- What looking at a query keeps
@@ -121,8 +123,8 @@ note_elsewhere m k l ends n = split (slice_get m.queries k)
     split None = refl
     split (Some q) = changed_elsewhere k (noted_end m q) ends l n
 
-pub one_more : {U : Type 0} (means : U → Meaning) (at : ℕ) (start now new : Tables U) (search next : Option Search) (o : OpenQuery) → SoFar means at start now search → slice_get now.unsettled.items at ≡ Some o → SettlesAt means o.query now new → ((p : Query) → CanTell now.rows.items search p → CanTell now.rows.items next p) → SoFar means (at + 1) start new next
-one_more means at start now new search next o s t a tells = record {
+pub one_more : {U : Type 0} (means : U → Meaning) (at : ℕ) (start now new : Tables U) (searches : Bool) (o : OpenQuery) → SoFar means at start now searches → slice_get now.unsettled.items at ≡ Some o → SettlesAt means o.query now new → IsSparse (length new.rows.items) new.search → SoFar means (at + 1) start new searches
+one_more means at start now new searches o s t a sparse = record {
   leads = ap (settled_for (drop (at + 1) ks)) a.leads ∙ sym (ap (λ l. settled_for l (meant means now)) rest) ∙ s.leads;
   ends = ap (noted_for m (drop (at + 1) ks)) (a.ends ∙ note_same (meant means now) m o.query now.ends.items s.rows s.queries s.entries) ∙ sym (ap (λ l. noted_for m l now.ends.items) rest) ∙ s.ends;
   numbers = a.numbers ∙ s.numbers;
@@ -135,7 +137,8 @@ one_more means at start now new search next o s t a tells = record {
   dylibs = a.dylibs ∙ s.dylibs;
   held = a.held ∙ s.held;
   room = omega (arith, a.jobs, a.room, s.room);
-  tells = λ k q f e. subst (λ rows. CanTell rows next q) s.rows (tells q (subst (λ rows. CanTell rows search q) (sym s.rows) (s.tells k q f e)));
+  tells = s.tells;
+  search = sparse;
 }
   where
     ks : List ℕ
@@ -145,13 +148,13 @@ one_more means at start now new search next o s t a tells = record {
     m = meant means start
 
     n : slice_get (open_numbers 0 start.ends.items) at ≡ Some o.query
-    n = number_at means at start now search s o t
+    n = number_at means at start now searches s o t
 
     rest : drop at (open_numbers 0 start.ends.items) ≡ o.query ∷ drop (at + 1) (open_numbers 0 start.ends.items)
-    rest = drop_one (open_numbers 0 start.ends.items) at o.query (number_at means at start now search s o t)
+    rest = drop_one (open_numbers 0 start.ends.items) at o.query (number_at means at start now searches s o t)
 
     before : (k : ℕ) → (k ≡ o.query) ⊎ (k ≡ o.query → ⊥) → slice_get new.ends.items k ≡ Some None → slice_get now.ends.items k ≡ Some None
-    before k (inl e) f = ap (slice_get now.ends.items) e ∙ s.ahead at o.query (omega arith) (number_at means at start now search s o t)
+    before k (inl e) f = ap (slice_get now.ends.items) e ∙ s.ahead at o.query (omega arith) (number_at means at start now searches s o t)
     before k (inr d) f = sym (note_elsewhere (meant means now) o.query k now.ends.items d) ∙ ap (λ l. slice_get l k) (sym a.ends) ∙ f
 
 -- The end
@@ -187,9 +190,9 @@ drop_past zero (x ∷ xs) h = absurd (omega (arith, h))
 drop_past (suc k) [] h = refl
 drop_past (suc k) (x ∷ xs) h = drop_past k xs (omega (arith, h))
 
-pub all_settled : {U : Type 0} (means : U → Meaning) (at : ℕ) (start now new : Tables U) (search next : Option Search) → CanSettle means start search → SoFar means at start now next → length start.unsettled.items ≤ at →
-    meant means new ≡ meant means now → new.unsettled.items ≡ filter (λ (o : OpenQuery). open_at now.ends.items o.query) now.unsettled.items → new.ends.items ≡ now.ends.items → new.units.items ≡ now.units.items → new.dylibs.items ≡ now.dylibs.items → new.held ≡ now.held → new.jobs ≡ now.jobs → Settles means start new
-all_settled means at start now new search next c s past leads unsettled ends units dylibs held jobs = record {
+pub all_settled : {U : Type 0} (means : U → Meaning) (at : ℕ) (start now new : Tables U) (searches : Bool) → CanSettle means start searches → SoFar means at start now searches → length start.unsettled.items ≤ at →
+    meant means new ≡ meant means now → new.unsettled.items ≡ filter (λ (o : OpenQuery). open_at now.ends.items o.query) now.unsettled.items → new.ends.items ≡ now.ends.items → new.units.items ≡ now.units.items → new.dylibs ≡ now.dylibs → new.held ≡ now.held → new.jobs ≡ now.jobs → new.search ≡ now.search → Settles means start new
+all_settled means at start now new searches c s past leads unsettled ends units dylibs held jobs search = record {
   leads = leads ∙ sym (ap (λ l. settled_for l (meant means now)) none_left) ∙ s.leads ∙ settled_by_open (meant means start) start.ends.items c.ends c.waits;
   ends = ends ∙ noted_now;
   unsettled = numbers ∙ ap (open_numbers 0) (sym ends);
@@ -199,6 +202,7 @@ all_settled means at start now new search next c s past leads unsettled ends uni
   same = subst (AreSameUnits means start.units.items) (sym units) s.same;
   dylibs = dylibs ∙ s.dylibs;
   held = held ∙ s.held;
+  search = subst (IsSparse (length new.rows.items)) (sym search) (subst (λ rows. IsSparse (length rows) now.search) (sym (ap (λ (p : Plain). p.rows) leads)) s.search);
 }
   where
     none_left : drop at (open_numbers 0 start.ends.items) ≡ []
@@ -211,5 +215,5 @@ all_settled means at start now new search next c s past leads unsettled ends uni
     numbers = ap numbers_of unsettled ∙ map_filter (open_at now.ends.items) now.unsettled.items ∙ ap (filter (open_at now.ends.items)) s.numbers
         ∙ ap (λ l. filter (open_at l) (open_numbers 0 start.ends.items)) noted_now ∙ still_open (meant means start) start.ends.items c.ends ∙ ap (open_numbers 0) (sym noted_now)
 
-pub same_count : {U : Type 0} (means : U → Meaning) (at : ℕ) (start now : Tables U) (search next : Option Search) → CanSettle means start search → SoFar means at start now next → length now.unsettled.items ≡ length start.unsettled.items
-same_count means at start now search next c s = omega (arith, ap length s.numbers, ap length c.unsettled, mapped_length (λ (o : OpenQuery). o.query) now.unsettled.items, mapped_length (λ (o : OpenQuery). o.query) start.unsettled.items)
+pub same_count : {U : Type 0} (means : U → Meaning) (at : ℕ) (start now : Tables U) (searches : Bool) → CanSettle means start searches → SoFar means at start now searches → length now.unsettled.items ≡ length start.unsettled.items
+same_count means at start now searches c s = omega (arith, ap length s.numbers, ap length c.unsettled, mapped_length (λ (o : OpenQuery). o.query) now.unsettled.items, mapped_length (λ (o : OpenQuery). o.query) start.unsettled.items)

@@ -42,7 +42,7 @@ use Rattle.session_core.specs.Moves.{IsReached, Moves}
 use Rattle.session_core.specs.Replies.{TakeReply, FinishesWith, finishing_of}
 use Rattle.session_core.specs.Steps.{Steps}
 use Rattle.orc_ids.specs.declared.lookup.Stop.{Stop}
-use Rattle.orc_ids.specs.declared.lookup.Stop.TheVariants.{JournalFull}
+use Rattle.orc_ids.specs.declared.lookup.Stop.TheVariants.{JournalFull, NoMemory}
 use Rattle.session_core.specs.Performs.{Enters, Takes, lacks_places, state_of}
 use Rattle.session_core.specs.Whole.{AreOne}
 use Rattle.session_core.proofs.Called.{none_behind}
@@ -110,6 +110,10 @@ pub takes_full : {U : Type 0} (means : U → Meaning) (jmax : ℕ) (t : Tables U
     (why ≡ JournalFull (length h)) × (lacks_places means jmax h 2 ≡ true) → Takes means jmax h h s (Err why)
 takes_full means jmax t h s why one some full = subst (λ w. Takes means jmax h h s (Err w)) (sym full.0)
     (stopped_full means jmax h s event.Take 2 (JournalFull (length h)) refl (refl, full.1), λ none. not_idle (meant means t).jobs some (ap (λ (m : Plain). m.jobs) one.leads ∙ none))
+
+-- it found no memory
+pub takes_no_memory : {U : Type 0} (means : U → Meaning) (jmax : ℕ) (t : Tables U) (h : List (Entry U)) (s : SeatNo) → AreOne means jmax t h → (j : Job) × (js : List Job) × ((meant means t).jobs ≡ j ∷ js) → Takes means jmax h h s (Err NoMemory)
+takes_no_memory means jmax t h s one some = (refl, λ none. not_idle (meant means t).jobs some (ap (λ (m : Plain). m.jobs) one.leads ∙ none))
 
 pub takes_entered : {U : Type 0} (means : U → Meaning) (jmax : ℕ) (old new : List (Entry U)) (s : SeatNo) (r : Reply) → Enters means jmax old new (record { seat = s; event = event.Take; reply = r }) → Takes means jmax old new s (Ok r)
 takes_entered means jmax old new s (reply.Idle held) x = absurd (never_idle (state_of means old).jobs x.answered)

@@ -4,7 +4,8 @@ use Rattle.std.specs.Vec.{vec_len, vec_capacity}
 use Rattle.session_core.specs.declared.tables.TableDylib.{TableDylib}
 use Rattle.session_core.specs.declared.tables.Tables.{Tables}
 use Rattle.session_core.specs.Meant.{dylib_row}
-use Rattle.std.specs.Prelude.{nat_eq, map, ◌<◌, ◌≤◌, ◌≡◌, ℕ, true, Bool, List, [], ◌∷◌, ◌+◌, slice_get, Option, Some, false, None, length}
+use Rattle.session_core.specs.Search.{IsSparse}
+use Rattle.std.specs.Prelude.{nat_eq, map, ◌<◌, ◌≤◌, ◌≡◌, ℕ, true, Bool, List, [], ◌∷◌, ◌+◌, slice_get, Option, Some, None, length}
 use Rattle.orc_ids.specs.declared.flags.SymFlags.{SymFlags}
 use Rattle.orc_ids.specs.declared.ids.NameId.{NameId}
 use Rattle.session_model.specs.Lists.{first_some}
@@ -13,7 +14,6 @@ use Rattle.session_model.specs.Plain.{Plain}
 use Rattle.session_model.specs.Change.{verdict, is_kept, is_strong}
 use Rattle.session_model.specs.Answer.{clash}
 use Rattle.session_model.specs.declared.entry.Reply.{Reply}
-use Rattle.session_model.specs.declared.entry.Reply.TheVariants as reply
 use Rattle.session_model.specs.Match.{row_of}
 use Rattle.session_model.specs.declared.rows.InstRow.{InstRow}
 use Rattle.session_model.specs.declared.rows.Phase.TheVariants as phase
@@ -26,11 +26,6 @@ first_clash m d u = first_some (clash_of m d) u.offers
 
 abbrev pub keeps : Plain → ℕ → NameId × SymFlags → Bool
 keeps m d offer = is_kept (verdict m d offer)
-
--- the definition is accepted
-abbrev pub is_defined : Reply → Bool
-is_defined (reply.Defined u i n) = true
-is_defined _ = false
 
 -- what an accepted definition of strong names finds: room within the limits, and no name taken
 pub record IsDefinable (m : Plain) (d : ℕ) (offers : List (NameId × SymFlags)) : Type 0 where
@@ -73,4 +68,5 @@ pub record SameNames (old new : List TableDylib) : Type 0 where
 pub record HasRoom {U : Type 0} (d count : ℕ) (t : Tables U) : Type 0 where
   pub units : vec_len t.units < vec_capacity t.units
   pub rows : vec_len t.rows + count ≤ vec_capacity t.rows
-  pub names : (x : TableDylib) → slice_get t.dylibs.items d ≡ Some x → count ≤ spare x.present
+  pub names : (x : TableDylib) → slice_get t.dylibs d ≡ Some x → count ≤ spare x.present
+  pub search : IsSparse (length t.rows.items + count) t.search

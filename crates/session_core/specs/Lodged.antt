@@ -50,6 +50,7 @@ pub record IsLodged {U : Type 0} (means : U → Meaning) (found : List (Option I
   pub trackers : new.trackers ≡ old.trackers
   pub taken : new.taken ≡ old.taken
   pub held : new.held ≡ old.held
+  pub search : new.search ≡ old.search
   pub claims : all_claimed found (meant means old) ≡ with_parts new.rows.items (map (unit_row means) new.units.items) new.jobs.items (meant means old)
   pub same : AreSameUnits means old.units.items new.units.items
   pub queries : new.queries.items ≡ old.queries.items ++ new_query old.entries found lev unit note ∷ []

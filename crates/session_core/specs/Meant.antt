@@ -16,7 +16,7 @@ unit_row means x = record { meaning = means x.unit; tracker = x.tracker; live = 
 abbrev pub meant : {U : Type 0} → (U → Meaning) → Tables U → Plain
 meant means t = record {
   entries = t.entries;
-  dylibs = map dylib_row t.dylibs.items;
+  dylibs = map dylib_row t.dylibs;
   trackers = t.trackers.items;
   rows = t.rows.items;
   units = map (unit_row means) t.units.items;

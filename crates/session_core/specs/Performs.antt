@@ -51,16 +51,18 @@ pub record HasOpen {U : Type 0} (means : U → Meaning) (h : List (Entry U)) (q 
   pub there : slice_get (state_of means h).queries q.0 ≡ Some query
   pub unsettled : IsOpen (plain_history means h) query
 
--- a collect is answered Open, without an entry and whether or not there is a place, exactly while its
--- query hasn't settled
+-- a collect is answered Open, without an entry and whether or not there is a place or memory, exactly
+-- while its query hasn't settled
 abbrev pub Collects : {U : Type 0} → (U → Meaning) → ℕ → List (Entry U) → List (Entry U) → SeatNo → QueryId → Result Reply Stop → Type 0
 Collects means jmax old new s q (Ok reply.Open) = (new ≡ old) × HasOpen means old q
 Collects means jmax old new s q (Err (JournalFull len)) = IsStopped means jmax old new s (event.Collect q) (JournalFull len) × (HasOpen means old q → ⊥)
+Collects means jmax old new s q (Err NoMemory) = (new ≡ old) × (HasOpen means old q → ⊥)
 Collects means jmax old new s q result = Performs means jmax old new s (event.Collect q) result
 
--- a take is answered Idle, without an entry and whether or not there is a place, exactly where no job
--- is listed
+-- a take is answered Idle, without an entry and whether or not there is a place or memory, exactly where
+-- no job is listed
 abbrev pub Takes : {U : Type 0} → (U → Meaning) → ℕ → List (Entry U) → List (Entry U) → SeatNo → Result Reply Stop → Type 0
 Takes means jmax old new s (Ok (reply.Idle held)) = (new ≡ old) × ((state_of means old).jobs ≡ []) × (held ≡ kept (state_of means old))
 Takes means jmax old new s (Err (JournalFull len)) = IsStopped means jmax old new s event.Take (JournalFull len) × ((state_of means old).jobs ≡ [] → ⊥)
+Takes means jmax old new s (Err NoMemory) = (new ≡ old) × ((state_of means old).jobs ≡ [] → ⊥)
 Takes means jmax old new s result = Performs means jmax old new s event.Take result

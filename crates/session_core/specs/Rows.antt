@@ -1,7 +1,8 @@
--- What each change does to a row, by name.
-use Rattle.std.specs.Prelude.{◌≡◌, ℕ, List, length, slice_get, Some, unwrap_or, if◌then◌else◌}
+-- What each change does to a row, and what a lookup tells of one, by name.
+use Rattle.std.specs.Prelude.{◌≡◌, ℕ, List, length, slice_get, Option, Some, option_map, unwrap_or, if◌then◌else◌}
+use Rattle.orc_ids.specs.declared.ids.InstId.{InstId}
 use Rattle.orc_ids.specs.declared.groups.Group.{Group}
-use Rattle.session_model.specs.Plain.{is_owned, phase_address}
+use Rattle.session_model.specs.Plain.{is_owned, phase_address, address_at}
 use Rattle.session_model.specs.Change.{deps_in}
 use Rattle.session_model.specs.declared.rows.InstRow.{InstRow}
 use Rattle.session_model.specs.declared.rows.Phase.TheVariants as phase
@@ -11,6 +12,10 @@ resolved_row u address r = record r { phase = if is_owned u r then phase.Resolve
 
 abbrev pub emitted_row : ℕ → List Group → ℕ → InstRow → InstRow
 emitted_row u groups i r = record r { phase = if is_owned u r then phase.Emitted (unwrap_or (phase_address r.phase) 0) (deps_in groups i) else r.phase }
+
+-- a matched instance with its address
+abbrev pub found_of : List InstRow → Option InstId → Option (InstId × ℕ)
+found_of rows o = option_map (λ i. (i, unwrap_or (address_at rows i.0) 0)) o
 
 -- the same rows, but for their phases
 pub record ArePhased (old new : List InstRow) : Type 0 where

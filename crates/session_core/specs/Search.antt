@@ -17,11 +17,11 @@ pub record IsIn (seen : List ℕ) (j : ℕ) : Type 0 where
 abbrev pub holds : List ℕ → List ℕ → ℕ → Bool
 holds place seen j = option_map_or (λ h. option_map_or (nat_eq j) (slice_get seen h) false) (slice_get place j) false
 
--- what was seen stands at its place; there is room to see every instance
+-- what was seen stands at its place; there is room to see so many instances, or more
 pub record IsSparse (n : ℕ) (s : Search) : Type 0 where
-  pub inside : length s.place.items ≡ n
-  pub numbered : n < 2 ^ 32
-  pub room : n ≤ vec_capacity s.seen
+  pub inside : n ≤ length s.place.items
+  pub numbered : length s.place.items < 2 ^ 32
+  pub room : length s.place.items ≤ vec_capacity s.seen
   pub known : (h j : ℕ) → slice_get s.seen.items h ≡ Some j → slice_get s.place.items j ≡ Some h
 
 -- one more was seen, if it wasn't before

@@ -1,5 +1,5 @@
 -- The parts of a lookup's answer, by name.
-use Rattle.std.specs.Prelude.{Bool, true, false, List, length, Option, None, if◌then◌else◌}
+use Rattle.std.specs.Prelude.{Bool, List, length, Option, None, if◌then◌else◌}
 use Rattle.std.specs.Option.{option_map_or}
 use Rattle.orc_ids.specs.declared.ids.InstId.{InstId}
 use Rattle.orc_ids.specs.declared.ids.QueryId.{QueryId}
@@ -32,16 +32,13 @@ abbrev pub first_missing : Plain → List OrderItem → List Wanted → Option R
 first_missing m order wanted = first_some (missing_of m order) wanted
 
 -- the query is lodged, and done where all that it matched is at its level
-abbrev pub lodged_answer : Plain → Level → List (Option InstId) → Reply
-lodged_answer m lev found =
+abbrev pub lodged_if : Plain → Bool → Reply
+lodged_if m all =
     let q : QueryId = record { 0 = length m.queries } in
-    if all_at m.rows lev found then Done q else Pending q
+    if all then Done q else Pending q
 
--- the lookup is lodged
-abbrev pub is_lodged : Reply → Bool
-is_lodged (Done q) = true
-is_lodged (Pending q) = true
-is_lodged _ = false
+abbrev pub lodged_answer : Plain → Level → List (Option InstId) → Reply
+lodged_answer m lev found = lodged_if m (all_at m.rows lev found)
 
 -- what looking a unit's externals up is answered
 abbrev pub link_answer : Plain → UnitRow → Reply

@@ -1,19 +1,17 @@
 -- The settling of the open queries, one by one.
-use Rattle.std.specs.Prelude.{◌≡◌, ℕ, ◌+◌, ◌<◌, ◌≤◌, Bool, false, List, [], ◌∷◌, length, slice_get, map, Option, Some, None, is_none, option_map, unwrap_or, if◌then◌else◌}
+use Rattle.std.specs.Prelude.{◌≡◌, ⊤, ℕ, ◌+◌, ◌<◌, ◌≤◌, Bool, true, false, List, [], ◌∷◌, length, slice_get, map, Option, Some, None, is_none, if◌then◌else◌}
 use Rattle.std.specs.Vec.{vec_capacity}
 use Rattle.std.specs.VecDeque.{deque_len, deque_capacity}
-use Rattle.orc_ids.specs.declared.ids.InstId.{InstId}
 use Rattle.session_model.specs.Meaning.{Meaning}
 use Rattle.std.specs.Option.{option_map_or}
 use Rattle.orc_ids.specs.declared.lookup.Level.TheVariants.{Ready}
 use Rattle.session_model.specs.Lists.{changed_at}
-use Rattle.session_model.specs.Plain.{Plain, UnitRow, address_at}
+use Rattle.session_model.specs.Plain.{Plain, UnitRow}
 use Rattle.session_model.specs.Query.{all_at}
 use Rattle.session_model.specs.Change.{waits_for, finish_listed, settled, settled_one}
 use Rattle.session_model.specs.declared.rows.InstRow.{InstRow}
 use Rattle.session_model.specs.declared.rows.Query.{Query}
 use Rattle.session_model.specs.declared.rows.UnitPhase.TheVariants as stage
-use Rattle.session_core.specs.declared.ready.Search.{Search}
 use Rattle.session_core.specs.declared.tables.QueryEnd.{QueryEnd}
 use Rattle.session_core.specs.declared.tables.OpenQuery.{OpenQuery}
 use Rattle.session_core.specs.declared.tables.Tables.{Tables}
@@ -51,24 +49,21 @@ open_at ends k = option_map_or is_none (slice_get ends k) false
 abbrev pub LinksOwn : Plain → Type 0
 LinksOwn m = (u : ℕ) (x : UnitRow) (k : ℕ) (q : Query) → slice_get m.units u ≡ Some x → x.phase ≡ stage.Waiting → x.query ≡ Some k → slice_get m.queries k ≡ Some q → q.unit ≡ Some u
 
--- whether the query is met can be told: there is memory for a search, or none is needed
-abbrev pub CanTell : List InstRow → Option Search → Query → Type 0
-CanTell rows (Some search) q = IsSparse (length rows) search
-CanTell rows None q = q.level ≡ Ready → all_at rows Ready q.matched ≡ false
+-- where no search is made, none is needed: the query hasn't become ready
+abbrev pub CanTell : List InstRow → Bool → Query → Type 0
+CanTell rows true q = ⊤
+CanTell rows false q = q.level ≡ Ready → all_at rows Ready q.matched ≡ false
 
--- a matched instance with its address
-abbrev pub found_of : List InstRow → Option InstId → Option (InstId × ℕ)
-found_of rows o = option_map (λ i. (i, unwrap_or (address_at rows i.0) 0)) o
-
--- what settling wants of the tables: each open query has room for its end and for its job, and
--- whether it is met can be told
-pub record CanSettle {U : Type 0} (means : U → Meaning) (t : Tables U) (search : Option Search) : Type 0 where
+-- what settling wants of the tables: each open query has room for its end and for its job, and a
+-- search has room for all instances, or needn't be made
+pub record CanSettle {U : Type 0} (means : U → Meaning) (t : Tables U) (searches : Bool) : Type 0 where
   pub ends : length t.ends.items ≡ length t.queries.items
   pub unsettled : map (λ (o : OpenQuery). o.query) t.unsettled.items ≡ open_numbers 0 t.ends.items
   pub rooms : (j : ℕ) (o : OpenQuery) (q : Query) → slice_get t.unsettled.items j ≡ Some o → slice_get t.queries.items o.query ≡ Some q → length q.matched ≤ vec_capacity o.room
   pub finishes : deque_len t.jobs + length t.unsettled.items ≤ deque_capacity t.jobs
   pub waits : WaitsOpen (meant means t) t.ends.items
-  pub tells : (k : ℕ) (q : Query) → slice_get t.queries.items k ≡ Some q → slice_get t.ends.items k ≡ Some None → CanTell t.rows.items search q
+  pub tells : (k : ℕ) (q : Query) → slice_get t.queries.items k ≡ Some q → slice_get t.ends.items k ≡ Some None → CanTell t.rows.items searches q
+  pub search : IsSparse (length t.rows.items) t.search
 
 -- the tables have settled: each unit that waits for a met query is linked, and the ends are noted
 pub record Settles {U : Type 0} (means : U → Meaning) (old new : Tables U) : Type 0 where
@@ -78,8 +73,9 @@ pub record Settles {U : Type 0} (means : U → Meaning) (old new : Tables U) : T
   pub rooms : (j : ℕ) (o : OpenQuery) (q : Query) → slice_get new.unsettled.items j ≡ Some o → slice_get new.queries.items o.query ≡ Some q → length q.matched ≤ vec_capacity o.room
   pub finishes : deque_len new.jobs + length new.unsettled.items ≤ deque_capacity new.jobs
   pub same : AreSameUnits means old.units.items new.units.items
-  pub dylibs : new.dylibs.items ≡ old.dylibs.items
+  pub dylibs : new.dylibs ≡ old.dylibs
   pub held : new.held ≡ old.held
+  pub search : IsSparse (length new.rows.items) new.search
 
 -- the open query of this number was looked at
 pub record SettlesAt {U : Type 0} (means : U → Meaning) (k : ℕ) (old new : Tables U) : Type 0 where
@@ -88,7 +84,7 @@ pub record SettlesAt {U : Type 0} (means : U → Meaning) (k : ℕ) (old new : T
   pub numbers : map (λ (o : OpenQuery). o.query) new.unsettled.items ≡ map (λ (o : OpenQuery). o.query) old.unsettled.items
   pub rooms : (i : ℕ) (o : OpenQuery) → slice_get new.unsettled.items i ≡ Some o → slice_get new.ends.items o.query ≡ Some None → slice_get old.unsettled.items i ≡ Some o
   pub same : AreSameUnits means old.units.items new.units.items
-  pub dylibs : new.dylibs.items ≡ old.dylibs.items
+  pub dylibs : new.dylibs ≡ old.dylibs
   pub held : new.held ≡ old.held
   pub jobs : deque_len new.jobs + length (open_numbers 0 new.ends.items) ≤ deque_len old.jobs + length (open_numbers 0 old.ends.items)
   pub room : deque_capacity new.jobs ≡ deque_capacity old.jobs

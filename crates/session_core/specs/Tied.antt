@@ -18,11 +18,12 @@ use Rattle.session_core.specs.declared.tables.TableUnit.{TableUnit}
 use Rattle.session_core.specs.declared.tables.Tables.{Tables}
 use Rattle.session_core.specs.Meant.{meant}
 use Rattle.session_core.specs.Ends.{open_numbers}
+use Rattle.session_core.specs.Search.{IsSparse}
 
 -- within a session's limits, so that its things can be numbered
 pub record IsSized {U : Type 0} (t : Tables U) : Type 0 where
   pub entries : t.entries < 2 ^ 32
-  pub dylibs : length t.dylibs.items ≤ 64
+  pub dylibs : length t.dylibs ≤ 64
   pub trackers : length t.trackers.items ≤ 65536
   pub units : length t.units.items ≤ 65536
   pub rows : length t.rows.items ≤ 262144
@@ -60,10 +61,10 @@ pub record IsTied {U : Type 0} (means : U → Meaning) (t : Tables U) : Type 0 w
   pub owned : (u : ℕ) (x : TableUnit U) → slice_get t.units.items u ≡ Some x → length (own_rows u 0 t.rows.items) ≡ count_by (λ (b : Bool). b) x.live
   pub rows : (i : ℕ) (r : InstRow) → slice_get t.rows.items i ≡ Some r → RowFits means t.units.items r
   -- each instance is of a dylib that exists, and of a strong definition: none is ever replaced
-  pub homes : (i : ℕ) (r : InstRow) → slice_get t.rows.items i ≡ Some r → r.dylib.0 < length t.dylibs.items
+  pub homes : (i : ℕ) (r : InstRow) → slice_get t.rows.items i ≡ Some r → r.dylib.0 < length t.dylibs
   pub strong : (i : ℕ) (r : InstRow) → slice_get t.rows.items i ≡ Some r → is_strong r.flags ≡ true
   -- a dylib's table has its present names
-  pub named : (d : ℕ) (x : TableDylib) → slice_get t.dylibs.items d ≡ Some x → (name : ℕ) → get nat_eq x.present name ≡ present_row t.rows.items d name
+  pub named : (d : ℕ) (x : TableDylib) → slice_get t.dylibs d ≡ Some x → (name : ℕ) → get nat_eq x.present name ≡ present_row t.rows.items d name
   pub held : t.held ≡ kept (meant means t)
   -- the open queries are those without an end; none of them is met, and each has room for its end
   pub ends : length t.ends.items ≡ length t.queries.items
@@ -73,3 +74,5 @@ pub record IsTied {U : Type 0} (means : U → Meaning) (t : Tables U) : Type 0 w
   -- there is room for the job Finish of each open query
   pub finishes : deque_len t.jobs + length t.unsettled.items ≤ deque_capacity t.jobs
   pub waits : WaitsOpen (meant means t) t.ends.items
+  -- a search has room for all instances
+  pub search : IsSparse (length t.rows.items) t.search

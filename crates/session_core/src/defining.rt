@@ -153,7 +153,7 @@ impl<U: UnitKind> Tables<U> {
         requires tied { IsTied U.meaning self.now }
         ensures { result ≡ answer_define (meant U.meaning self.now) d t (U.meaning unit.now) }
     {
-        if (d.0 as usize) >= self.dylibs.len() {
+        if (d.0 as usize) >= self.dylibs.as_slice().len() {
             return Reply::NoDylib(d);
         }
         if !tracker_fits(&self.trackers, d, t) {

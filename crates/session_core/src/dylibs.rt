@@ -1,6 +1,5 @@
-ghost use Rattle.std.specs.Prelude.{◌≡◌, ℕ, ◌+◌, ◌<◌, ◌≤◌, ◌^◌, List, [], ◌∷◌, length, map, nat_eq, ◌==◌, None, IfOk, IfSome, OnOk, OnErr};
+ghost use Rattle.std.specs.Prelude.{◌≡◌, ℕ, ◌+◌, ◌<◌, ◌^◌, nat_eq, None, IfOk, OnOk, OnErr};
 ghost use Rattle.std.specs.HashMap.{get};
-ghost use Rattle.std.specs.List.{position_from};
 ghost use Rattle.orc_ids.specs.declared.ids.DylibId.{DylibId};
 ghost use Rattle.orc_ids.specs.declared.ids.TrackId.{TrackId};
 ghost use Rattle.session_model.specs.Change.{MakeDylib, MakeTracker};
@@ -22,19 +21,6 @@ const MAX_DYLIBS: usize = 64;
 
 /// How many trackers a session has at most.
 const MAX_TRACKERS: usize = 65_536;
-
-/// The number of the dylib of this name.
-fn dylib_named(dylibs: &[TableDylib], name: NameId) -> Option<usize>
-    ensures first { result ≡ position_from (λ d. d.name == name.0) 0 (map dylib_row dylibs.now) }
-    ensures within { IfSome result (λ d. d < length dylibs.now) }
-{
-    for (k, d) in dylibs.iter().enumerate() {
-        if d.name == name.0 {
-            return Some(k);
-        }
-    }
-    None
-}
 
 /// A dylib of this name, which searches itself alone.
 fn new_dylib(alloc: Global, d: DylibId, name: NameId) -> Result<TableDylib, AllocError>
@@ -59,13 +45,13 @@ impl<U: UnitKind> Tables<U> {
         requires { IsTied U.meaning self.now }
         ensures { result ≡ answer_dylib (meant U.meaning self.now) name }
     {
-        if let Some(d) = dylib_named(&self.dylibs, name) {
-            return Reply::NameTaken(DylibId(d as u32));
+        if let Some(d) = self.dylibs.number_of(name) {
+            return Reply::NameTaken(DylibId(d));
         }
-        if self.dylibs.len() >= MAX_DYLIBS {
+        if self.dylibs.as_slice().len() >= MAX_DYLIBS {
             return Reply::TooMany;
         }
-        Reply::Made(DylibId(self.dylibs.len() as u32))
+        Reply::Made(DylibId(self.dylibs.as_slice().len() as u32))
     }
 
     /// What making a tracker is answered.
@@ -73,7 +59,7 @@ impl<U: UnitKind> Tables<U> {
         requires { IsTied U.meaning self.now }
         ensures { result ≡ answer_tracker (meant U.meaning self.now) d }
     {
-        if (d.0 as usize) >= self.dylibs.len() {
+        if (d.0 as usize) >= self.dylibs.as_slice().len() {
             return Reply::NoDylib(d);
         }
         if self.trackers.len() >= MAX_TRACKERS {
@@ -91,7 +77,11 @@ impl<U: UnitKind> Tables<U> {
         ensures moves { OnOk result (Moves U.meaning (MakeDylib name.0) self.old self.new) }
         ensures err { OnErr result (IsSame U.meaning self.old self.new) }
     {
-        let dylib = new_dylib(self.alloc, DylibId(self.dylibs.len() as u32), name)?;
+        let dylib = new_dylib(
+            self.alloc,
+            DylibId(self.dylibs.as_slice().len() as u32),
+            name,
+        )?;
         self.dylibs.push(dylib)?;
         self.entries += 1;
         Ok(())

@@ -1,3 +1,4 @@
+ghost use Rattle.std.specs.List.{list_any};
 ghost use Rattle.std.specs.Prelude.{◌≡◌, ◌<◌, ◌≤◌, ◌+◌, ◌^◌, ◌==◌, ℕ, List, length, slice_get, Option, Some, None, IfOk, OnOk, OnErr};
 ghost use Rattle.orc_ids.specs.declared.ids.InstId.{InstId};
 ghost use Rattle.orc_ids.specs.declared.groups.Group.{Group};
@@ -12,17 +13,16 @@ ghost use Rattle.session_core.specs.Replies.{emit_reply};
 ghost use Rattle.session_core.specs.Rows.{emitted_row};
 ghost use Rattle.session_core.specs.Emits.{group_deps, IsFilled, HasDeps, row_with};
 
-use crate::ready::Search;
-use crate::settling::address_of;
+use crate::rows::address_of;
 use crate::tables::Tables;
 use crate::units::end_in;
-use orc_ids::{Group, InstId, InstList, Items, SeatNo, UnitId};
-use session_model::{InstRow, Phase, UnitKind};
+use orc_ids::{Group, InstId, Items, SeatNo, UnitId};
+use session_model::{DepList, InstRow, Phase, UnitKind};
 use std::alloc::{AllocError, Global};
 use std::mem::replace;
 
 /// For each of a unit's instances the dependencies of its group, once they are known.
-type DepsTable = Vec<Option<InstList>>;
+type DepsTable = Vec<Option<DepList>>;
 
 fn empty_table(alloc: Global, count: u32) -> Result<DepsTable, AllocError>
     ensures count { IfOk result (λ table. length table.items ≡ count) }
@@ -35,30 +35,52 @@ fn empty_table(alloc: Global, count: u32) -> Result<DepsTable, AllocError>
     Ok(table)
 }
 
-fn put_deps(alloc: Global, place: &mut Option<InstList>, deps: &[InstId]) -> Result<(), AllocError>
+fn put_deps(place: &mut Option<DepList>, deps: &DepList) -> Result<(), AllocError>
     ensures { OnOk result (place.new ≡ or_else place.old (Some deps.now)) }
 {
     if place.is_none() {
-        *place = Some(Items::from_vec(deps.to_vec(alloc)?));
+        *place = Some(deps.share()?);
     }
     Ok(())
 }
 
 /// The member has these dependencies, unless a group before had it.
 fn put_member(
-    alloc: Global,
     table: &mut DepsTable,
     first: u32,
     member: InstId,
-    deps: &[InstId],
+    deps: &DepList,
 ) -> Result<(), AllocError>
     ensures { OnOk result (IsFilled (λ j. only_if (member.0 == first + j) deps.now) table.old.items table.new.items) }
 {
     if member.0 >= first {
         let at = (member.0 - first) as usize;
         if at < table.as_slice().len() {
-            put_deps(alloc, &mut table[at], deps)?;
+            put_deps(&mut table[at], deps)?;
         }
+    }
+    Ok(())
+}
+
+/// The group's dependencies, in one list for all its members.
+fn shared_deps(alloc: Global, group: &Group) -> Result<DepList, AllocError>
+    ensures { IfOk result (λ deps. deps ≡ group.now.deps) }
+{
+    let deps = group.deps.as_slice().to_vec(alloc)?;
+    DepList::from_items(alloc, Items::from_vec(deps))
+}
+
+/// These members have these dependencies, unless a group before had them.
+fn put_members(
+    table: &mut DepsTable,
+    first: u32,
+    members: &[InstId],
+    deps: &DepList,
+) -> Result<(), AllocError>
+    ensures { OnOk result (IsFilled (λ j. only_if (list_any (λ (m : InstId). m.0 == first + j) members.now) deps.now) table.old.items table.new.items) }
+{
+    for member in members {
+        put_member(table, first, *member, deps)?;
     }
     Ok(())
 }
@@ -72,10 +94,8 @@ fn put_group(
 ) -> Result<(), AllocError>
     ensures { OnOk result (IsFilled (λ j. group_deps (first + j) group.now) table.old.items table.new.items) }
 {
-    for member in group.members.as_slice() {
-        put_member(alloc, table, first, *member, group.deps.as_slice())?;
-    }
-    Ok(())
+    let deps = shared_deps(alloc, group)?;
+    put_members(table, first, group.members.as_slice(), &deps)
 }
 
 /// The dependencies of the unit's instances, which stand from `first` on. It goes over the groups
@@ -95,21 +115,21 @@ fn deps_table(
     Ok(table)
 }
 
-fn emit_row(alloc: Global, row: &mut InstRow, u: UnitId, deps: Option<InstList>)
+fn emit_row(row: &mut InstRow, u: UnitId, deps: Option<DepList>)
     ensures { row.new ≡ row_with u.0 deps row.old }
 {
     if row.present && row.unit.0 == u.0 {
         let address = address_of(&row.phase).unwrap_or(0);
         let deps = match deps {
             Some(deps) => deps,
-            None => Items::new(alloc),
+            None => DepList::new(),
         };
         row.phase = Phase::Emitted(address, deps);
     }
 }
 
 /// Each of the unit's instances is Emitted, with its group's dependencies.
-fn emit_rows(alloc: Global, rows: &mut Vec<InstRow>, u: UnitId, first: u32, table: DepsTable)
+fn emit_rows(rows: &mut Vec<InstRow>, u: UnitId, first: u32, table: DepsTable)
     requires span { (count : ℕ) × IsSpan rows.old.items u.0 first count × (length table.items ≡ count) }
     ensures { (groups : List Group) → HasDeps groups first (length table.items) table.items → rows.new.items ≡ numbered (emitted_row u.0 groups) 0 rows.old.items }
 {
@@ -117,7 +137,7 @@ fn emit_rows(alloc: Global, rows: &mut Vec<InstRow>, u: UnitId, first: u32, tabl
     let first = first as usize;
     for j in 0..table.as_slice().len() {
         let deps = replace(&mut table[j], None);
-        emit_row(alloc, &mut rows[first + j], u, deps);
+        emit_row(&mut rows[first + j], u, deps);
     }
 }
 
@@ -134,13 +154,11 @@ impl<U: UnitKind> Tables<U> {
         let x = &self.units[u.0 as usize];
         let first = x.first;
         let table = deps_table(self.alloc, groups, first, x.count)?;
-        let search = Search::new(self.alloc, self.rows.len())?;
-        emit_rows(self.alloc, &mut self.rows, u, first, table);
+        emit_rows(&mut self.rows, u, first, table);
         end_in(&mut self.units, u);
         self.held -= 1;
         self.entries += 1;
-        let mut search = Some(search);
-        self.settle(&mut search);
+        self.settle(true);
         Ok(())
     }
 }

@@ -1,10 +1,9 @@
 //! A definition of strong names is entered: the unit, its instances and their names.
 
-ghost use Rattle.std.specs.Prelude.{◌≡◌, ◌<◌, ◌≤◌, ◌+◌, ◌++◌, ◌^◌, ℕ, length, map, nat_eq, slice_get, Some, true, IfOk, OnOk, OnErr, IfErr};
-ghost use Rattle.std.specs.HashMap.{get, spare};
+ghost use Rattle.std.specs.Prelude.{◌≡◌, ◌<◌, ◌≤◌, ◌+◌, ◌++◌, ◌^◌, ℕ, length, map, true, IfOk, OnOk, OnErr, IfErr};
 ghost use Rattle.std.specs.Vec.{vec_len, vec_capacity};
-ghost use Rattle.session_core.specs.Defines.{offered_row, offered_rows, AllStrong, HasNames, HasRoom, IsDefinable, NamesPut, SameNames};
-ghost use Rattle.session_core.specs.Meant.{meant, dylib_row};
+ghost use Rattle.session_core.specs.Defines.{offered_row, offered_rows, AllStrong, HasRoom, IsDefinable};
+ghost use Rattle.session_core.specs.Meant.{meant};
 ghost use Rattle.session_core.specs.Strong.{AreStrong};
 ghost use Rattle.session_model.specs.declared.entry.Reply.TheVariants as reply;
 ghost use Rattle.orc_ids.specs.declared.ids.InstId.{InstId};
@@ -13,10 +12,8 @@ ghost use Rattle.session_core.specs.Moves.{IsReached, IsSame, Moves};
 ghost use Rattle.session_core.specs.Tied.{IsTied};
 ghost use Rattle.session_model.specs.Answer.{answer_define};
 ghost use Rattle.session_model.specs.Change.{Define};
-ghost use Rattle.session_model.specs.Meaning.{IsLawful};
-ghost use Rattle.session_core.specs.declared.tables.TableDylib.{TableDylib};
 
-use crate::tables::{TableDylib, TableUnit, Tables};
+use crate::tables::{TableUnit, Tables};
 use orc_ids::{DylibId, Items, NameId, SymFlags, TrackId, UnitId};
 use session_model::{InstRow, Phase, UnitKind, UnitPhase};
 use std::alloc::{AllocError, Global};
@@ -29,62 +26,6 @@ fn all_live<U: UnitKind>(alloc: Global, unit: &U) -> Result<Vec<bool>, AllocErro
     let mut live = Vec::new(alloc);
     live.resize(unit.count() as usize, true)?;
     Ok(live)
-}
-
-/// Room for so many more names in a dylib's table.
-fn room_for_names(x: &mut TableDylib, more: usize) -> Result<(), AllocError>
-    ensures row { dylib_row x.new ≡ dylib_row x.old }
-    ensures names { (name : ℕ) → get nat_eq x.new.present name ≡ get nat_eq x.old.present name }
-    ensures ok { OnOk result (more ≤ spare x.new.present) }
-{
-    x.present.reserve(more)
-}
-
-/// The name stands for this instance in a dylib's table, where there is room for it.
-fn put_name(x: &mut TableDylib, name: NameId, number: u32)
-    requires { 0 < spare x.old.present }
-    ensures row { dylib_row x.new ≡ dylib_row x.old }
-    ensures its { get nat_eq x.new.present name.0 ≡ Some number }
-    ensures others { (other : ℕ) → (other ≡ name.0 → ⊥) → get nat_eq x.new.present other ≡ get nat_eq x.old.present other }
-    ensures spare { spare x.old.present ≤ spare x.new.present + 1 }
-{
-    match x.present.insert(name.0, number) {
-        Ok(_) => {}
-        Err(_) => {}
-    }
-}
-
-/// The unit's names stand for the instances from `first` on.
-fn put_names<U: UnitKind>(x: &mut TableDylib, unit: &U, first: u32)
-    requires room { length (U.meaning unit.now).offers ≤ spare x.old.present }
-    requires numbered { first + length (U.meaning unit.now).offers < 2 ^ 32 }
-    requires lawful { IsLawful (U.meaning unit.now) }
-    ensures { HasNames first (U.meaning unit.now).offers x.old x.new }
-{
-    for k in 0..unit.count() {
-        let (name, _) = unit.offer(k);
-        put_name(x, name, first + k);
-    }
-}
-
-/// Room for so many more names in the dylib of this number.
-fn room_in_dylib(dylibs: &mut Vec<TableDylib>, d: DylibId, more: usize) -> Result<(), AllocError>
-    requires { d.0 < length dylibs.old.items }
-    ensures same { SameNames dylibs.old.items dylibs.new.items }
-    ensures ok { OnOk result ((x : TableDylib) → slice_get dylibs.new.items d.0 ≡ Some x → more ≤ spare x.present) }
-{
-    room_for_names(&mut dylibs[d.0 as usize], more)
-}
-
-/// The unit's names in the dylib of this number stand for the instances from `first` on.
-fn put_names_in<U: UnitKind>(dylibs: &mut Vec<TableDylib>, d: DylibId, unit: &U, first: u32)
-    requires there { d.0 < length dylibs.old.items }
-    requires room { (x : TableDylib) → slice_get dylibs.old.items d.0 ≡ Some x → length (U.meaning unit.now).offers ≤ spare x.present }
-    requires numbered { first + length (U.meaning unit.now).offers < 2 ^ 32 }
-    requires lawful { IsLawful (U.meaning unit.now) }
-    ensures { NamesPut d.0 first (U.meaning unit.now).offers dylibs.old.items dylibs.new.items }
-{
-    put_names(&mut dylibs[d.0 as usize], unit, first);
 }
 
 fn new_row(d: DylibId, u: UnitId, k: u32, name: NameId, flags: SymFlags) -> InstRow
@@ -119,7 +60,8 @@ fn room_to_define<U: UnitKind>(
     unit: &U,
 ) -> Result<Vec<bool>, AllocError>
     requires tied { IsTied U.meaning t.old }
-    requires there { d.0 < length t.old.dylibs.items }
+    requires there { d.0 < length t.old.dylibs }
+    requires few { length t.old.rows.items + length (U.meaning unit.now).offers ≤ 262144 }
     ensures same { IsSame U.meaning t.old t.new }
     ensures room { OnOk result (HasRoom d.0 (length (U.meaning unit.now).offers) t.new) }
     ensures live { IfOk result (λ live. live.items ≡ map (λ o. true) (U.meaning unit.now).offers) }
@@ -128,7 +70,8 @@ fn room_to_define<U: UnitKind>(
     let live = all_live(t.alloc, unit)?;
     t.units.reserve(1)?;
     t.rows.reserve(offers)?;
-    room_in_dylib(&mut t.dylibs, d, offers)?;
+    t.search.make_room(t.rows.as_slice().len() + offers)?;
+    t.dylibs.make_room(d, offers)?;
     Ok(live)
 }
 
@@ -147,7 +90,7 @@ fn enter<U: UnitKind>(t: &mut Tables<U>, d: DylibId, track: TrackId, unit: U, li
     let u = UnitId(t.units.as_slice().len() as u32);
     let first = t.rows.as_slice().len() as u32;
     let count = unit.count();
-    put_names_in(&mut t.dylibs, d, &unit, first);
+    t.dylibs.put_names(d, &unit, first);
     add_rows(&mut t.rows, &unit, d, u);
     t.units.push_reserved(TableUnit {
         unit,

@@ -14,6 +14,7 @@
 mod calls;
 mod claims;
 mod defining;
+mod dylib_table;
 mod dylibs;
 mod emitting;
 mod entering;
@@ -30,6 +31,7 @@ mod playing;
 mod ready;
 mod replies;
 mod resolving;
+mod rows;
 mod session;
 mod settling;
 mod steps;

@@ -10,6 +10,7 @@ ghost use Rattle.session_model.specs.Plain.{UnitRow};
 ghost use Rattle.session_model.specs.Answer.{is_stage};
 ghost use Rattle.session_model.specs.declared.rows.UnitPhase.TheVariants as stage;
 ghost use Rattle.session_model.specs.Change.{Link, link_order, matched};
+ghost use Rattle.session_core.specs.Kinds.{is_lodged};
 ghost use Rattle.session_core.specs.Links.{link_unit_reply, linked_units, finish_jobs, IsHeldUnit};
 ghost use Rattle.session_model.specs.declared.entry.Reply.TheVariants as reply;
 ghost use Rattle.orc_ids.specs.declared.ids.QueryId.{QueryId};
@@ -17,13 +18,14 @@ ghost use Rattle.session_core.specs.Lodged.{fresh_end, waiting_now, CanLodge};
 ghost use Rattle.session_core.specs.Meant.{meant, unit_row, dylib_row};
 ghost use Rattle.session_core.specs.Moves.{IsReached, IsSame, Moves};
 ghost use Rattle.session_core.specs.Replies.{link_reply};
-ghost use Rattle.session_core.specs.Seeking.{is_lodged, link_answer};
+ghost use Rattle.session_core.specs.Seeking.{link_answer};
 ghost use Rattle.session_core.specs.Tied.{IsTied};
 ghost use Rattle.session_core.specs.Units.{IsSameUnit, AreSameUnits};
 
 use crate::calls::turn_away;
 use crate::lodging::{end_at_once, lodge, room_to_lodge};
-use crate::lookups::{lookup_reply, match_all};
+use crate::lookups::{lodged_reply, match_all, refused_reply};
+use crate::rows::all_resolved;
 use crate::tables::{TableDylib, TableUnit, Tables};
 use crate::units::link_in;
 use orc_ids::{InstId, Level, OrderItem, SeatNo, UnitId, Wanted};
@@ -53,7 +55,7 @@ fn order_of<U: UnitKind>(t: &Tables<U>, x: &TableUnit<U>) -> Result<Vec<OrderIte
 {
     match t.trackers.get(x.tracker as usize) {
         None => Ok(Vec::new(t.alloc)),
-        Some(tracker) => order_at(t.alloc, &t.dylibs, tracker.dylib),
+        Some(tracker) => order_at(t.alloc, t.dylibs.as_slice(), tracker.dylib),
     }
 }
 
@@ -81,7 +83,11 @@ fn external_reply<U: UnitKind>(t: &Tables<U>, x: &TableUnit<U>) -> Result<Reply,
 {
     let order = order_of(t, x)?;
     let wanted = externals_of(t.alloc, &x.unit, x.live.as_slice())?;
-    lookup_reply(t, &order, &wanted, Level::Resolved)
+    let found = match_all(t, &order, &wanted)?;
+    if let Some(reply) = refused_reply(t, &order, &wanted, &found) {
+        return Ok(reply);
+    }
+    Ok(lodged_reply(t, all_resolved(&t.rows, &found)))
 }
 
 fn unit_reply<U: UnitKind>(
@@ -202,7 +208,8 @@ impl<U: UnitKind> Tables<U> {
         ensures err { OnErr result (IsSame U.meaning self.old self.new) }
     {
         let found = match_externals(self, &self.units[u.0 as usize])?;
-        let end = end_at_once(self.alloc, &self.rows, Level::Resolved, &found)?;
+        let all = all_resolved(&self.rows, &found);
+        let end = end_at_once(self.alloc, &self.rows, all, &found)?;
         let room = Vec::with_capacity(self.alloc, found.len())?;
         room_to_lodge(self, found.len())?;
         lodge_link(self, u, found, end, room);

@@ -1,9 +1,8 @@
 //! Lodging a query: its memory first, then nothing can fail.
 
-ghost use Rattle.std.specs.Prelude.{◌≡◌, ℕ, ◌<◌, ◌≤◌, ◌+◌, ◌++◌, ◌∷◌, ◌^◌, ◌⊎◌, [], Option, Some, None, length, map, slice_get, option_map, unwrap_or, IfOk, OnOk, OnErr};
+ghost use Rattle.std.specs.Prelude.{◌≡◌, ℕ, ◌<◌, ◌≤◌, ◌+◌, ◌++◌, ◌∷◌, ◌^◌, ◌⊎◌, [], Option, Some, None, length, IfOk, OnOk, OnErr};
 ghost use Rattle.std.specs.Vec.{vec_len, vec_capacity};
-ghost use Rattle.session_model.specs.Plain.{address_at};
-ghost use Rattle.session_model.specs.Query.{addresses};
+ghost use Rattle.session_model.specs.Query.{addresses, all_at};
 ghost use Rattle.session_model.specs.Change.{Ask};
 ghost use Rattle.session_model.specs.Answer.{answer_ask};
 ghost use Rattle.session_core.specs.Lodged.{fresh_end, end_at, still_open, CanLodge, IsLodged};
@@ -11,37 +10,16 @@ ghost use Rattle.session_core.specs.Meant.{meant};
 ghost use Rattle.session_core.specs.Moves.{IsReached, IsSame, Moves};
 ghost use Rattle.session_model.specs.declared.entry.Reply.TheVariants as reply;
 ghost use Rattle.orc_ids.specs.declared.ids.QueryId.{QueryId};
+ghost use Rattle.orc_ids.specs.declared.lookup.Level.{Level};
 ghost use Rattle.session_core.specs.Tied.{IsTied};
 
 use crate::claims::claim_all;
-use crate::lookups::{all_are_at, match_all};
+use crate::lookups::match_all;
+use crate::rows::{all_are_at, found_at};
 use crate::tables::{OpenQuery, QueryEnd, Tables};
 use orc_ids::{InstId, Items, Level, OrderItem, Wanted};
-use session_model::{Ending, InstRow, Matches, Phase, Query, UnitKind};
+use session_model::{Ending, InstRow, Matches, Query, UnitKind};
 use std::alloc::{AllocError, Global};
-
-/// The instance's address, or 0 where it has none.
-fn address_or_zero(rows: &[InstRow], i: InstId) -> u64
-    ensures { result ≡ unwrap_or (address_at rows.now i.0) 0 }
-{
-    match rows.get(i.0 as usize) {
-        Some(row) => match row.phase {
-            Phase::Resolved(address) => address,
-            Phase::Emitted(address, _) => address,
-            _ => 0,
-        },
-        None => 0,
-    }
-}
-
-fn addressed(rows: &[InstRow], o: Option<InstId>) -> Option<(InstId, u64)>
-    ensures { result ≡ option_map (λ i. (i, unwrap_or (address_at rows.now i.0) 0)) o }
-{
-    match o {
-        Some(i) => Some((i, address_or_zero(rows, i))),
-        None => None,
-    }
-}
 
 /// Each matched instance with its address.
 fn addresses_of(
@@ -53,7 +31,7 @@ fn addresses_of(
 {
     let mut matches = Vec::new(alloc);
     for o in found {
-        matches.push(addressed(rows, *o))?;
+        matches.push(found_at(rows, *o))?;
     }
     Ok(Items::from_vec(matches))
 }
@@ -62,13 +40,12 @@ fn addresses_of(
 pub fn end_at_once(
     alloc: Global,
     rows: &[InstRow],
-    level: Level,
+    all: bool,
     found: &[Option<InstId>],
 ) -> Result<Option<Ending>, AllocError>
-    requires { length rows.now < 2 ^ 32 }
-    ensures { IfOk result (λ end. end ≡ fresh_end rows.now level found.now) }
+    ensures { (lev : Level) → all ≡ all_at rows.now lev found.now → IfOk result (λ end. end ≡ fresh_end rows.now lev found.now) }
 {
-    if all_are_at(alloc, rows, level, found)? {
+    if all {
         Ok(Some(Ending::Found(addresses_of(alloc, rows, found)?)))
     } else {
         Ok(None)
@@ -165,7 +142,8 @@ impl<U: UnitKind> Tables<U> {
         ensures err { OnErr result (IsSame U.meaning self.old self.new) }
     {
         let found = match_all(self, order, wanted)?;
-        let end = end_at_once(self.alloc, &self.rows, level, &found)?;
+        let all = all_are_at(&self.rows, &mut self.search, level, &found);
+        let end = end_at_once(self.alloc, &self.rows, all, &found)?;
         let room = Vec::with_capacity(self.alloc, found.len())?;
         room_to_lodge(self, found.len())?;
         lodge(self, found, level, None, note, end, room);

@@ -38,7 +38,7 @@ impl<U: UnitKind> Tables<U> {
         requires tied { IsTied U.meaning self.now }
         ensures { result ≡ present_row self.now.rows.items d.0 name.0 }
     {
-        match self.dylibs.get(d.0 as usize) {
+        match self.dylibs.as_slice().get(d.0 as usize) {
             Some(x) => x.present.get(&name.0).copied(),
             None => None,
         }

@@ -1,17 +1,14 @@
-ghost use Rattle.std.specs.Prelude.{◌≡◌, ◌<◌, ◌≤◌, ◌^◌, ℕ, length, slice_get, get_or, Some, IfOk, IsTrue, true, false, Contains};
+ghost use Rattle.std.specs.Prelude.{◌≡◌, ◌<◌, ◌≤◌, ◌^◌, ℕ, length, slice_get, get_or, Some, OnOk, IsTrue, true, false, Contains};
 ghost use Rattle.std.specs.Bool.{OnTrue, OnFalse};
 ghost use Rattle.std.specs.Option.{option_map_or};
 ghost use Rattle.orc_ids.specs.declared.lookup.Level.TheVariants.{Ready};
 ghost use Rattle.session_model.specs.Plain.{phase_deps, emitted_at};
-ghost use Rattle.session_model.specs.Reach.{Reaches, is_ready, deps_at};
+ghost use Rattle.session_model.specs.Reach.{Reaches, deps_at};
 ghost use Rattle.session_model.specs.Query.{all_at};
-ghost use Rattle.session_core.specs.Meant.{meant};
-ghost use Rattle.session_core.specs.Tied.{IsTied};
 ghost use Rattle.session_core.specs.Search.{holds, IsIn, IsSparse, Added, AddedRoot, Visited, IsRoot, IsDep, Refutes, Explored};
 
-use crate::tables::Tables;
 use orc_ids::InstId;
-use session_model::{InstRow, Phase, UnitKind};
+use session_model::{InstRow, Phase};
 use std::alloc::{AllocError, Global};
 
 /// The memory of a search: what it has come to, in order, and the place of each in that list.
@@ -24,17 +21,29 @@ pub struct Search {
 }
 
 impl Search {
-    /// Room for searches among so many instances.
-    pub fn new(alloc: Global, count: usize) -> Result<Search, AllocError>
-        requires { count < 2 ^ 32 }
-        ensures { IfOk result (λ s. IsSparse count s) }
+    /// Room for a search among no instances; takes no memory.
+    pub fn new(alloc: Global) -> Search
+        ensures { IsSparse 0 result }
     {
-        let mut place = Vec::new(alloc);
-        place.resize(count, 0)?;
-        Ok(Search {
-            place,
-            seen: Vec::with_capacity(alloc, count)?,
-        })
+        Search {
+            place: Vec::new(alloc),
+            seen: Vec::new(alloc),
+        }
+    }
+
+    /// Room for searches among so many instances. What there was room for, there is room for still.
+    pub fn make_room(&mut self, count: usize) -> Result<(), AllocError>
+        requires sparse { IsSparse 0 self.old }
+        requires numbered { count < 2 ^ 32 }
+        ensures kept { (n : ℕ) → IsSparse n self.old → IsSparse n self.new }
+        ensures room { OnOk result (IsSparse count self.new) }
+    {
+        if self.place.as_slice().len() < count {
+            self.seen.clear();
+            self.seen.reserve(count)?;
+            self.place.resize(count, 0)?;
+        }
+        Ok(())
     }
 
     /// Whether the search has come to the instance.
@@ -187,36 +196,5 @@ impl Search {
     {
         self.seen.clear();
         visit_roots(rows, self, roots) && explore(rows, self, roots)
-    }
-}
-
-/// Whether each matched instance is ready.
-pub fn all_ready(
-    alloc: Global,
-    rows: &[InstRow],
-    roots: &[Option<InstId>],
-) -> Result<bool, AllocError>
-    requires { length rows.now < 2 ^ 32 }
-    ensures { IfOk result (λ b. b ≡ all_at rows.now Ready roots.now) }
-{
-    let mut search = Search::new(alloc, rows.len())?;
-    Ok(search.are_ready(rows, roots))
-}
-
-impl<U: UnitKind> Tables<U> {
-    /// Whether the instance is ready.
-    pub fn is_ready(&self, i: InstId) -> Result<bool, AllocError>
-        requires tied { IsTied U.meaning self.now }
-        ensures { IfOk result (λ b. b ≡ is_ready (meant U.meaning self.now).rows i.0) }
-    {
-        all_ready(self.alloc, &self.rows, &[Some(i)])
-    }
-
-    /// Whether each matched instance is ready: one search, whatever their number.
-    pub fn all_ready(&self, roots: &[Option<InstId>]) -> Result<bool, AllocError>
-        requires tied { IsTied U.meaning self.now }
-        ensures { IfOk result (λ b. b ≡ all_at (meant U.meaning self.now).rows Ready roots.now) }
-    {
-        all_ready(self.alloc, &self.rows, roots)
     }
 }

@@ -1,6 +1,7 @@
-ghost use Rattle.std.specs.Prelude.{◌≡◌, IfOk, Some};
+ghost use Rattle.std.specs.Prelude.{◌≡◌, false, IfOk, OnErr, Some};
 ghost use Rattle.session_model.specs.declared.entry.Reply.TheVariants as reply;
 ghost use Rattle.session_core.specs.Replies.{end_reply, collect_reply};
+ghost use Rattle.session_core.specs.Kinds.{is_unsettled};
 ghost use Rattle.session_core.specs.Tied.{IsTied};
 
 use crate::tables::{QueryEnd, Tables};
@@ -94,7 +95,8 @@ impl<U: UnitKind> Tables<U> {
     /// What is answered of a query: its end, or that it is open, or that there is none.
     pub fn reply_collect(&self, q: QueryId) -> Result<Reply, AllocError>
         requires { IsTied U.meaning self.now }
-        ensures { IfOk result (λ r. r ≡ collect_reply self.now.ends.items q) }
+        ensures reply { IfOk result (λ r. r ≡ collect_reply self.now.ends.items q) }
+        ensures settled { OnErr result (is_unsettled (collect_reply self.now.ends.items q) ≡ false) }
     {
         match self.ends.get(q.0 as usize) {
             None => Ok(Reply::Unknown(q)),

@@ -47,7 +47,6 @@ impl<U: UnitKind> Tables<U> {
         resolve_rows(&mut self.rows, u, &self.units[u.0 as usize]);
         resolve_in(&mut self.units, u);
         self.entries += 1;
-        let mut search = None;
-        self.settle(&mut search);
+        self.settle(false);
     }
 }

@@ -270,8 +270,8 @@ impl<U: UnitKind, const JMAX: usize> Session<U, JMAX> {
         }
     }
 
-    /// Hands out the oldest job, and its unit. `Idle` comes exactly where no job is listed, and makes no
-    /// entry.
+    /// Hands out the oldest job, and its unit. `Idle` comes exactly where no job is listed: it makes no
+    /// entry, and wants neither a place nor memory.
     pub fn take(&mut self, s: SeatNo) -> Taken<U>
         ensures performs { Takes U.meaning JMAX self.old self.new s result.answer }
         ensures unit_before { GivesUnit U.meaning (state_of U.meaning self.old) result.answer result.unit }
@@ -320,7 +320,8 @@ impl<U: UnitKind, const JMAX: usize> Session<U, JMAX> {
         Ok(enter(&mut self.journal, s, Event::Emit(u, groups), said))
     }
 
-    /// Takes the end of the query. `Open` comes exactly while it hasn't settled, and makes no entry.
+    /// Takes the end of the query. `Open` comes exactly while it hasn't settled: it makes no entry, and
+    /// wants neither a place nor memory.
     pub fn collect(&mut self, s: SeatNo, q: QueryId) -> Result<Reply, Stop>
         ensures { Collects U.meaning JMAX self.old self.new s q result }
     {

@@ -2,54 +2,25 @@ ghost use Rattle.std.specs.Prelude.{◌≡◌, ◌+◌, ◌<◌, ◌≤◌, leng
 ghost use Rattle.std.specs.Vec.{vec_capacity};
 ghost use Rattle.std.specs.VecDeque.{deque_len, deque_capacity};
 ghost use Rattle.orc_ids.specs.declared.lookup.Level.TheVariants.{Resolved};
-ghost use Rattle.session_model.specs.Plain.{Plain, phase_address, address_at};
+ghost use Rattle.session_model.specs.Plain.{Plain};
 ghost use Rattle.session_model.specs.Query.{is_lost, first_lost, all_at, is_met, ending, addresses};
 ghost use Rattle.session_model.specs.Change.{waits_for};
 ghost use Rattle.session_model.specs.declared.rows.Query.{Query};
 ghost use Rattle.session_core.specs.Meant.{meant, unit_row};
 ghost use Rattle.session_core.specs.declared.tables.OpenQuery.{OpenQuery};
 ghost use Rattle.session_core.specs.Units.{AreSameUnits};
-ghost use Rattle.session_core.specs.Settles.{settle_link, open_at, CanTell, found_of, CanSettle, Settles, SettlesAt, CanEnd};
+ghost use Rattle.session_core.specs.Search.{IsSparse};
+ghost use Rattle.session_core.specs.Settles.{settle_link, open_at, CanTell, CanSettle, Settles, SettlesAt, CanEnd};
 
 use crate::ready::Search;
+use crate::rows::{all_resolved, found_at, is_lost};
 use crate::tables::{OpenQuery, QueryEnd, TableUnit, Tables};
 use crate::units::link_in;
 use orc_ids::{InstId, Items, Level, UnitId};
-use session_model::{Ending, InstRow, Job, Matches, Phase, Query, UnitKind, UnitPhase};
+use session_model::{Ending, InstRow, Job, Matches, Query, UnitKind, UnitPhase};
 use std::alloc::Global;
 use std::collections::VecDeque;
 use std::mem::replace;
-
-/// The address of an instance, from Resolved on.
-pub fn address_of(phase: &Phase) -> Option<u64>
-    ensures { result ≡ phase_address phase.now }
-{
-    match phase {
-        Phase::Resolved(address) => Some(*address),
-        Phase::Emitted(address, _) => Some(*address),
-        _ => None,
-    }
-}
-
-/// The address of the instance, from Resolved on.
-fn row_address(rows: &[InstRow], i: InstId) -> Option<u64>
-    ensures { result ≡ address_at rows.now i.0 }
-{
-    match rows.get(i.0 as usize) {
-        Some(row) => address_of(&row.phase),
-        None => None,
-    }
-}
-
-/// Whether the instance is Failed or not present.
-fn row_lost(rows: &[InstRow], i: InstId) -> bool
-    ensures { result ≡ is_lost rows.now i.0 }
-{
-    match rows.get(i.0 as usize) {
-        Some(row) => matches!(row.phase, Phase::Failed) || !row.present,
-        None => true,
-    }
-}
 
 /// The first matched instance that is lost.
 fn lost_match(rows: &[InstRow], matched: &[Option<InstId>]) -> Option<InstId>
@@ -57,7 +28,7 @@ fn lost_match(rows: &[InstRow], matched: &[Option<InstId>]) -> Option<InstId>
 {
     for found in matched {
         if let Some(i) = found {
-            if row_lost(rows, *i) {
+            if is_lost(rows, *i) {
                 return Some(*i);
             }
         }
@@ -65,52 +36,28 @@ fn lost_match(rows: &[InstRow], matched: &[Option<InstId>]) -> Option<InstId>
     None
 }
 
-/// Whether each matched instance has an address.
-fn all_resolved(rows: &[InstRow], matched: &[Option<InstId>]) -> bool
-    ensures { result ≡ all_at rows.now Resolved matched.now }
-{
-    for found in matched {
-        if let Some(i) = found {
-            if row_address(rows, *i).is_none() {
-                return false;
-            }
-        }
-    }
-    true
-}
-
-/// Whether each matched instance is at the query's level. With no memory for a search, none has
-/// become ready.
-fn all_found(rows: &[InstRow], search: &mut Option<Search>, q: &Query) -> bool
-    requires { CanTell rows.now search.old q.now }
+/// Whether each matched instance is at the query's level. Where no search is made, none has become
+/// ready.
+fn all_found(rows: &[InstRow], search: &mut Search, searches: bool, q: &Query) -> bool
+    requires sparse { IsSparse (length rows.now) search.old }
+    requires tells { CanTell rows.now searches q.now }
+    ensures sparse { IsSparse (length rows.now) search.new }
     ensures told { result ≡ all_at rows.now q.now.level q.now.matched }
-    ensures tells { (p : Query) → CanTell rows.now search.old p → CanTell rows.now search.new p }
 {
     match q.level {
         Level::Resolved => all_resolved(rows, q.matched.as_slice()),
-        Level::Ready => match search {
-            Some(search) => search.are_ready(rows, q.matched.as_slice()),
-            None => false,
-        },
+        Level::Ready => searches && search.are_ready(rows, q.matched.as_slice()),
     }
 }
 
 /// Whether the query's end is decided.
-fn query_met(rows: &[InstRow], search: &mut Option<Search>, q: &Query) -> bool
-    requires { CanTell rows.now search.old q.now }
+fn query_met(rows: &[InstRow], search: &mut Search, searches: bool, q: &Query) -> bool
+    requires sparse { IsSparse (length rows.now) search.old }
+    requires tells { CanTell rows.now searches q.now }
+    ensures sparse { IsSparse (length rows.now) search.new }
     ensures told { result ≡ is_met rows.now q.now }
-    ensures tells { (p : Query) → CanTell rows.now search.old p → CanTell rows.now search.new p }
 {
-    all_found(rows, search, q) || lost_match(rows, q.matched.as_slice()).is_some()
-}
-
-fn found_at(rows: &[InstRow], found: Option<InstId>) -> Option<(InstId, u64)>
-    ensures { result ≡ found_of rows.now found }
-{
-    match found {
-        Some(i) => Some((i, row_address(rows, i).unwrap_or(0))),
-        None => None,
-    }
+    all_found(rows, search, searches, q) || lost_match(rows, q.matched.as_slice()).is_some()
 }
 
 /// Each matched instance with its address, in the room that was kept for them.
@@ -205,7 +152,9 @@ impl<U: UnitKind> Tables<U> {
     /// The open query at this place, which is met, ends.
     fn end_query(&mut self, at: usize)
         requires { (q : Query) × CanEnd self.old at q × (is_met self.old.rows.items q ≡ true) }
-        ensures { (o : OpenQuery) → slice_get self.old.unsettled.items at ≡ Some o → SettlesAt U.meaning o.query self.old self.new }
+        ensures settles { (o : OpenQuery) → slice_get self.old.unsettled.items at ≡ Some o → SettlesAt U.meaning o.query self.old self.new }
+        ensures search { self.new.search ≡ self.old.search }
+        ensures rows { self.new.rows ≡ self.old.rows }
     {
         let k = self.unsettled[at].query;
         let room = take_room(self.alloc, &mut self.unsettled[at]);
@@ -220,25 +169,27 @@ impl<U: UnitKind> Tables<U> {
     }
 
     /// The open query at this place ends, if it is met.
-    fn settle_one(&mut self, at: usize, search: &mut Option<Search>)
-        requires { (q : Query) × CanEnd self.old at q × CanTell self.old.rows.items search.old q }
+    fn settle_one(&mut self, at: usize, searches: bool)
+        requires sparse { IsSparse (length self.old.rows.items) self.old.search }
+        requires query { (q : Query) × CanEnd self.old at q × CanTell self.old.rows.items searches q }
         ensures settles { (o : OpenQuery) → slice_get self.old.unsettled.items at ≡ Some o → SettlesAt U.meaning o.query self.old self.new }
-        ensures tells { (p : Query) → CanTell self.old.rows.items search.old p → CanTell self.old.rows.items search.new p }
+        ensures sparse { IsSparse (length self.new.rows.items) self.new.search }
     {
         let k = self.unsettled[at].query;
-        if query_met(&self.rows, search, &self.queries[k as usize]) {
+        let q = &self.queries[k as usize];
+        if query_met(&self.rows, &mut self.search, searches, q) {
             self.end_query(at);
         }
     }
 
     /// The open queries that are met now end, in rising number, and the units that wait for them are
-    /// linked.
-    pub fn settle(&mut self, search: &mut Option<Search>)
-        requires { CanSettle U.meaning self.old search.old }
+    /// linked. No search is made where no instance has become ready.
+    pub fn settle(&mut self, searches: bool)
+        requires { CanSettle U.meaning self.old searches }
         ensures { Settles U.meaning self.old self.new }
     {
         for at in 0..self.unsettled.len() {
-            self.settle_one(at, search);
+            self.settle_one(at, searches);
         }
         sweep(&mut self.unsettled, &self.ends);
     }

@@ -129,7 +129,8 @@ impl<U: UnitKind> Tables<U> {
         ensures entry { IfOk result (λ said. said.entry ≡ said.reply) }
         ensures err { OnErr result (IsSame U.meaning self.old self.new) }
     {
-        let said = self.said(self.reply_ask(order, wanted, level)?)?;
+        let reply = self.reply_ask(order, wanted, level)?;
+        let said = self.said(reply)?;
         if is_lodged(&said.reply) {
             self.ask(order, wanted, level, note)?;
         } else {
@@ -295,7 +296,7 @@ impl<U: UnitKind> Tables<U> {
                 self.finish(s, u, bound);
                 Ok(TakeSaid { said, unit })
             }
-            _ => Err(AllocError),
+            _ => unreachable!(),
         }
     }
 }

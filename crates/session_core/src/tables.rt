@@ -3,6 +3,8 @@ ghost use Rattle.session_model.specs.Plain.{empty};
 ghost use Rattle.session_core.specs.Meant.{meant};
 ghost use Rattle.session_core.specs.Tied.{IsTied};
 
+use crate::dylib_table::DylibTable;
+use crate::ready::Search;
 use orc_ids::{InstId, Items};
 use session_model::{
     Dylib, Ending, InstRow, Job, Matches, Order, Query, Range, Track, UnitKind, UnitPhase,
@@ -54,7 +56,7 @@ pub struct OpenQuery {
 pub struct Tables<U> {
     pub alloc: Global,
     pub entries: u64,
-    pub dylibs: Vec<TableDylib>,
+    pub dylibs: DylibTable,
     pub trackers: Vec<Track>,
     pub rows: Vec<InstRow>,
     pub units: Vec<TableUnit<U>>,
@@ -68,6 +70,8 @@ pub struct Tables<U> {
     pub taken: Vec<Range>,
     /// How many units are held.
     pub held: u32,
+    /// The memory of every search, with room for all instances.
+    pub search: Search,
 }
 
 impl<U: UnitKind> Tables<U> {
@@ -79,7 +83,7 @@ impl<U: UnitKind> Tables<U> {
         Tables {
             alloc,
             entries: 0,
-            dylibs: Vec::new(alloc),
+            dylibs: DylibTable::new(alloc),
             trackers: Vec::new(alloc),
             rows: Vec::new(alloc),
             units: Vec::new(alloc),
@@ -89,6 +93,7 @@ impl<U: UnitKind> Tables<U> {
             jobs: VecDeque::new(alloc),
             taken: Vec::new(alloc),
             held: 0,
+            search: Search::new(alloc),
         }
     }
 }

@@ -3,9 +3,12 @@
 ghost use Rattle.std.specs.Prelude.{false, true, [], ◌∷◌, replicate, Some, None, cond, slice_get, unwrap_or};
 ghost use Rattle.orc_ids.specs.declared.ids.UnitName.TheVariants.{Absolute};
 
+mod entries;
 mod lists;
+mod parts;
 
 use crate::{Finished, Finishes, Offered, Session, Taken, emit_taken, place_taken};
+use entries::are_lookup;
 use orc_ids::{
     Bytes, DylibId, Group, InstId, Items, Level, NameId, OrderItem, QueryId, Scope, SeatNo, Shape,
     Stop, SymFlags, TrackId, UnitId, UnitName, Wanted,
@@ -15,7 +18,7 @@ use std::alloc::{AllocError, Global};
 use std::test::Fail;
 
 /// A unit with one strong name, at its start, and 48 bytes that are all 7.
-#[derive(Drop)]
+#[derive(Debug, Drop)]
 struct Main;
 
 impl UnitKind for Main {
@@ -98,14 +101,18 @@ impl Finishes for Main {
     }
 }
 
-const SEAT: SeatNo = SeatNo(3);
+/// The seat that makes the dylib, and defines in it.
+const SETUP: SeatNo = SeatNo(0);
+
+/// The seat that looks up and materializes.
+const SEAT: SeatNo = SeatNo(1);
 
 /// A seat that takes no job.
-const OTHER: SeatNo = SeatNo(4);
+const OTHER: SeatNo = SeatNo(2);
 
 /// Looks `main`, or another name, up in the dylib of this number.
-fn ask<const JMAX: usize>(
-    session: &mut Session<Main, JMAX>,
+fn ask<U: UnitKind, const JMAX: usize>(
+    session: &mut Session<U, JMAX>,
     d: DylibId,
     name: NameId,
 ) -> Result<Reply, Stop> {
@@ -135,27 +142,30 @@ fn takes_none(alloc: Global, taken: Taken<Main>, text: &str) -> bool {
     taken.unit.is_none() && reads(alloc, taken.answer, text)
 }
 
+/// The first two calls: a dylib, and a tracker of it.
+fn prepares<U: UnitKind, const JMAX: usize>(alloc: Global, session: &mut Session<U, JMAX>) -> bool {
+    let dylib = session.dylib(SETUP, NameId(7));
+    let tracker = session.tracker(SETUP, DylibId(0));
+    reads(alloc, dylib, "Ok(Made(DylibId(0)))") && reads(alloc, tracker, "Ok(Tracker(TrackId(0)))")
+}
+
 /// The first four calls: a dylib, a tracker, a definition and a lookup.
 fn asks<const JMAX: usize>(alloc: Global, session: &mut Session<Main, JMAX>) -> bool {
-    reads(
-        alloc,
-        session.dylib(SEAT, NameId(7)),
-        "Ok(Made(DylibId(0)))",
-    ) && reads(
-        alloc,
-        session.tracker(SEAT, DylibId(0)),
-        "Ok(Tracker(TrackId(0)))",
-    ) && defines(alloc, session)
-        && reads(
-            alloc,
-            ask(session, DylibId(0), NameId(0)),
-            "Ok(Pending(QueryId(0)))",
-        )
+    prepares(alloc, session) && defines(alloc, session) && lookup_waits(alloc, session)
+}
+
+/// The lookup of name 0 waits.
+fn lookup_waits<U: UnitKind, const JMAX: usize>(
+    alloc: Global,
+    session: &mut Session<U, JMAX>,
+) -> bool {
+    let asked = ask(session, DylibId(0), NameId(0));
+    reads(alloc, asked, "Ok(Pending(QueryId(0)))")
 }
 
 /// The unit is defined.
 fn defines<const JMAX: usize>(alloc: Global, session: &mut Session<Main, JMAX>) -> bool {
-    let offered = session.define(SEAT, DylibId(0), TrackId(0), Main);
+    let offered = session.define(SETUP, DylibId(0), TrackId(0), Main);
     reads(
         alloc,
         offered.answer,
@@ -163,8 +173,12 @@ fn defines<const JMAX: usize>(alloc: Global, session: &mut Session<Main, JMAX>) 
     )
 }
 
-/// The next three: the unit is taken, placed and resolved.
-fn resolves<const JMAX: usize>(alloc: Global, session: &mut Session<Main, JMAX>) -> bool {
+/// The next two: the first unit is taken, and placed with this answer.
+fn places<U: UnitKind, const JMAX: usize>(
+    alloc: Global,
+    session: &mut Session<U, JMAX>,
+    text: &str,
+) -> bool {
     let Taken { answer, unit } = session.take(SEAT);
     let Ok(Reply::Start(u)) = answer else {
         return false;
@@ -172,9 +186,13 @@ fn resolves<const JMAX: usize>(alloc: Global, session: &mut Session<Main, JMAX>)
     let Some(taken) = unit else {
         return false;
     };
-    let placed = place_taken(session, SEAT, u, &taken);
-    reads(alloc, placed, "Ok(Placed(268435456))")
-        && reads(alloc, session.resolve(SEAT, u), "Ok(Resolved)")
+    reads(alloc, place_taken(session, SEAT, u, &taken), text)
+}
+
+/// The next three: the unit is taken, placed and resolved.
+fn resolves<U: UnitKind, const JMAX: usize>(alloc: Global, session: &mut Session<U, JMAX>) -> bool {
+    places(alloc, session, "Ok(Placed(268435456))")
+        && reads(alloc, session.resolve(SEAT, UnitId(0)), "Ok(Resolved)")
 }
 
 /// The next three: it is linked, taken again and emitted.
@@ -213,7 +231,69 @@ fn one_lookup_is_twelve_entries(rt: HostRuntime) -> Result<(), Fail> {
     assert_eq!(rt; image.count(), 1);
     assert_eq!(rt; image.base(0), 0x1000_0000);
     assert!(rt; image.bytes(0) == [7; 48].as_slice());
+    assert!(rt; are_lookup(alloc, session.journal()));
+    Ok(())
+}
+
+#[test]
+fn a_lookup_of_what_is_ready(rt: HostRuntime) -> Result<(), Fail> {
+    let alloc = rt.alloc();
+    let mut session = Session::<Main, 64>::open(alloc)?;
+    assert!(rt; asks(alloc, &mut session));
+    assert!(rt; resolves(alloc, &mut session));
+    assert!(rt; emits(alloc, &mut session));
+    let again = ask(&mut session, DylibId(0), NameId(0));
+    assert!(rt; reads(alloc, again, "Ok(Done(QueryId(2)))"));
+    let found = "Ok(Found(11, Items { items: [Some((InstId(0), 268435456))] }))";
+    assert!(rt; reads(alloc, session.collect(SEAT, QueryId(2)), found));
     assert_eq!(rt; session.journal().len(), 12);
+    Ok(())
+}
+
+/// So many dylibs are made.
+fn makes_dylibs<const JMAX: usize>(session: &mut Session<Main, JMAX>, count: u32) -> bool {
+    for k in 0..count {
+        let Ok(Reply::Made(d)) = session.dylib(SETUP, NameId(k)) else {
+            return false;
+        };
+        if d.0 != k {
+            return false;
+        }
+    }
+    true
+}
+
+#[test]
+fn one_dylib_more_than_a_session_has(rt: HostRuntime) -> Result<(), Fail> {
+    let alloc = rt.alloc();
+    let mut session = Session::<Main, 128>::open(alloc)?;
+    assert!(rt; makes_dylibs(&mut session, 64));
+    assert!(rt; reads(alloc, session.dylib(SETUP, NameId(64)), "Ok(TooMany)"));
+    assert_eq!(rt; session.journal().len(), 65);
+    Ok(())
+}
+
+/// So many trackers of the first dylib are made.
+fn makes_trackers<const JMAX: usize>(session: &mut Session<Main, JMAX>, count: u32) -> bool {
+    for k in 0..count {
+        let Ok(Reply::Tracker(t)) = session.tracker(SETUP, DylibId(0)) else {
+            return false;
+        };
+        if t.0 != k {
+            return false;
+        }
+    }
+    true
+}
+
+#[test]
+fn one_tracker_more_than_a_session_has(rt: HostRuntime) -> Result<(), Fail> {
+    let alloc = rt.alloc();
+    let mut session = Session::<Main, 65_600>::open(alloc)?;
+    assert!(rt; makes_dylibs(&mut session, 1));
+    assert!(rt; makes_trackers(&mut session, 65_536));
+    assert!(rt; reads(alloc, session.tracker(SETUP, DylibId(0)), "Ok(TooMany)"));
+    assert_eq!(rt; session.journal().len(), 65_538);
     Ok(())
 }
 

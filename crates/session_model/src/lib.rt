@@ -7,18 +7,23 @@
 //! (what a reply does), `Answer` (which reply is right), `History` (legal histories and the state
 //! after one), and `Seat`, `Calls` and `Owed` for the callers. `docs/DEFINITIONS.md` reads them
 //! aloud. The traits `UnitKind`, `RowSource` and `Standing` are what the parts of a session ask of
-//! each other.
+//! each other; `DepList` is a list of dependencies that many instances share.
 //!
 //! Read `session_laws` next for what follows from the definitions.
 #![tactic(auto)]
 
+mod deps;
 mod entry;
 mod rows;
 mod traits;
 
+pub use deps::DepList;
 pub use entry::{Entry, Event, Finishing, Matches, Order, Reply, WantedList, Why};
 pub use rows::{
     Dylib, Ending, InstRow, Job, Match, Matched, Phase, Query, Range, Row, Track, UnitPhase,
     Verdict,
 };
 pub use traits::{RowSource, Standing, UnitKind};
+
+#[cfg(test)]
+mod tests;

@@ -1,5 +1,6 @@
+use crate::deps::DepList;
 use crate::entry::{Matches, Order};
-use orc_ids::{DylibId, GenId, InstId, InstList, Items, Level, NameId, SymFlags, UnitId};
+use orc_ids::{DylibId, GenId, InstId, Items, Level, NameId, SymFlags, UnitId};
 
 /// How far an instance has come (ORC: `SymbolState`). Whether it is ready isn't stored: that
 /// follows from the recorded dependencies.
@@ -12,7 +13,7 @@ pub enum Phase {
     /// It has an address.
     Resolved(u64),
     /// Its bytes are in memory at this address, and it depends on these.
-    Emitted(u64, InstList),
+    Emitted(u64, DepList),
     /// It will never be ready.
     Failed,
 }

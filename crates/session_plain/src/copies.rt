@@ -31,7 +31,7 @@ fn copy_rows(alloc: Global, rows: &[InstRow]) -> Result<Vec<InstRow>, AllocError
 {
     let mut copy = Vec::new(alloc);
     for row in rows {
-        copy.push(copy_row(alloc, row)?)?;
+        copy.push(copy_row(row)?)?;
     }
     Ok(copy)
 }

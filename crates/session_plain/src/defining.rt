@@ -43,7 +43,7 @@ fn replaced<U: UnitKind>(s: &PlainSession<U>, d: DylibId, unit: &U, i: usize) ->
 fn row_left(alloc: Global, row: &InstRow, gone: bool) -> Result<InstRow, AllocError>
     ensures { IfOk result (λ left. left ≡ record row.now { present = row.now.present && not gone }) }
 {
-    let mut left = copy_row(alloc, row)?;
+    let mut left = copy_row(row)?;
     if gone {
         left.present = false;
     }

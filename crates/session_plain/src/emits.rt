@@ -12,7 +12,7 @@ ghost use Rattle.session_plain.specs.Work.{done_unit, linking_unit};
 use crate::phases::{address_of, owned};
 use crate::plain::{PlainSession, PlainUnit};
 use orc_ids::{Group, InstId, InstList, Items, UnitId};
-use session_model::{InstRow, Phase, UnitKind, UnitPhase};
+use session_model::{DepList, InstRow, Phase, UnitKind, UnitPhase};
 use std::alloc::{AllocError, Global};
 
 fn copy_deps(alloc: Global, deps: &[InstId]) -> Result<InstList, AllocError>
@@ -21,16 +21,14 @@ fn copy_deps(alloc: Global, deps: &[InstId]) -> Result<InstList, AllocError>
     Ok(Items::from_vec(deps.to_vec(alloc)?))
 }
 
-fn copy_phase(alloc: Global, phase: &Phase) -> Result<Phase, AllocError>
+fn copy_phase(phase: &Phase) -> Result<Phase, AllocError>
     ensures { IfOk result (λ copy. copy ≡ phase.now) }
 {
     match phase {
         Phase::Unsearched => Ok(Phase::Unsearched),
         Phase::Claimed => Ok(Phase::Claimed),
         Phase::Resolved(address) => Ok(Phase::Resolved(*address)),
-        Phase::Emitted(address, deps) => {
-            Ok(Phase::Emitted(*address, copy_deps(alloc, deps.as_slice())?))
-        }
+        Phase::Emitted(address, deps) => { Ok(Phase::Emitted(*address, deps.share()?)) }
         Phase::Failed => Ok(Phase::Failed),
     }
 }
@@ -50,10 +48,10 @@ fn with_phase(row: &InstRow, phase: Phase) -> InstRow
 }
 
 /// Another row like this one.
-pub fn copy_row(alloc: Global, row: &InstRow) -> Result<InstRow, AllocError>
+pub fn copy_row(row: &InstRow) -> Result<InstRow, AllocError>
     ensures { IfOk result (λ copy. copy ≡ row.now) }
 {
-    Ok(with_phase(row, copy_phase(alloc, &row.phase)?))
+    Ok(with_phase(row, copy_phase(&row.phase)?))
 }
 
 fn is_member(members: &[InstId], i: usize) -> bool
@@ -113,9 +111,10 @@ fn row_emitted(
     if owned(u.0, row) {
         let deps = deps_of(alloc, groups, i)?;
         let address = address_of(&row.phase).unwrap_or(0);
+        let deps = DepList::from_items(alloc, deps)?;
         Ok(with_phase(row, Phase::Emitted(address, deps)))
     } else {
-        copy_row(alloc, row)
+        copy_row(row)
     }
 }
 
@@ -180,7 +179,7 @@ fn row_resolved<U: UnitKind>(
     if owned(u.0, row) {
         Ok(with_phase(row, Phase::Resolved(unit.address(row.offer, base))))
     } else {
-        copy_row(alloc, row)
+        copy_row(row)
     }
 }
 

@@ -5,7 +5,7 @@ use Rattle.orc_ids.specs.declared.ids.NameId.{NameId}
 use Rattle.orc_ids.specs.declared.ids.QueryId.{QueryId}
 use Rattle.orc_ids.specs.declared.ids.SeatNo.{SeatNo}
 use Rattle.orc_ids.specs.declared.lookup.Stop.{Stop}
-use Rattle.orc_ids.specs.declared.lookup.Stop.TheVariants.{JournalFull}
+use Rattle.orc_ids.specs.declared.lookup.Stop.TheVariants.{JournalFull, NoMemory}
 use Rattle.orc_ids.specs.declared.place.Shape.{Shape}
 use Rattle.session_model.specs.Meaning.{Meaning}
 use Rattle.session_model.specs.Plain.{Plain}
@@ -89,6 +89,7 @@ in_whole means jmax n next unit shape main entry i expected old new result e f =
 takes_performs : {U : Type 0} (means : U → Meaning) (jmax : ℕ) (old new : List (Entry U)) (s : SeatNo) (result : Result Reply Stop) → ((state_of means old).jobs ≡ [] → ⊥) → Takes means jmax old new s result → Performs means jmax old new s event.Take result
 takes_performs means jmax old new s (Ok (reply.Idle held)) n t = absurd (n t.1)
 takes_performs means jmax old new s (Err (JournalFull len)) n t = t.0
+takes_performs means jmax old new s (Err NoMemory) n t = t.0
 takes_performs means jmax old new s _ n t = t
 
 some_job : (m : Plain) (j : Job) → m.jobs ≡ j ∷ [] → m.jobs ≡ [] → ⊥
@@ -151,6 +152,7 @@ settled_then means unit shape main entry i h f l here o = not_open unit shape ma
 collects_performs : {U : Type 0} (means : U → Meaning) (jmax : ℕ) (old new : List (Entry U)) (s : SeatNo) (q : QueryId) (result : Result Reply Stop) → (HasOpen means old q → ⊥) → Collects means jmax old new s q result → Performs means jmax old new s (event.Collect q) result
 collects_performs means jmax old new s q (Ok reply.Open) n c = absurd (n c.1)
 collects_performs means jmax old new s q (Err (JournalFull len)) n c = c.0
+collects_performs means jmax old new s q (Err NoMemory) n c = c.0
 collects_performs means jmax old new s q _ n c = c
 
 pub went_collect : {U : Type 0} (means : U → Meaning) (jmax : ℕ) (unit : Meaning) (shape : Shape) (main entry : NameId) (i : ℕ) (old new : List (Entry U)) (result : Result Reply Stop) → IsLone unit shape → offer_named entry unit ≡ Some i →

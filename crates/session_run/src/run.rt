@@ -37,6 +37,7 @@ pub enum Looked {
 impl Run {
     /// The run of a unit from the entry of this name, in a dylib of the name `main`.
     pub fn new(unit: ObjectUnit, main: NameId, entry: NameId) -> Run
+        ensures made { result ≡ record { unit = unit; main = main; entry = entry } }
         ensures unit { unit_of result ≡ meaning_of unit }
         ensures main { main_of result ≡ main }
         ensures entry { entry_of result ≡ entry }

@@ -1,10 +1,13 @@
 //! Lists of calls, whose answers are read as they are printed.
 
-ghost use Rattle.std.specs.Prelude.{◌≡◌};
+ghost use Rattle.std.specs.Prelude.{◌≡◌, ◌≤◌};
 
-use super::{Main, OTHER, SEAT, asks, emits, resolves};
-use crate::{AnswerList, Call, Command, Session, play};
-use orc_ids::{DylibId, Items, Level, NameId, OrderItem, QueryId, Scope, TrackId, UnitId, Wanted};
+use super::entries::are_lookup;
+use super::{Main, OTHER, SEAT, SETUP, asks, emits, resolves};
+use crate::{AnswerList, Call, Command, JOURNAL_LIMIT, Session, play};
+use orc_ids::{
+    DylibId, Items, Level, NameId, OrderItem, QueryId, Scope, Stop, TrackId, UnitId, Wanted,
+};
 use session_model::{Order, WantedList};
 use std::alloc::{AllocError, Global};
 use std::test::Fail;
@@ -47,6 +50,16 @@ fn call(command: Command<Main>) -> Call<Main>
     }
 }
 
+/// A call of the seat that defines.
+fn setup(command: Command<Main>) -> Call<Main>
+    ensures { result ≡ record { seat = SETUP; command = command } }
+{
+    Call {
+        seat: SETUP,
+        command,
+    }
+}
+
 /// A call of the other seat.
 fn other(command: Command<Main>) -> Call<Main>
     ensures { result ≡ record { seat = OTHER; command = command } }
@@ -84,15 +97,16 @@ fn read_so(alloc: Global, answers: &AnswerList, replies: &[&str]) -> Result<bool
     Ok(answers.len() == replies.len())
 }
 
-#[test]
-fn the_lookup_as_a_list(rt: HostRuntime) -> Result<(), Fail> {
-    let alloc = rt.alloc();
-    let mut session = Session::<Main, 64>::open(alloc)?;
+/// Makes the calls of the lookup.
+fn play_lookup<const JMAX: usize>(
+    alloc: Global,
+    session: &mut Session<Main, JMAX>,
+) -> Result<AnswerList, AllocError> {
     let (order, wanted) = lookup(alloc)?;
     let calls = [
-        call(Command::Dylib(NameId(7))),
-        call(Command::Tracker(DylibId(0))),
-        call(Command::Define(DylibId(0), TrackId(0), Main)),
+        setup(Command::Dylib(NameId(7))),
+        setup(Command::Tracker(DylibId(0))),
+        setup(Command::Define(DylibId(0), TrackId(0), Main)),
         call(Command::Ask(order, wanted, Level::Ready, None)),
         call(Command::Take),
         call(Command::Place(UnitId(0))),
@@ -103,9 +117,53 @@ fn the_lookup_as_a_list(rt: HostRuntime) -> Result<(), Fail> {
         call(Command::Collect(QueryId(0))),
         call(Command::Image),
     ];
-    let answers = play(alloc, &mut session, &calls)?;
+    play(alloc, session, &calls)
+}
+
+#[test]
+fn the_lookup_as_a_list(rt: HostRuntime) -> Result<(), Fail> {
+    let alloc = rt.alloc();
+    let mut session = Session::<Main, 64>::open(alloc)?;
+    let answers = play_lookup(alloc, &mut session)?;
     assert!(rt; read_so(alloc, &answers, &LOOKUP)?);
-    assert_eq!(rt; session.journal().len(), 12);
+    assert!(rt; are_lookup(alloc, session.journal()));
+    Ok(())
+}
+
+/// In a journal of this size the call at this place, and none before it, finds no place.
+fn is_full_at<const JMAX: usize>(alloc: Global, at: usize) -> Result<bool, Fail>
+    requires { JMAX ≤ JOURNAL_LIMIT }
+{
+    let mut session = Session::<Main, JMAX>::open(alloc)?;
+    let answers = play_lookup(alloc, &mut session)?;
+    for (k, answer) in answers.as_slice().iter().enumerate() {
+        match answer {
+            Some(Ok(_)) => {}
+            Some(Err(Stop::JournalFull(entries))) => {
+                return Ok(k == at && *entries == at as u64);
+            }
+            _ => return Ok(false),
+        }
+    }
+    Ok(false)
+}
+
+/// A take wants two places, one of them for its unit, which keeps it while it is held.
+#[test]
+fn each_call_wants_a_place(rt: HostRuntime) -> Result<(), Fail> {
+    let alloc = rt.alloc();
+    assert!(rt; is_full_at::<0>(alloc, 0)?);
+    assert!(rt; is_full_at::<1>(alloc, 1)?);
+    assert!(rt; is_full_at::<2>(alloc, 2)?);
+    assert!(rt; is_full_at::<3>(alloc, 3)?);
+    assert!(rt; is_full_at::<4>(alloc, 4)?);
+    assert!(rt; is_full_at::<5>(alloc, 4)?);
+    assert!(rt; is_full_at::<6>(alloc, 5)?);
+    assert!(rt; is_full_at::<7>(alloc, 6)?);
+    assert!(rt; is_full_at::<8>(alloc, 7)?);
+    assert!(rt; is_full_at::<9>(alloc, 8)?);
+    assert!(rt; is_full_at::<10>(alloc, 9)?);
+    assert!(rt; is_full_at::<11>(alloc, 11)?);
     Ok(())
 }
 

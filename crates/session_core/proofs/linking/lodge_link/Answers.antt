@@ -33,4 +33,5 @@ returns g c =
       listed = c.finish_if.ensures.listed ∙ ap (λ b. deque_len c.lodge.new.t.jobs + cond b 1 0) met;
       capacity = c.finish_if.ensures.capacity;
       held = omega (arith, h, c.lodge.ensures.held);
+      search = refl;
     })

@@ -17,6 +17,7 @@ returns g c =
       trackers = refl;
       taken = refl;
       held = refl;
+      search = refl;
       claims = rw c.deref.ensures.value at (e.claims (meant means c.args.t.now));
       same = e.same;
       queries = rw c.from_vec.ensures at c.push_reserved.ensures.items;

@@ -1,6 +1,6 @@
 use Rattle.std.proofs.Common.{ap, length, arith}
 use Rattle.std.proofs.lemmas.Option.{slice_get-get_or}
-use Rattle.session_core.proofs.Searching.{seen_fit, explored_more, explored_all, refuted_dep}
+use Rattle.session_core.proofs.Searching.{explored_fit, explored_more, explored_all, refuted_dep}
 use Rattle.session_core.proofs.ready.explore.Goals as goal
 
 pub returns-then-not-visit_row-clause-unready : goal.returns-then-not-visit_row-clause-unready
@@ -17,4 +17,4 @@ loop-head-preserved c =
 pub returns-clause-ready : goal.returns-clause-ready
 returns-clause-ready c =
     let s = c.loop-head.invariant.sparse in
-    explored_all _ _ _ _ c.loop-head.invariant.explored (omega (arith, c.loop-head-test.false, s.inside, seen_fit c.loop-head.search.place.items c.loop-head.search.seen.items s.known))
+    explored_all _ _ _ _ c.loop-head.invariant.explored (omega (arith, c.loop-head-test.false, explored_fit _ _ _ c.loop-head.search.place.items c.loop-head.search.seen.items s.known c.loop-head.invariant.explored))

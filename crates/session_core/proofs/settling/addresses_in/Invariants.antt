@@ -1,6 +1,6 @@
 use Rattle.std.proofs.Common.{◌≡◌, ◌≤◌, length, map, take}
 use Rattle.std.specs.Vec.{vec_capacity}
-use Rattle.session_core.specs.Settles.{found_of}
+use Rattle.session_core.specs.Rows.{found_of}
 use Rattle.session_core.proofs.settling.addresses_in.Given as goal
 
 abbrev pub invariant-loop-found : goal.invariant-loop-found

@@ -7,4 +7,4 @@ use Rattle.session_core.proofs.tables.Tables.count_entry.Goals as goal
 
 pub returns : goal.returns
 returns g c = let t = c.requires.tied in
-    record { moves = quiet_step g.U.UnitKind.meaning Nothing c.args.self.now _ t c.requires.reached refl refl refl (waits_same _) (same_units _ _) refl refl refl c.requires.numbered t.sized.trackers t.held t.finishes }
+    record { moves = quiet_step g.U.UnitKind.meaning Nothing c.args.self.now _ t c.requires.reached refl refl refl (waits_same _) (same_units _ _) refl refl refl refl c.requires.numbered t.sized.trackers t.held t.finishes }

@@ -1,6 +1,7 @@
 use Rattle.std.proofs.Common.{ap, subst, sym}
 use Rattle.session_model.specs.Plain.{Plain}
-use Rattle.session_core.specs.Defines.{is_defined, IsDefinable}
+use Rattle.session_core.specs.Defines.{IsDefinable}
+use Rattle.session_core.specs.Kinds.{is_defined}
 use Rattle.session_core.specs.Meant.{meant}
 use Rattle.session_core.proofs.DefineLemmas.{definable, all_strong}
 use Rattle.session_core.proofs.tables.Tables.define.Goals as goal

@@ -1,7 +1,6 @@
-use Rattle.std.proofs.Common.{◌≡◌, ◌+◌, ◌-◌, Some, length, refl, ap, sym, subst, ◌∙◌, arith}
+use Rattle.std.proofs.Common.{◌+◌, ◌-◌, Some, refl, ap, sym, subst, ◌∙◌, arith}
 use Rattle.std.proofs.lemmas.Option.{slice_get-get_or}
 use Rattle.session_core.specs.Meant.{meant}
-use Rattle.session_core.specs.Search.{IsSparse}
 use Rattle.session_core.specs.Emits.{HasDeps}
 use Rattle.session_core.proofs.KeptUnits.{unit_below}
 use Rattle.session_core.proofs.EmitSteps.{emit_right, emit_held, emit_settles, emit_moves}
@@ -27,10 +26,8 @@ pub settle-requires : goal.settle-requires
 settle-requires g c =
     let old = c.args.self.now in
     let deps = subst (λ n. HasDeps c.args.groups.now c.index-x.result.now.first n c.in_ok-table.table.items) (sym c.in_ok-table.ensures.inside) c.in_ok-table.ensures in
-    let count : c.len.result ≡ length old.rows.items = omega (arith, c.len.ensures, old.rows.ok.0) in
-    emit_settles g.U.UnitKind.meaning old (record old { entries = old.entries + 1; rows = c.emit_rows.new.rows; units = c.end_in.new.units; held = old.held - 1 }) c.args.u c.args.groups.now c.in_ok-search.search c.requires.tied
-    (subst (λ n. IsSparse n c.in_ok-search.search) count c.in_ok-search.ensures)
-    (c.emit_rows.ensures c.args.groups.now deps) c.end_in.ensures.rows refl refl refl refl
+    emit_settles g.U.UnitKind.meaning old (record old { entries = old.entries + 1; rows = c.emit_rows.new.rows; units = c.end_in.new.units; held = old.held - 1 }) c.args.u c.args.groups.now c.requires.tied
+    (c.emit_rows.ensures c.args.groups.now deps) c.end_in.ensures.rows refl refl refl refl refl
 
 pub returns-clause-moves : goal.returns-clause-moves
 returns-clause-moves g c =

@@ -9,8 +9,8 @@ use Rattle.session_core.specs.Settles.{settle_link}
 use Rattle.session_core.proofs.SettleSteps.{met_ended}
 use Rattle.session_core.proofs.tables.Tables.end_query.Goals as goal
 
-pub returns : goal.returns
-returns g c = λ o t.
+pub returns-clause-settles : goal.returns-clause-settles
+returns-clause-settles g c = λ o t.
     let means = g.U.UnitKind.meaning in
     let old = c.args.self.now in
     let m = meant means old in

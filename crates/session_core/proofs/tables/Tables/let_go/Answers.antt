@@ -23,7 +23,7 @@ returns g c =
     record {
       moves = quiet_step g.U.UnitKind.meaning (LetGo s c.args.u.0) c.args.self.now _ t c.requires.reached
           (ap (λ (us : List UnitRow). record m { entries = m.entries + 1; units = us }) c.release_in-held.ensures.rows)
-          refl refl (waits_changed m.units c.args.u.0 (let_go_of s) (let_go_waits s)) c.release_in-held.ensures.same refl refl refl c.requires.numbered t.sized.trackers
+          refl refl (waits_changed m.units c.args.u.0 (let_go_of s) (let_go_waits s)) c.release_in-held.ensures.same refl refl refl refl c.requires.numbered t.sized.trackers
           (omega (arith, t.held, c.less_if-self.ensures, let_go_count (meant g.U.UnitKind.meaning c.args.self.now) c.args.seat.0 c.args.u.0 c.requires.gone.0 c.release_in-held.result c.requires.gone.1 c.release_in-held.ensures.held))
           t.finishes;
     }

@@ -1,4 +1,4 @@
-use Rattle.std.proofs.Common.{◌≡◌, ◌+◌, List, length, [], ◌∷◌, ◌++◌, map, refl, ap, ◌∙◌, arith}
+use Rattle.std.proofs.Common.{◌≡◌, ◌+◌, List, length, [], ◌∷◌, ◌++◌, map, refl, ap, sym, ◌∙◌, arith}
 use Rattle.std.proofs.lemmas.List.{map-append}
 use Rattle.session_model.specs.Plain.{Plain}
 use Rattle.session_model.specs.Change.{MakeDylib, changed}
@@ -13,7 +13,7 @@ use Rattle.session_core.proofs.tables.Tables.make_dylib.Goals as goal
 
 pub returns-in_err-push-clause-err : goal.returns-in_err-push-clause-err
 returns-in_err-push-clause-err g c = on_err _ c.from_residual-in_err-push.result
-    (same_kept g.U.UnitKind.meaning c.args.self.now _ c.requires.tied refl c.in_err-push.ensures.items refl refl refl refl refl refl refl refl refl c.requires.tied.finishes)
+    (same_kept g.U.UnitKind.meaning c.args.self.now _ c.requires.tied refl c.in_err-push.ensures.err refl refl refl refl refl refl refl refl refl refl c.requires.tied.finishes)
 
 pub returns-clause-moves : goal.returns-clause-moves
 returns-clause-moves g c =
@@ -21,12 +21,12 @@ returns-clause-moves g c =
     let old = c.args.self.now in
     let m : Plain = meant g.U.UnitKind.meaning old in
     let row : dylib_row c.in_ok-dylib.dylib ≡ fresh_dylib (length m.dylibs) c.args.name.0 =
-    c.in_ok-dylib.ensures.row ∙ ap (λ d. fresh_dylib d c.args.name.0) (omega (arith, c.len.ensures, old.dylibs.ok.0, mapped_length dylib_row old.dylibs.items)) in
+    c.in_ok-dylib.ensures.row ∙ ap (λ d. fresh_dylib d c.args.name.0) (ap length c.as_slice.ensures ∙ sym (mapped_length dylib_row old.dylibs)) in
     quiet_moves g.U.UnitKind.meaning (MakeDylib c.args.name.0) old _ t
     (calm_kept m (changed (MakeDylib c.args.name.0) m) refl refl (waits_same m.units) (reached_calm m c.requires.reached))
     (ap (λ (ds : List Dylib). record m { entries = m.entries + 1; dylibs = ds })
-    (ap (map dylib_row) c.in_ok-push.ensures.items ∙ map-append dylib_row old.dylibs.items (c.in_ok-dylib.dylib ∷ []) ∙ ap (λ d. m.dylibs ++ d ∷ []) row))
+    (ap (map dylib_row) c.in_ok-push.ensures.ok ∙ map-append dylib_row old.dylibs (c.in_ok-dylib.dylib ∷ []) ∙ ap (λ d. m.dylibs ++ d ∷ []) row))
     refl refl refl
     (tied_dylib g.U.UnitKind.meaning old _ c.in_ok-dylib.dylib t c.in_ok-dylib.ensures.none
-    (omega (arith, dylibs_left m c.args.name c.requires.answer, mapped_length dylib_row old.dylibs.items))
-    c.in_ok-push.ensures.items refl refl refl refl refl refl refl refl (omega arith) (omega (arith, c.requires.numbered)))
+    (omega (arith, dylibs_left m c.args.name c.requires.answer, mapped_length dylib_row old.dylibs))
+    c.in_ok-push.ensures.ok refl refl refl refl refl refl refl refl refl (omega arith) (omega (arith, c.requires.numbered)))

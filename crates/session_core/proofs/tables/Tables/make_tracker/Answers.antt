@@ -15,6 +15,6 @@ returns-clause-moves g c =
     let m : Plain = meant g.U.UnitKind.meaning c.args.self.now in
     quiet_step g.U.UnitKind.meaning (MakeTracker c.args.d.0) c.args.self.now _ t c.requires.reached
     (ap (λ (ts : List Track). record m { entries = m.entries + 1; trackers = ts }) c.in_ok-push.ensures.items)
-    refl refl (waits_same m.units) (same_units _ _) refl refl refl c.requires.numbered
+    refl refl (waits_same m.units) (same_units _ _) refl refl refl refl c.requires.numbered
     (omega (arith, ap length c.in_ok-push.ensures.items, length-append m.trackers (record { dylib = c.args.d.0; gone = false } ∷ []), trackers_left m c.args.d c.requires.answer))
     t.held t.finishes

@@ -24,7 +24,7 @@ returns g c =
       moves = quiet_step g.U.UnitKind.meaning (Place u c.args.shape c.args.base) c.args.self.now _ t c.requires.reached
           (ap (λ (us : List UnitRow). record m { entries = m.entries + 1; units = us; taken = c.push_reserved.new.self.items }) c.place_in.ensures.rows
           ∙ ap (λ (ranges : List Range). record m { entries = m.entries + 1; units = changed_at u f m.units; taken = ranges }) c.push_reserved.ensures.items)
-          refl refl (waits_changed m.units u f (λ y e. absurd cc)) c.place_in.ensures.same refl refl refl c.requires.numbered t.sized.trackers
+          refl refl (waits_changed m.units u f (λ y e. absurd cc)) c.place_in.ensures.same refl refl refl refl c.requires.numbered t.sized.trackers
           (t.held ∙ kept_same m (changed (Place u c.args.shape c.args.base) m) u f x.0 refl x.1 refl)
           t.finishes;
     }

@@ -22,7 +22,7 @@ settle-requires g c =
     let old = c.args.self.now in
     resolve_settles g.U.UnitKind.meaning old (record old { entries = old.entries + 1; rows = c.resolve_rows.new.rows; units = c.resolve_in.new.units }) c.args.seat.0 c.args.u (λ k. (g.U.UnitKind.meaning c.index.result.now.unit).address k (unwrap_or c.index.result.now.base 0)) c.requires.tied c.requires.reached c.requires.answer
     c.resolve_rows.ensures
-    c.resolve_in.ensures.rows refl refl refl refl
+    c.resolve_in.ensures.rows refl refl refl refl refl
 
 pub returns : goal.returns
 returns g c =

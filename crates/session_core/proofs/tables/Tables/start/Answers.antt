@@ -22,7 +22,7 @@ returns g c =
       moves = quiet_step g.U.UnitKind.meaning (Start c.args.seat.0 c.args.u.0) c.args.self.now _ t c.requires.reached
           (ap (λ (us : List UnitRow). record m { entries = m.entries + 1; units = us; jobs = c.pop_front-job.new.self.items }) c.start_in.ensures.rows
           ∙ ap (λ (js : List Job). record m { entries = m.entries + 1; units = changed_at c.args.u.0 (started c.args.seat.0) m.units; jobs = js }) c.pop_front-job.ensures.rest)
-          refl refl (waits_changed m.units c.args.u.0 (started c.args.seat.0) (λ y e. absurd cc)) c.start_in.ensures.same refl refl refl c.requires.numbered t.sized.trackers
+          refl refl (waits_changed m.units c.args.u.0 (started c.args.seat.0) (λ y e. absurd cc)) c.start_in.ensures.same refl refl refl refl c.requires.numbered t.sized.trackers
           (omega (arith, t.held, kept_more m (changed (Start c.args.seat.0 c.args.u.0) m) c.args.u.0 (started c.args.seat.0) x.0 refl x.1 x.2 refl))
           (omega (arith, t.finishes, c.pop_front-job.ensures.len, c.pop_front-job.ensures.capacity));
     }

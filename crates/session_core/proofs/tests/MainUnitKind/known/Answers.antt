@@ -1,15 +1,10 @@
-use Rattle.std.proofs.Common.{◌≡◌, ℕ, zero, suc, List, [], ◌∷◌, slice_get, Some, refl, subst, sym, ◌∙◌, append-nil, arith, rules}
+use Rattle.std.proofs.Common.{ℕ, List, refl, subst, sym, ◌∙◌, append-nil, arith, rules}
 use Rattle.std.specs.Prelude.{IsPermutation}
 use Rattle.std.proofs.lemmas.List.{length-replicate}
 use Rattle.std.proofs.lemmas.List.Sorted.{IsPermutation-refl}
-use Rattle.std.proofs.lemmas.Option.{none-some}
 use Rattle.orc_ids.specs.declared.ids.InstId.{InstId}
+use Rattle.session_core.proofs.TestUnits.{first_place}
 use Rattle.session_core.proofs.tests.MainUnitKind.known.Goals as goal
-
--- a list of one has no other place
-first_place : {X : Type 0} (x a : X) (k : ℕ) → slice_get (x ∷ []) k ≡ Some a → k ≡ 0
-first_place x a zero e = refl
-first_place x a (suc k) e = absurd (none-some a e)
 
 pub returns : goal.returns
 returns c = record {

@@ -4,7 +4,7 @@ use Rattle.std.specs.HashMap.{get, spare}
 use Rattle.orc_ids.specs.declared.ids.NameId.{NameId}
 use Rattle.orc_ids.specs.declared.flags.SymFlags.{SymFlags}
 use Rattle.session_core.specs.Meant.{dylib_row}
-use Rattle.session_core.proofs.entering.put_names.Given as goal
+use Rattle.session_core.proofs.dylib_table.put_names.Given as goal
 
 abbrev pub invariant-loop-k : goal.invariant-loop-k
 invariant-loop-k g l =
