@@ -1,7 +1,8 @@
 #!/usr/bin/env python3
-"""Compiles the C programs of examples/ and tools/c_programs/ by two compilers at three levels, runs
-each object with orc, and compares output and exit status with qemu-riscv64 on the same object, linked
-with a start that calls main. Says how long each run took.
+"""Compiles the C programs of examples/ and tools/c_programs/ by two compilers at three levels, with
+padding that is left to the linker and without, runs each object with orc, and compares output and exit
+status with qemu-riscv64 on the same object, linked with a start that calls main. Says how long each run
+took.
 
 ORC is the program, by default the one at the top of the repository; --keep FOLDER keeps the objects."""
 import argparse
@@ -13,12 +14,16 @@ import time
 
 TOP = pathlib.Path(__file__).resolve().parent.parent
 PROGRAMS = sorted([*(TOP / "examples").glob("*.c"), *(TOP / "tools" / "c_programs").glob("*.c")])
-TARGET = "-march=rv64im -mabi=lp64 -mcmodel=medany -mno-relax -fno-pic -fno-common -ffreestanding".split()
+TARGET = "-march=rv64im -mabi=lp64 -mcmodel=medany -fno-pic -fno-common -ffreestanding".split()
 COMPILERS = {
     "gcc": ["riscv64-linux-gnu-gcc"],
     "clang": ["clang", "--target=riscv64"],
 }
 LEVELS = ["-O0", "-O2", "-Os"]
+PADDINGS = {
+    "relax": ["-mrelax", "-falign-functions=32", "-falign-loops=16"],
+    "norelax": ["-mno-relax"],
+}
 FUEL = 1 << 40
 
 
@@ -46,21 +51,23 @@ def main():
         for source in PROGRAMS:
             for name, compiler in COMPILERS.items():
                 for level in LEVELS:
-                    unlike += not compare(arguments.orc.resolve(), folder, start, source, name, compiler, level)
+                    for padding, flags in PADDINGS.items():
+                        command = [*compiler, level, *flags]
+                        stem = f"{source.stem}.{name}{level}-{padding}"
+                        unlike += not compare(arguments.orc.resolve(), folder, start, source, stem, command)
     print(f"{unlike} unlike" if unlike else "all alike")
     return 1 if unlike else 0
 
 
-def compare(orc, folder, start, source, name, compiler, level):
-    stem = f"{source.stem}.{name}{level}"
-    run([*compiler, *TARGET, level, "-I", TOP / "examples", "-c", source, "-o", folder / f"{stem}.o"])
+def compare(orc, folder, start, source, stem, compiler):
+    run([*compiler, *TARGET, "-I", TOP / "examples", "-c", source, "-o", folder / f"{stem}.o"])
     run(["riscv64-linux-gnu-ld", "-static", "--no-relax", start, folder / f"{stem}.o", "-o", folder / stem])
     wanted, status, _, there = outcome(["qemu-riscv64", folder / stem], folder)
     written, answered, log, here = outcome([orc, "run", f"{stem}.o", "--fuel", FUEL], folder)
     end = log.decode().splitlines()[-1]
     alike = (wanted, status) == (written, answered) and end.startswith("end exited ")
     verdict = "alike" if alike else "UNLIKE"
-    print(f"{stem:24} {verdict} status {answered} {end!r} orc {here:.3f} s, qemu {there:.3f} s")
+    print(f"{stem:36} {verdict} status {answered} {end!r} orc {here:.3f} s, qemu {there:.3f} s")
     return alike
 
 

@@ -1,7 +1,7 @@
 -- What every graph of an object keeps: its parts fit each other, they are few enough, and the names
 -- that it offers differ.
-use Rattle.std.proofs.Common.{◌≡◌, ◌≢◌, ℕ, zero, suc, ◌+◌, ◌-◌, ◌<◌, ◌≤◌, Bool, true, false, cond, not, ◌&&◌, ◌||◌, ◌==◌, nat_lt, List, [], ◌∷◌, ◌++◌, length, map, get_or, Option, Some, None, refl, sym, ap, subst, ◌∙◌, inl, inr, arith}
-use Rattle.std.specs.Prelude.{if◌then◌else◌, slice_get, sum_by, Contains, IsTrue, IsSome, is_some, option_map, ℤ, pos, negsuc, ◌%◌}
+use Rattle.std.proofs.Common.{◌≡◌, ◌≢◌, ℕ, zero, suc, ◌+◌, ◌-◌, ◌<◌, ◌≤◌, Bool, true, false, cond, not, ◌||◌, ◌==◌, nat_lt, List, [], ◌∷◌, ◌++◌, length, map, get_or, Option, Some, None, refl, sym, ap, subst, ◌∙◌, inl, inr, arith}
+use Rattle.std.specs.Prelude.{if◌then◌else◌, slice_get, sum_by, Contains, IsTrue, IsSome, is_some, is_none, option_map, ℤ, pos, negsuc}
 use Rattle.std.specs.Option.{option_map_or}
 use Rattle.std.specs.List.{All, AllPairs, filter, position_from}
 use Rattle.std.specs.Str.{bytes_eq}
@@ -9,6 +9,7 @@ use Rattle.std.specs.Cmp.Lexicographic.{nat_list_eq_equiv, same_text}
 use Rattle.std.proofs.lemmas.Bool.{cases_Bool, eqb-true, ltb-false, false≢true, true≢false, and_parts, or_parts, not-true}
 use Rattle.std.proofs.lemmas.List.{length-append, length-map}
 use Rattle.std.proofs.lemmas.List.Elements.{All-nil, All-cons, All-head, All-tail, All-map, All-append, All-weaker}
+use Rattle.std.proofs.lemmas.List.Sums.{sum_by-append, sum_by-cons}
 use Rattle.std.proofs.lemmas.Nat.{pow_pos}
 use Rattle.std.proofs.lemmas.Option.{same_Some}
 use Rattle.orc_ids.specs.declared.ids.NameId.{NameId}
@@ -28,13 +29,17 @@ use Rattle.link_model.specs.declared.graph.Edge.{Edge}
 use Rattle.link_model.specs.declared.graph.GSym.{GSym}
 use Rattle.link_model.specs.declared.graph.LinkGraph.{LinkGraph}
 use Rattle.link_model.specs.declared.kinds.Rule.{Rule}
-use Rattle.link_graph.specs.Object.{is_local, is_common, is_passed, is_nobits, is_mark, is_global, section_block, common_block, common_symbols, blocks_of, graph_place, graph_symbol, graph_symbols, name_number, edge_of, section_edges, edges_from, graph_of_parts}
-use Rattle.link_graph.specs.Checks.{ALIGN, or_else, first_error, symbol_error, reloc_place, is_passed_symbol, is_met, boundary, width_error, reloc_error, relocs_error}
-use Rattle.link_graph.specs.Parts.{is_over, failed_check, graph_places, place_error}
+use Rattle.link_graph.specs.Object.{is_local, is_common, is_passed, is_nobits, is_mark, is_global, section_block, common_block, common_symbols, blocks_of, graph_place, graph_symbol, graph_symbols, name_number, edge_of, section_edges, graph_of_parts}
+use Rattle.link_graph.specs.Padding.{ALIGN, is_align, padding, cut_of, cuts_of, deleted, all_cuts, trimmed_reloc, trimmed_by, trimmed_section, trimmed_symbol, trimmed}
+use Rattle.link_graph.specs.Checks.{is_too_large, edge_count, byte_count, or_else, symbol_error, reloc_place, is_passed_symbol, meets_cut, reloc_error, end_after, table_error, section_error, relocs_error, error_among}
+use Rattle.link_graph.specs.Parts.{InTurn, failed_check, place_error, trimmed_places, trimmed_edges}
+use Rattle.link_graph.specs.declared.cuts.Cut.{Cut}
 use Rattle.link_graph.specs.Read.{IsRead, AreNamed}
 use Rattle.link_graph.specs.declared.error.GraphError.{GraphError}
-use Rattle.link_graph.specs.declared.error.GraphError.TheVariants.{UnknownReloc, RelocOutside, NeedsAlign, TooMany}
+use Rattle.link_graph.specs.declared.error.GraphError.TheVariants.{RelocOutside, NeedsAlign, TooMany}
 use Rattle.link_graph.proofs.Whole.{length-graph_symbols}
+use Rattle.link_graph.proofs.Deletions.{is_cut, cuts_in_turn, moved_rises, moved_whole}
+use Rattle.link_graph.proofs.TrimmedFacts.{trimmed_facts, commons_counted, bytes_counted, edges_counted}
 use Rattle.link_graph.proofs.ReadFacts.{PlaceInside, NamesFew, Facts, facts}
 
 -- ---- the checks that were passed
@@ -48,17 +53,17 @@ if-none true x h = absurd cc
 if-none false x h = refl
 
 record Passed (o : ElfObject) : Type 0 where
-  small : is_over o ≡ false
+  small : is_too_large o ≡ false
   relocs : relocs_error o.symbols 0 o.sections ≡ None
 
 passed_all : (o : ElfObject) → failed_check o ≡ None → Passed o
 passed_all o h =
-    let pairs : Option GraphError = first_error (place_error (graph_places (length o.sections) o.symbols) (edges_from 0 o.sections)) (edges_from 0 o.sections) in
+    let pairs : Option GraphError = error_among (place_error (trimmed_places o) (trimmed_edges 0 o.sections)) 0 o.sections in
     let relocs : Option GraphError = or_else (relocs_error o.symbols 0 o.sections) pairs in
     let symbols : Option GraphError = or_else (symbol_error 0 o.symbols) relocs in
-    let first = or_else-parts (if is_over o then Some TooMany else None) symbols h in
+    let first = or_else-parts (if is_too_large o then Some TooMany else None) symbols h in
     let second = or_else-parts (symbol_error 0 o.symbols) relocs first.1 in
-    record { small = if-none (is_over o) TooMany first.0; relocs = (or_else-parts (relocs_error o.symbols 0 o.sections) pairs second.1).0 }
+    record { small = if-none (is_too_large o) TooMany first.0; relocs = (or_else-parts (relocs_error o.symbols 0 o.sections) pairs second.1).0 }
 
 -- ---- blocks
 
@@ -155,48 +160,83 @@ record FitsSection (s : Section) (r : Reloc) : Type 0 where
   inside : r.at + (rule_of r.kind).width ≤ s.size
   known : IsSome (row_of r.kind)
 
-met_inside : (s : Section) (r : Reloc) (a : ℤ) → is_met s r a ≡ true → r.at ≤ s.size
-met_inside s r (negsuc k) h = absurd (false≢true h)
-met_inside s r (pos a) h =
-    let end = nat_lt s.size (r.at + a) in
-    let parts = and_parts ((r.at + a) % boundary a == 0 && not (nat_lt s.align (boundary a))) (not end) h in
-    omega (arith, ltb-false s.size (r.at + a) (not-true end parts.1))
+-- what the tests of a relocation that is no mark say
+record Met (outside is_align met over : Bool) : Type 0 where
+  align : is_align ≡ true → met ≡ true
+  other : is_align ≡ false → over ≡ false
 
-passes_tests : (outside is_align met over : Bool) (x y z : GraphError) → (if outside then Some x else (if is_align then (if met then None else Some y) else (if over then Some z else None))) ≡ None → (is_align ≡ true → met ≡ true) × (is_align ≡ false → over ≡ false)
+passes_tests : (outside is_align met over : Bool) (x y z : GraphError) → (if outside then Some x else (if is_align then (if not met then Some y else None) else (if over then Some z else None))) ≡ None → Met outside is_align met over
 passes_tests true is_align met over x y z h = absurd cc
-passes_tests false true true over x y z h = (λ t. refl, λ f. absurd (true≢false f))
+passes_tests false true true over x y z h = record { align = λ t. refl; other = λ f. absurd (true≢false f) }
 passes_tests false true false over x y z h = absurd cc
 passes_tests false false met true x y z h = absurd cc
-passes_tests false false met false x y z h = (λ t. absurd (false≢true t), λ f. refl)
+passes_tests false false met false x y z h = record { align = λ t. absurd (false≢true t); other = λ f. refl }
+
+-- an ALIGN that has a cut ends in its section
+cut_inside : (size end before at : ℕ) (addend : ℤ) (cut : Option Cut) → cut_of size end before at addend ≡ cut → not (is_none cut) ≡ true → at + padding addend ≤ size
+cut_inside size end before at (negsuc k) cut is some = let none : cut ≡ None = sym is in absurd (false≢true (sym (ap (λ (c : Option Cut). not (is_none c)) none) ∙ some))
+cut_inside size end before at (pos a) None is some = absurd (false≢true some)
+cut_inside size end before at (pos a) (Some c) is some = (is_cut size end before at a c is).inside
 
 align_width : (kind : ℕ) → (kind == ALIGN) ≡ true → (rule_of kind).width ≡ 0
 unfolding row_of
 align_width kind is = ap (λ (k : ℕ). (rule_of k).width) (eqb-true kind ALIGN is)
 
-row_fits : (symbols : List Symbol) (block : ℕ) (s : Section) (r : Reloc) (row : Option Rule) → row_of r.kind ≡ row → is_mark r ≡ false → option_map_or
-    (λ rule.
-    if is_mark r then None
-    else (if is_nobits s || is_passed_symbol symbols r.symbol then Some (RelocOutside (reloc_place block r))
-    else (if r.kind == ALIGN then (if is_met s r r.addend then None else Some (NeedsAlign (reloc_place block r)))
-    else width_error s r (reloc_place block r) rule.width)))
-    row
-    (Some (UnknownReloc r.kind (reloc_place block r))) ≡ None → FitsSection s r
-row_fits symbols block s r None e edge h = absurd cc
-row_fits symbols block s r (Some rule) e edge h =
+align_known : (r : Reloc) → is_align r ≡ true → IsSome (row_of r.kind)
+unfolding row_of
+align_known r is = ap (λ (k : ℕ). is_some (row_of k)) (eqb-true r.kind ALIGN is)
+
+align_edge : (r : Reloc) → is_align r ≡ true → is_mark r ≡ false
+align_edge r is = ap (λ (k : ℕ). k == 0 || k == 51) (eqb-true r.kind ALIGN is)
+
+twice_not : (b : Bool) → b ≡ not (not b)
+twice_not true = refl
+twice_not false = refl
+
+row_tests : (symbols : List Symbol) (block : ℕ) (s : Section) (cuts : List Cut) (end : ℕ) (r : Reloc) (rule : Rule) → row_of r.kind ≡ Some rule → is_mark r ≡ false → reloc_error symbols block s cuts end r ≡ None →
+    Met (is_nobits s || is_passed_symbol symbols r.symbol) (is_align r) (not (is_none (cut_of s.size end (deleted cuts r.at) r.at r.addend))) (nat_lt s.size (r.at + rule.width) || meets_cut cuts r.at rule.width)
+row_tests symbols block s cuts end r rule row edge h =
     let place = reloc_place block r in
+    let none = is_none (cut_of s.size end (deleted cuts r.at) r.at r.addend) in
+    passes_tests (is_nobits s || is_passed_symbol symbols r.symbol) (is_align r) (not none) (nat_lt s.size (r.at + rule.width) || meets_cut cuts r.at rule.width) (RelocOutside place) (NeedsAlign place) (RelocOutside place)
+    (subst
+    (λ (b : Bool). (if is_nobits s || is_passed_symbol symbols r.symbol then Some (RelocOutside place) else (if is_align r then (if b then Some (NeedsAlign place) else None) else (if nat_lt s.size (r.at + rule.width) || meets_cut cuts r.at rule.width then Some (RelocOutside place) else None))) ≡ None)
+    (twice_not none)
+    (rw (row, edge) at h))
+
+-- the padding of an ALIGN that is passed lies in its section
+pub align_inside : (symbols : List Symbol) (block : ℕ) (s : Section) (cuts : List Cut) (end : ℕ) (r : Reloc) → reloc_error symbols block s cuts end r ≡ None → is_align r ≡ true → r.at + padding r.addend ≤ s.size
+align_inside symbols block s cuts end r h align = by_row (row_of r.kind) refl
+  where
+    by_row : (row : Option Rule) → row_of r.kind ≡ row → r.at + padding r.addend ≤ s.size
+    by_row None is = absurd (false≢true (sym (ap is_some is) ∙ align_known r align))
+    by_row (Some rule) is = cut_inside s.size end (deleted cuts r.at) r.at r.addend (cut_of s.size end (deleted cuts r.at) r.at r.addend) refl ((row_tests symbols block s cuts end r rule is (align_edge r align) h).align align)
+
+row_fits : (symbols : List Symbol) (block : ℕ) (s : Section) (cuts : List Cut) (end : ℕ) (r : Reloc) (row : Option Rule) → InTurn 0 0 cuts → row_of r.kind ≡ row → is_mark r ≡ false → reloc_error symbols block s cuts end r ≡ None → FitsSection (trimmed_by cuts s) (trimmed_reloc cuts r)
+row_fits symbols block s cuts end r None turn e edge h = let none = rw e at h in absurd cc
+row_fits symbols block s cuts end r (Some rule) turn e edge h =
     let over = nat_lt s.size (r.at + rule.width) in
-    let tests = passes_tests (is_nobits s || is_passed_symbol symbols r.symbol) (r.kind == ALIGN) (is_met s r r.addend) over (RelocOutside place) (NeedsAlign place) (RelocOutside place) (rw edge at h) in
+    let tests = row_tests symbols block s cuts end r rule e edge h in
     let is : rule_of r.kind ≡ rule = ap known e in
     record {
-      inside = elim (cases_Bool (r.kind == ALIGN)) [
-        | inl align ↦ omega (arith, met_inside s r r.addend (tests.0 align), align_width r.kind align)
-        | inr other ↦ (let width = ap (λ (x : Rule). x.width) is in omega (arith, ltb-false s.size (r.at + rule.width) (tests.1 other), width))
+      inside = elim (cases_Bool (is_align r)) [
+        | inl align ↦ (
+            let within = align_inside symbols block s cuts end r h align in
+            let rises = moved_rises cuts r.at s.size turn (omega arith) in
+            omega (arith, rises, align_width r.kind align))
+        | inr other ↦ (
+            let parts = or_parts over (meets_cut cuts r.at rule.width) (tests.other other) in
+            let width = ap (λ (x : Rule). x.width) is in
+            let within = ltb-false s.size (r.at + rule.width) parts.0 in
+            let whole = ltb-false (deleted cuts r.at) (deleted cuts (r.at + rule.width)) parts.1 in
+            let stays = moved_whole cuts r.at rule.width s.size turn within whole in
+            omega (arith, stays, width))
       ];
       known = ap is_some e;
     }
 
-reloc_fits : (symbols : List Symbol) (block : ℕ) (s : Section) (r : Reloc) → is_mark r ≡ false → reloc_error symbols block s r ≡ None → FitsSection s r
-reloc_fits symbols block s r edge h = row_fits symbols block s r (row_of r.kind) refl edge h
+reloc_fits : (symbols : List Symbol) (block : ℕ) (s : Section) (cuts : List Cut) (end : ℕ) (r : Reloc) → InTurn 0 0 cuts → is_mark r ≡ false → reloc_error symbols block s cuts end r ≡ None → FitsSection (trimmed_by cuts s) (trimmed_reloc cuts r)
+reloc_fits symbols block s cuts end r turn edge h = row_fits symbols block s cuts end r (row_of r.kind) turn refl edge h
 
 edge_here : (block n : ℕ) (s : Section) (ss : List Section) (r : Reloc) → FitsSection s r → r.symbol < n → FitsAmong block n (s ∷ ss) (edge_of block r)
 edge_here block n s ss r fits target = record {
@@ -222,21 +262,22 @@ edge_or : (P : Edge → Type 0) (f : Reloc → Edge) (mark : Bool) (r : Reloc) (
 edge_or P f true r rs here rest = rest
 edge_or P f false r rs here rest = All-cons P (f r) (map f rs) (here refl) rest
 
-section_edges_fit : (symbols : List Symbol) (block n : ℕ) (s : Section) (ss : List Section) (rs : List Reloc) → first_error (reloc_error symbols block s) rs ≡ None → All (λ (r : Reloc). r.symbol < n) rs → All (FitsAmong block n (s ∷ ss)) (map (edge_of block) (filter (λ (r : Reloc). not (is_mark r)) rs))
-section_edges_fit symbols block n s ss [] none targets = All-nil (FitsAmong block n (s ∷ ss))
-section_edges_fit symbols block n s ss (r ∷ rs) none targets =
-    let parts = or_else-parts (reloc_error symbols block s r) (first_error (reloc_error symbols block s) rs) none in
-    edge_or (FitsAmong block n (s ∷ ss)) (edge_of block) (is_mark r) r (filter (λ (x : Reloc). not (is_mark x)) rs)
-    (λ edge. edge_here block n s ss r (reloc_fits symbols block s r edge parts.0) (All-head (λ (x : Reloc). x.symbol < n) r rs targets))
-    (section_edges_fit symbols block n s ss rs parts.1 (All-tail (λ (x : Reloc). x.symbol < n) r rs targets))
+section_edges_fit : (symbols : List Symbol) (block n : ℕ) (s : Section) (ss : List Section) (cuts : List Cut) (end : ℕ) (rs : List Reloc) → InTurn 0 0 cuts → table_error symbols block s cuts end rs ≡ None → All (λ (r : Reloc). r.symbol < n) rs → All (FitsAmong block n (trimmed_by cuts s ∷ ss)) (map (edge_of block) (filter (λ (r : Reloc). not (is_mark r)) (map (trimmed_reloc cuts) rs)))
+section_edges_fit symbols block n s ss cuts end [] turn none targets = All-nil (FitsAmong block n (trimmed_by cuts s ∷ ss))
+section_edges_fit symbols block n s ss cuts end (r ∷ rs) turn none targets =
+    let parts = or_else-parts (reloc_error symbols block s cuts end r) (table_error symbols block s cuts (end_after end r) rs) none in
+    edge_or (FitsAmong block n (trimmed_by cuts s ∷ ss)) (edge_of block) (is_mark r) (trimmed_reloc cuts r) (filter (λ (x : Reloc). not (is_mark x)) (map (trimmed_reloc cuts) rs))
+    (λ edge. edge_here block n (trimmed_by cuts s) ss (trimmed_reloc cuts r) (reloc_fits symbols block s cuts end r turn edge parts.0) (All-head (λ (x : Reloc). x.symbol < n) r rs targets))
+    (section_edges_fit symbols block n s ss cuts (end_after end r) rs turn parts.1 (All-tail (λ (x : Reloc). x.symbol < n) r rs targets))
 
-edges_fit : (symbols : List Symbol) (block n : ℕ) (ss : List Section) → relocs_error symbols block ss ≡ None → All (NamesFew n) ss → All (FitsAmong block n ss) (edges_from block ss)
+edges_fit : (symbols : List Symbol) (block n : ℕ) (ss : List Section) → relocs_error symbols block ss ≡ None → All (NamesFew n) ss → All (FitsAmong block n (map trimmed_section ss)) (trimmed_edges block ss)
 edges_fit symbols block n [] none targets = All-nil (FitsAmong block n [])
 edges_fit symbols block n (s ∷ ss) none targets =
-    let parts = or_else-parts (first_error (reloc_error symbols block s) s.relocs) (relocs_error symbols (block + 1) ss) none in
-    All-append (FitsAmong block n (s ∷ ss)) (section_edges block s) (edges_from (block + 1) ss)
-    (section_edges_fit symbols block n s ss s.relocs parts.0 (All-head (NamesFew n) s ss targets))
-    (All-weaker (FitsAmong (block + 1) n ss) (FitsAmong block n (s ∷ ss)) (edge_later block n s ss) (edges_from (block + 1) ss) (edges_fit symbols (block + 1) n ss parts.1 (All-tail (NamesFew n) s ss targets)))
+    let parts = or_else-parts (section_error symbols block s) (relocs_error symbols (block + 1) ss) none in
+    let later = map trimmed_section ss in
+    All-append (FitsAmong block n (trimmed_section s ∷ later)) (section_edges block (trimmed_section s)) (trimmed_edges (block + 1) ss)
+    (section_edges_fit symbols block n s later (cuts_of s) 0 s.relocs (cuts_in_turn s) parts.0 (All-head (NamesFew n) s ss targets))
+    (All-weaker (FitsAmong (block + 1) n later) (FitsAmong block n (trimmed_section s ∷ later)) (edge_later block n (trimmed_section s) later) (trimmed_edges (block + 1) ss) (edges_fit symbols (block + 1) n ss parts.1 (All-tail (NamesFew n) s ss targets)))
 
 edge_fits : (g : LinkGraph) (sections : List Section) (bs : List Block) (e : Edge) → g.blocks ≡ map section_block sections ++ bs → FitsAmong 0 (length g.symbols) sections e → EdgeFits g e
 edge_fits g sections bs e is fits =
@@ -320,50 +361,78 @@ names_differ names common ss named apart i j d before lt offered offered' same =
 
 -- ---- the graph
 
-pub graph_sound : (names : List (List ℕ)) (o : ElfObject) (g : LinkGraph) → IsRead o → failed_check o ≡ None → g ≡ graph_of_parts names o → Sound g
+pub graph_sound : (names : List (List ℕ)) (o : ElfObject) (g : LinkGraph) → IsRead o → failed_check o ≡ None → g ≡ graph_of_parts names (trimmed o) → Sound g
 graph_sound names o g read none is =
-    let h = facts o read in
+    let read_facts = facts o read in
+    let h = trimmed_facts o read_facts in
     let passed = passed_all o none in
-    let blocks : g.blocks ≡ blocks_of o = ap (λ (x : LinkGraph). x.blocks) is in
-    let symbols : g.symbols ≡ graph_symbols names (length o.sections) o.symbols = ap (λ (x : LinkGraph). x.symbols) is in
-    let edges : g.edges ≡ edges_from 0 o.sections = ap (λ (x : LinkGraph). x.edges) is in
-    let commons : List Block = map common_block (common_symbols o.symbols) in
-    let count : length g.symbols ≡ length o.symbols = ap (λ (xs : List GSym). length xs) symbols ∙ length-graph_symbols names (length o.sections) o.symbols in
-    let room : length o.sections + length (common_symbols o.symbols) ≤ length g.blocks = omega (arith, ap (λ (xs : List Block). length xs) blocks, count_blocks o) in
+    let sections = (trimmed o).sections in
+    let ss = (trimmed o).symbols in
+    let blocks : g.blocks ≡ blocks_of (trimmed o) = ap (λ (x : LinkGraph). x.blocks) is in
+    let symbols : g.symbols ≡ graph_symbols names (length sections) ss = ap (λ (x : LinkGraph). x.symbols) is in
+    let edges : g.edges ≡ trimmed_edges 0 o.sections = ap (λ (x : LinkGraph). x.edges) is in
+    let commons : List Block = map common_block (common_symbols ss) in
+    let count : length g.symbols ≡ length o.symbols = ap (λ (xs : List GSym). length xs) symbols ∙ length-graph_symbols names (length sections) ss ∙ length-map o.symbols (trimmed_symbol (all_cuts o.sections)) in
+    let room : length sections + length (common_symbols ss) ≤ length g.blocks = omega (arith, ap (λ (xs : List Block). length xs) blocks, count_blocks (trimmed o)) in
     record {
-      bytes = subst (All (λ (b : Block). length b.bytes ≤ b.size)) (sym blocks) (short_blocks o h);
-      aligns = subst (All (λ (b : Block). 0 < b.align)) (sym blocks) (All-weaker (λ (b : Block). IsAlignment b.align) (λ (b : Block). 0 < b.align) (λ b is. positive b.align is) (blocks_of o) (aligned_blocks o h));
-      symbols = subst (All (λ (s : GSym). PlaceFits g s.place)) (sym symbols) (symbols_fit names g o.sections commons (length o.sections) o.symbols blocks room h.places);
-      edges = subst (All (EdgeFits g)) (sym edges) (All-weaker (FitsAmong 0 (length g.symbols) o.sections) (EdgeFits g) (λ e fits. edge_fits g o.sections commons e blocks fits) (edges_from 0 o.sections)
-          (subst (λ (n : ℕ). All (FitsAmong 0 n o.sections) (edges_from 0 o.sections)) (sym count) (edges_fit o.symbols 0 (length o.symbols) o.sections passed.relocs h.targets)));
+      bytes = subst (All (λ (b : Block). length b.bytes ≤ b.size)) (sym blocks) (short_blocks (trimmed o) h);
+      aligns = subst (All (λ (b : Block). 0 < b.align)) (sym blocks) (All-weaker (λ (b : Block). IsAlignment b.align) (λ (b : Block). 0 < b.align) (λ b is. positive b.align is) (blocks_of (trimmed o)) (aligned_blocks (trimmed o) h));
+      symbols = subst (All (λ (s : GSym). PlaceFits g s.place)) (sym symbols) (symbols_fit names g sections commons (length sections) ss blocks room h.places);
+      edges = subst (All (EdgeFits g)) (sym edges) (All-weaker (FitsAmong 0 (length g.symbols) sections) (EdgeFits g) (λ e fits. edge_fits g sections commons e blocks fits) (trimmed_edges 0 o.sections)
+          (subst (λ (n : ℕ). All (FitsAmong 0 n sections) (trimmed_edges 0 o.sections)) (sym count) (edges_fit o.symbols 0 (length o.symbols) o.sections passed.relocs read_facts.targets)));
     }
 
-pub graph_sized : (names : List (List ℕ)) (o : ElfObject) (g : LinkGraph) → IsRead o → failed_check o ≡ None → g ≡ graph_of_parts names o → IsSized g
+-- the sizes of the blocks
+sizes_of_sections : (ss : List Section) → sum_by (λ (b : Block). b.size) (map section_block ss) ≡ sum_by (λ (s : Section). s.size) ss
+sizes_of_sections [] = refl
+sizes_of_sections (s ∷ ss) = let rest = sizes_of_sections ss in omega (arith, rest, sum_by-cons (λ (b : Block). b.size) (section_block s) (map section_block ss), sum_by-cons (λ (x : Section). x.size) s ss)
+
+sizes_of_commons : (ss : List Symbol) → sum_by (λ (b : Block). b.size) (map common_block ss) ≡ sum_by (λ (s : Symbol). s.size) ss
+sizes_of_commons [] = refl
+sizes_of_commons (s ∷ ss) = let rest = sizes_of_commons ss in omega (arith, rest, sum_by-cons (λ (b : Block). b.size) (common_block s) (map common_block ss), sum_by-cons (λ (x : Symbol). x.size) s ss)
+
+block_bytes : (o : ElfObject) → sum_by (λ (b : Block). b.size) (blocks_of o) ≡ byte_count o
+block_bytes o =
+    let commons = common_symbols o.symbols in
+    sum_by-append (λ (b : Block). b.size) (map section_block o.sections) (map common_block commons)
+    ∙ ap (λ (n : ℕ). n + sum_by (λ (b : Block). b.size) (map common_block commons)) (sizes_of_sections o.sections)
+    ∙ ap (λ (n : ℕ). sum_by (λ (s : Section). s.size) o.sections + n) (sizes_of_commons commons)
+
+pub graph_sized : (names : List (List ℕ)) (o : ElfObject) (g : LinkGraph) → IsRead o → failed_check o ≡ None → g ≡ graph_of_parts names (trimmed o) → IsSized g
 graph_sized names o g read none is =
     let passed = passed_all o none in
-    let many = nat_lt MAX_BLOCKS (length (blocks_of o)) in
+    let many = nat_lt MAX_BLOCKS (length o.sections + length (common_symbols o.symbols)) in
     let named = nat_lt MAX_SYMBOLS (length o.symbols) in
-    let linked = nat_lt MAX_EDGES (length (edges_from 0 o.sections)) in
-    let large = nat_lt MAX_BYTES (sum_by (λ (b : Block). b.size) (blocks_of o)) in
+    let linked = nat_lt MAX_EDGES (edge_count o.sections) in
+    let large = nat_lt MAX_BYTES (byte_count o) in
     let first = or_parts (many || named || linked) large passed.small in
     let second = or_parts (many || named) linked first.0 in
     let third = or_parts many named second.0 in
-    let few = ltb-false MAX_BLOCKS (length (blocks_of o)) third.0 in
+    let few = ltb-false MAX_BLOCKS (length o.sections + length (common_symbols o.symbols)) third.0 in
     let symbols = ltb-false MAX_SYMBOLS (length o.symbols) third.1 in
-    let edges = ltb-false MAX_EDGES (length (edges_from 0 o.sections)) second.1 in
-    let bytes = ltb-false MAX_BYTES (sum_by (λ (b : Block). b.size) (blocks_of o)) first.1 in
-    let count = length-graph_symbols names (length o.sections) o.symbols in
+    let edges = ltb-false MAX_EDGES (edge_count o.sections) second.1 in
+    let bytes = ltb-false MAX_BYTES (byte_count o) first.1 in
+    let sections : length (trimmed o).sections ≡ length o.sections = length-map o.sections trimmed_section in
+    let counted : length (graph_symbols names (length (trimmed o).sections) (trimmed o).symbols) ≡ length o.symbols = length-graph_symbols names (length (trimmed o).sections) (trimmed o).symbols ∙ length-map o.symbols (trimmed_symbol (all_cuts o.sections)) in
     subst IsSized (sym is) (record {
-      blocks = few;
-      symbols = omega (arith, count, symbols);
-      edges = edges;
-      bytes = bytes;
-      aligns = aligned_blocks o (facts o read);
+      blocks = omega (arith, count_blocks (trimmed o), sections, commons_counted o, few);
+      symbols = omega (arith, counted, symbols);
+      edges = omega (arith, edges_counted 0 o.sections, edges);
+      bytes = omega (arith, block_bytes (trimmed o), bytes_counted o, bytes);
+      aligns = aligned_blocks (trimmed o) (trimmed_facts o (facts o read));
     })
 
-pub graph_offers : (names : List (List ℕ)) (o : ElfObject) (g : LinkGraph) → IsRead o → AreNamed names o.symbols → g ≡ graph_of_parts names o → OffersDiffer g
+-- deletion leaves the names
+pub all_named : (names : List (List ℕ)) (cuts : List (List Cut)) (ss : List Symbol) → AreNamed names ss → AreNamed names (map (trimmed_symbol cuts) ss)
+all_named names cuts [] h = All-nil (λ (s : Symbol). IsTrue (is_global s) → Contains names s.name)
+all_named names cuts (s ∷ ss) h =
+    All-cons (λ (s : Symbol). IsTrue (is_global s) → Contains names s.name) (trimmed_symbol cuts s) (map (trimmed_symbol cuts) ss)
+    (All-head (λ (s : Symbol). IsTrue (is_global s) → Contains names s.name) s ss h) (all_named names cuts ss (All-tail (λ (s : Symbol). IsTrue (is_global s) → Contains names s.name) s ss h))
+
+pub graph_offers : (names : List (List ℕ)) (o : ElfObject) (g : LinkGraph) → IsRead o → AreNamed names o.symbols → g ≡ graph_of_parts names (trimmed o) → OffersDiffer g
 graph_offers names o g read named is =
+    let there = all_named names (all_cuts o.sections) o.symbols named in
     subst OffersDiffer (sym is) (record {
-      named = names_there names (length o.sections) o.symbols named;
-      differ = names_differ names (length o.sections) o.symbols named (facts o read).names;
+      named = names_there names (length (trimmed o).sections) (trimmed o).symbols there;
+      differ = names_differ names (length (trimmed o).sections) (trimmed o).symbols there (trimmed_facts o (facts o read)).names;
     })

@@ -1,8 +1,10 @@
 pub mod ReadNames
 pub mod ReadChecks
 pub mod ReadFacts
+pub mod TrimmedFacts
 pub mod GraphFacts
 pub mod NameNumbers
 pub mod Whole
 pub mod Powers
 pub mod Labels
+pub mod Deletions

@@ -1,6 +1,8 @@
-ghost use Rattle.std.specs.Prelude.{◌≡◌, ◌++◌, map, IfOk, OnOk};
+ghost use Rattle.std.specs.Prelude.{◌≡◌, ◌++◌, ◌-◌, map, take, drop, IfOk, OnOk};
 ghost use Rattle.link_graph.specs.Object.{is_common, section_block, common_block, common_symbols, blocks_of};
+ghost use Rattle.link_graph.specs.Padding.{kept_bytes, Keeps, trimmed_by, trimmed_section, all_cuts, trimmed};
 
+use crate::cuts::Cuts;
 use elf_read::{ElfObject, Section, SymPlace, Symbol};
 use link_model::Block;
 use orc_ids::Bytes;
@@ -13,13 +15,45 @@ pub(crate) fn in_common(place: SymPlace) -> bool
     matches!(place, SymPlace::Common)
 }
 
-fn block_of_section(alloc: Global, s: &Section) -> Result<Block, AllocError>
-    ensures { IfOk result (λ block. block ≡ section_block s.now) }
+/// The bytes from one place to another, as far as they are there.
+fn part(bytes: &[u8], from: u64, to: u64) -> &[u8]
+    ensures { result.now ≡ take (to - from) (drop from bytes.now) }
+{
+    let end = (to as usize).min(bytes.len());
+    let start = (from as usize).min(end);
+    &bytes[start..end]
+}
+
+/// The bytes from a place on.
+fn rest(bytes: &[u8], from: u64) -> &[u8]
+    ensures { result.now ≡ drop from bytes.now }
+{
+    let start = (from as usize).min(bytes.len());
+    &bytes[start..]
+}
+
+/// The bytes that lie in no cut.
+fn kept_bytes(alloc: Global, bytes: &[u8], cuts: &Cuts) -> Result<Bytes, AllocError>
+    ensures exact { IfOk result (λ kept. kept ≡ kept_bytes 0 cuts.now bytes.now) }
+    ensures kept { IfOk result (λ kept. Keeps cuts.now bytes.now kept) }
+{
+    let mut kept = Vec::new(alloc);
+    let mut from = 0;
+    for cut in cuts.as_slice() {
+        kept.extend_from_slice(part(bytes, from, cut.from))?;
+        from = cut.to;
+    }
+    kept.extend_from_slice(rest(bytes, from))?;
+    Ok(Bytes::from_vec(kept))
+}
+
+fn block_of_section(alloc: Global, s: &Section, cuts: &Cuts) -> Result<Block, AllocError>
+    ensures { IfOk result (λ block. block ≡ section_block (trimmed_by cuts.now s.now)) }
 {
     Ok(Block {
-        bytes: Bytes::copy_of(alloc, s.bytes.as_slice())?,
-        size: s.size,
-        align: s.align,
+        bytes: kept_bytes(alloc, s.bytes.as_slice(), cuts)?,
+        size: cuts.moved(s.size),
+        align: cuts.raised(s.align),
     })
 }
 
@@ -33,12 +67,17 @@ fn block_of_common(alloc: Global, s: &Symbol) -> Block
     }
 }
 
-fn section_blocks(alloc: Global, sections: &[Section]) -> Result<Vec<Block>, AllocError>
-    ensures { IfOk result (λ blocks. blocks.items ≡ map section_block sections.now) }
+fn section_blocks(
+    alloc: Global,
+    sections: &[Section],
+    cuts: &[Cuts],
+) -> Result<Vec<Block>, AllocError>
+    requires { cuts.now ≡ all_cuts sections.now }
+    ensures { IfOk result (λ blocks. blocks.items ≡ map section_block (map trimmed_section sections.now)) }
 {
     let mut blocks = Vec::new(alloc);
-    for section in sections {
-        blocks.push(block_of_section(alloc, section)?)?;
+    for (k, section) in sections.iter().enumerate() {
+        blocks.push(block_of_section(alloc, section, &cuts[k])?)?;
     }
     Ok(blocks)
 }
@@ -55,11 +94,16 @@ fn add_commons(alloc: Global, blocks: &mut Vec<Block>, symbols: &[Symbol]) -> Re
     Ok(())
 }
 
-/// The blocks of an object.
-pub(crate) fn all_blocks(alloc: Global, o: &ElfObject) -> Result<Vec<Block>, AllocError>
-    ensures { IfOk result (λ blocks. blocks.items ≡ blocks_of o.now) }
+/// The blocks of an object after deletion.
+pub(crate) fn all_blocks(
+    alloc: Global,
+    o: &ElfObject,
+    cuts: &[Cuts],
+) -> Result<Vec<Block>, AllocError>
+    requires { cuts.now ≡ all_cuts o.now.sections }
+    ensures { IfOk result (λ blocks. blocks.items ≡ blocks_of (trimmed o.now)) }
 {
-    let mut blocks = section_blocks(alloc, o.sections.as_slice())?;
+    let mut blocks = section_blocks(alloc, o.sections.as_slice(), cuts)?;
     add_commons(alloc, &mut blocks, o.symbols.as_slice())?;
     Ok(blocks)
 }

@@ -1,6 +1,9 @@
 ghost use Rattle.std.specs.Prelude.{◌≡◌, ◌≤◌, ◌^◌, ◌++◌, length, IfOk, OnOk};
-ghost use Rattle.link_graph.specs.Object.{is_mark, edge_of, section_edges, edges_from};
+ghost use Rattle.link_graph.specs.Object.{is_mark, edge_of, section_edges};
+ghost use Rattle.link_graph.specs.Padding.{trimmed_addend, trimmed_reloc, trimmed_by, all_cuts};
+ghost use Rattle.link_graph.specs.Parts.{trimmed_edges};
 
+use crate::cuts::{Cuts, is_align, needed, padding, power_over};
 use elf_read::{Reloc, Section};
 use link_model::Edge;
 use link_model::kinds::{NONE, RELAX};
@@ -13,38 +16,58 @@ pub(crate) fn marks_only(r: &Reloc) -> bool
     r.kind == NONE || r.kind == RELAX
 }
 
-fn edge_in(block: u32, r: &Reloc) -> Edge
-    ensures { result ≡ edge_of block r.now }
+/// The addend after deletion, at a place: that of ALIGN is what is kept of its padding.
+fn addend_at(cuts: &Cuts, r: &Reloc) -> i64
+    ensures { result ≡ trimmed_addend cuts.now r.now }
+{
+    if !is_align(r) {
+        return r.addend;
+    }
+    needed(cuts.moved(r.at), power_over(padding(r.addend))) as i64
+}
+
+fn edge_in(block: u32, cuts: &Cuts, r: &Reloc) -> Edge
+    ensures { result ≡ edge_of block (trimmed_reloc cuts.now r.now) }
 {
     Edge {
         block,
-        offset: r.at,
+        offset: cuts.moved(r.at),
         kind: r.kind,
         target: r.symbol,
-        addend: r.addend,
+        addend: addend_at(cuts, r),
     }
 }
 
 /// Adds the edges of one section.
-fn add_edges(edges: &mut Vec<Edge>, block: u32, section: &Section) -> Result<(), AllocError>
-    ensures { OnOk result (edges.new.items ≡ edges.old.items ++ section_edges block section.now) }
+fn add_edges(
+    edges: &mut Vec<Edge>,
+    block: u32,
+    section: &Section,
+    cuts: &Cuts,
+) -> Result<(), AllocError>
+    ensures { OnOk result (edges.new.items ≡ edges.old.items ++ section_edges block (trimmed_by cuts.now section.now)) }
 {
     for r in section.relocs.as_slice() {
         if !marks_only(r) {
-            edges.push(edge_in(block, r))?;
+            edges.push(edge_in(block, cuts, r))?;
         }
     }
     Ok(())
 }
 
-/// The edges of the sections.
-pub(crate) fn all_edges(alloc: Global, sections: &[Section]) -> Result<Vec<Edge>, AllocError>
-    requires { length sections.now ≤ 2 ^ 32 }
-    ensures { IfOk result (λ edges. edges.items ≡ edges_from 0 sections.now) }
+/// The edges of the sections after deletion.
+pub(crate) fn all_edges(
+    alloc: Global,
+    sections: &[Section],
+    cuts: &[Cuts],
+) -> Result<Vec<Edge>, AllocError>
+    requires few { length sections.now ≤ 2 ^ 32 }
+    requires same { cuts.now ≡ all_cuts sections.now }
+    ensures { IfOk result (λ edges. edges.items ≡ trimmed_edges 0 sections.now) }
 {
     let mut edges = Vec::new(alloc);
     for (block, section) in sections.iter().enumerate() {
-        add_edges(&mut edges, block as u32, section)?;
+        add_edges(&mut edges, block as u32, section, &cuts[block])?;
     }
     Ok(edges)
 }

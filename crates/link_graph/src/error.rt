@@ -12,8 +12,8 @@ pub enum GraphError {
     /// A relocation of a type that isn't one of those that are linked.
     #[error("relocation type {0} is not supported")]
     UnknownReloc(u32, Place),
-    /// A relocation of bytes outside its section, of a section without bytes, or by a symbol of a
-    /// section that is passed over.
+    /// A relocation of bytes outside its section or of deleted ones, of a section without bytes, or by
+    /// a symbol of a section that is passed over.
     #[error("a relocation lies outside what is linked")]
     RelocOutside(Place),
     /// The symbol of this number is thread-local or an indirect function.
@@ -22,7 +22,8 @@ pub enum GraphError {
     /// A PCREL_LO12 whose label has no upper edge.
     #[error("a low part has no upper part")]
     BadPair(Place),
-    /// An ALIGN whose end isn't aligned.
+    /// An ALIGN whose padding isn't in its section, starts before that of the ALIGN before it ends, is
+    /// for a boundary above 4,096, or is shorter than its place needs.
     #[error("an alignment isn't met")]
     NeedsAlign(Place),
     /// More blocks, symbols, edges or bytes than a unit may have.

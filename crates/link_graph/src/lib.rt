@@ -9,6 +9,7 @@
 #![tactic(auto)]
 
 mod blocks;
+mod cuts;
 mod edges;
 mod error;
 mod graph;
@@ -16,9 +17,8 @@ mod limits;
 mod pairs;
 mod relocs;
 mod symbols;
-#[cfg(test)]
-mod tests;
 
+pub use cuts::BOUNDARY_LIMIT;
 pub use error::GraphError;
 pub use graph::graph_of;
 pub use limits::{BLOCK_LIMIT, BYTE_LIMIT, EDGE_LIMIT, SYMBOL_LIMIT};

@@ -1,10 +1,11 @@
-ghost use Rattle.std.specs.Prelude.{◌≡◌, slice_get, IfOk};
+ghost use Rattle.std.specs.Prelude.{◌≡◌, ◌≤◌, ◌^◌, length, slice_get, IfOk};
 ghost use Rattle.link_model.specs.declared.graph.GPlace.TheVariants.{Abs};
 ghost use Rattle.link_model.specs.Image.{at_or, is_paired, is_upper};
-ghost use Rattle.link_graph.specs.Checks.{first_error};
+ghost use Rattle.link_graph.specs.Checks.{first_error, error_among};
 ghost use Rattle.link_graph.specs.Parts.{AreUppers, is_labelled, label_error, place_error};
 
 use crate::error::GraphError;
+use elf_read::{Reloc, Section};
 use link_model::kinds::{GOT_HI20, PCREL_HI20, PCREL_LO12_I, PCREL_LO12_S};
 use link_model::{Edge, GPlace};
 use orc_ids::Place;
@@ -79,24 +80,29 @@ fn place_at(places: &[GPlace], symbol: u32) -> GPlace
     }
 }
 
-/// The refusal of an edge that needs a pair and has none.
-fn pair_refused(labels: &Labels, places: &[GPlace], e: &Edge) -> Option<GraphError>
-    ensures { result ≡ label_error labels.now.keys.keys places.now e.now }
+/// The refusal of a relocation that needs a pair and has none.
+fn pair_refused(labels: &Labels, places: &[GPlace], block: u32, r: &Reloc) -> Option<GraphError>
+    ensures { result ≡ label_error labels.now.keys.keys places.now block r.now }
 {
-    if is_paired_kind(e.kind) && !(e.addend == 0 && labelled(labels, place_at(places, e.target))) {
+    if is_paired_kind(r.kind) && !(r.addend == 0 && labelled(labels, place_at(places, r.symbol))) {
         return Some(GraphError::BadPair(Place {
-            block: e.block,
-            offset: e.offset,
+            block,
+            offset: r.at,
         }));
     }
     None
 }
 
-fn first_unpaired(labels: &Labels, places: &[GPlace], edges: &[Edge]) -> Option<GraphError>
-    ensures { result ≡ first_error (label_error labels.now.keys.keys places.now) edges.now }
+fn first_unpaired(
+    labels: &Labels,
+    places: &[GPlace],
+    block: u32,
+    relocs: &[Reloc],
+) -> Option<GraphError>
+    ensures { result ≡ first_error (label_error labels.now.keys.keys places.now block) relocs.now }
 {
-    for e in edges {
-        let refused = pair_refused(labels, places, e);
+    for r in relocs {
+        let refused = pair_refused(labels, places, block, r);
         if refused.is_some() {
             return refused;
         }
@@ -104,14 +110,29 @@ fn first_unpaired(labels: &Labels, places: &[GPlace], edges: &[Edge]) -> Option<
     None
 }
 
-/// The first edge that needs a pair and has none.
+fn first_unpaired_in(labels: &Labels, places: &[GPlace], sections: &[Section]) -> Option<GraphError>
+    requires { length sections.now ≤ 2 ^ 32 }
+    ensures { result ≡ error_among (label_error labels.now.keys.keys places.now) 0 sections.now }
+{
+    for (block, section) in sections.iter().enumerate() {
+        let refused = first_unpaired(labels, places, block as u32, section.relocs.as_slice());
+        if refused.is_some() {
+            return refused;
+        }
+    }
+    None
+}
+
+/// The first relocation that needs a pair and has none among the edges.
 pub(crate) fn pairs_refused(
     alloc: Global,
     places: &[GPlace],
     edges: &[Edge],
+    sections: &[Section],
 ) -> Result<Option<GraphError>, AllocError>
-    ensures { IfOk result (λ refused. refused ≡ first_error (place_error places.now edges.now) edges.now) }
+    requires { length sections.now ≤ 2 ^ 32 }
+    ensures { IfOk result (λ refused. refused ≡ error_among (place_error places.now edges.now) 0 sections.now) }
 {
     let labels = upper_labels(alloc, edges)?;
-    Ok(first_unpaired(&labels, places, edges))
+    Ok(first_unpaired_in(&labels, places, sections))
 }

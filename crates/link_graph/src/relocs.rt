@@ -1,11 +1,11 @@
-ghost use Rattle.std.specs.Prelude.{◌≡◌, ◌+◌, ◌<◌, ◌≤◌, ◌^◌, nat_lt, length, pos, Some, None, if◌then◌else◌};
-ghost use Rattle.link_graph.specs.Object.{is_nobits};
-ghost use Rattle.link_graph.specs.Checks.{first_error, symbol_error, reloc_place, is_passed_symbol, boundary, is_met, reloc_error, relocs_error};
+ghost use Rattle.std.specs.Prelude.{◌≡◌, ◌+◌, ◌<◌, ◌≤◌, ◌^◌, ◌||◌, nat_lt, length, IsTrue};
+ghost use Rattle.link_graph.specs.Checks.{symbol_error, reloc_place, is_passed_symbol, align_error, meets_cut, reloc_error, end_after, table_error, relocs_error};
+ghost use Rattle.link_graph.specs.Padding.{is_align, padding, all_cuts};
 
+use crate::cuts::{Cuts, cut_of, is_align, padding};
 use crate::edges::marks_only;
 use crate::error::GraphError;
 use elf_read::{Reloc, Section, SymPlace, Symbol};
-use link_model::kinds::ALIGN;
 use orc_ids::Place;
 
 /// `STT_TLS` and `STT_GNU_IFUNC`.
@@ -39,44 +39,10 @@ fn passes_symbol(symbols: &[Symbol], number: u32) -> bool
     }
 }
 
-/// The least power of two that is greater.
-fn power_over(a: u64) -> u64
-    requires { a < 2 ^ 63 }
-    ensures exact { result ≡ boundary a }
-    ensures positive { 0 < result }
+fn passes_end(size: u64, at: u64, width: usize) -> bool
+    ensures { result ≡ nat_lt size (at + width) }
 {
-    let mut power = 1;
-    for round in 0..64_u32 {
-        if a < power {
-            return power;
-        }
-        power = 2 * power;
-    }
-    power
-}
-
-/// Whether the padding of an ALIGN ends in the section, and at its boundary.
-fn ends_aligned(section: &Section, at: u64, padding: u64) -> bool
-    requires { padding < 2 ^ 63 }
-    ensures { result ≡ is_met section.now (record { at = at; kind = 43; symbol = 0; addend = pos padding }) (pos padding) }
-{
-    if section.size < padding || section.size - padding < at {
-        return false;
-    }
-    let boundary = power_over(padding);
-    (at + padding) % boundary == 0 && section.align >= boundary
-}
-
-fn meets_align(section: &Section, r: &Reloc) -> bool
-    ensures { result ≡ is_met section.now r.now r.now.addend }
-{
-    r.addend >= 0 && ends_aligned(section, r.at, r.addend as u64)
-}
-
-fn passes_end(section: &Section, at: u64, width: usize) -> bool
-    ensures { result ≡ nat_lt section.now.size (at + width) }
-{
-    section.size < width as u64 || section.size - (width as u64) < at
+    size < width as u64 || size - (width as u64) < at
 }
 
 fn place_in(block: u32, r: &Reloc) -> Place
@@ -88,9 +54,46 @@ fn place_in(block: u32, r: &Reloc) -> Place
     }
 }
 
-/// The check that a relocation fails.
-fn reloc_refused(symbols: &[Symbol], block: u32, section: &Section, r: &Reloc) -> Option<GraphError>
-    ensures { result ≡ reloc_error symbols.now block section.now r.now }
+/// Whether some of the bytes of a relocation are deleted.
+fn meets_cut(cuts: &Cuts, at: u64, width: usize) -> bool
+    requires { at + width < 2 ^ 64 }
+    ensures { result ≡ meets_cut cuts.now at width }
+{
+    cuts.deleted(at) < cuts.deleted(at + width as u64)
+}
+
+/// Whether some of the bytes of a relocation lie outside the section, or are deleted.
+fn is_outside(section: &Section, cuts: &Cuts, at: u64, width: usize) -> bool
+    ensures { result ≡ (nat_lt section.now.size (at + width) || meets_cut cuts.now at width) }
+{
+    passes_end(section.size, at, width) || meets_cut(cuts, at, width)
+}
+
+fn align_refused(
+    section: &Section,
+    cuts: &Cuts,
+    end: u64,
+    r: &Reloc,
+    place: Place,
+) -> Option<GraphError>
+    ensures { result ≡ align_error section.now cuts.now end r.now place }
+{
+    match cut_of(section.size, end, cuts.deleted(r.at), r) {
+        Some(_) => None,
+        None => Some(GraphError::NeedsAlign(place)),
+    }
+}
+
+/// The check that a relocation fails. The padding of the ALIGNs before it ends at `end`.
+fn reloc_refused(
+    symbols: &[Symbol],
+    block: u32,
+    section: &Section,
+    cuts: &Cuts,
+    end: u64,
+    r: &Reloc,
+) -> Option<GraphError>
+    ensures { result ≡ reloc_error symbols.now block section.now cuts.now end r.now }
 {
     let place = place_in(block, r);
     let Some(rule) = reloc_table::find(r.kind) else {
@@ -102,45 +105,60 @@ fn reloc_refused(symbols: &[Symbol], block: u32, section: &Section, r: &Reloc) -
     if section.kind == NOBITS || passes_symbol(symbols, r.symbol) {
         return Some(GraphError::RelocOutside(place));
     }
-    if r.kind == ALIGN {
-        return align_refused(section, r, place);
+    if is_align(r) {
+        return align_refused(section, cuts, end, r, place);
     }
-    if passes_end(section, r.at, rule.width) {
+    if is_outside(section, cuts, r.at, rule.width) {
         return Some(GraphError::RelocOutside(place));
     }
     None
 }
 
-fn align_refused(section: &Section, r: &Reloc, place: Place) -> Option<GraphError>
-    ensures { result ≡ (if is_met section.now r.now r.now.addend then None else Some (GraphError.NeedsAlign place)) }
+/// Where the padding of the ALIGNs so far ends.
+fn end_after(end: u64, r: &Reloc) -> u64
+    requires { IsTrue (is_align r.now) → r.now.at + padding r.now.addend < 2 ^ 64 }
+    ensures { result ≡ end_after end r.now }
 {
-    if meets_align(section, r) {
-        None
+    if is_align(r) {
+        r.at + padding(r.addend)
     } else {
-        Some(GraphError::NeedsAlign(place))
+        end
     }
 }
 
 /// The first relocation of one section that fails a check.
-fn section_refused(symbols: &[Symbol], block: u32, section: &Section) -> Option<GraphError>
-    ensures { result ≡ first_error (reloc_error symbols.now block section.now) section.now.relocs }
+fn section_refused(
+    symbols: &[Symbol],
+    block: u32,
+    section: &Section,
+    cuts: &Cuts,
+) -> Option<GraphError>
+    ensures { result ≡ table_error symbols.now block section.now cuts.now 0 section.now.relocs }
 {
+    let _size = section.size;
+    let mut end = 0;
     for r in section.relocs.as_slice() {
-        let refused = reloc_refused(symbols, block, section, r);
+        let refused = reloc_refused(symbols, block, section, cuts, end, r);
         if refused.is_some() {
             return refused;
         }
+        end = end_after(end, r);
     }
     None
 }
 
 /// The first relocation that fails a check.
-pub(crate) fn relocs_refused(symbols: &[Symbol], sections: &[Section]) -> Option<GraphError>
-    requires { length sections.now ≤ 2 ^ 32 }
+pub(crate) fn relocs_refused(
+    symbols: &[Symbol],
+    sections: &[Section],
+    cuts: &[Cuts],
+) -> Option<GraphError>
+    requires few { length sections.now ≤ 2 ^ 32 }
+    requires same { cuts.now ≡ all_cuts sections.now }
     ensures { result ≡ relocs_error symbols.now 0 sections.now }
 {
     for (block, section) in sections.iter().enumerate() {
-        let refused = section_refused(symbols, block as u32, section);
+        let refused = section_refused(symbols, block as u32, section, &cuts[block]);
         if refused.is_some() {
             return refused;
         }

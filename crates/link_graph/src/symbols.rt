@@ -1,11 +1,14 @@
-ghost use Rattle.std.specs.Prelude.{◌≡◌, ◌+◌, ◌<◌, ◌≤◌, ◌^◌, length, Contains, IfOk, IfErr, OnOk};
+ghost use Rattle.std.specs.Prelude.{◌≡◌, ◌+◌, ◌<◌, ◌≤◌, ◌^◌, [], length, map, Contains, IfOk, IfErr, OnOk};
 ghost use Rattle.orc_names.specs.Numbers.{KeepsNumbers};
 ghost use Rattle.link_graph.specs.declared.error.GraphError.TheVariants.{NoMemory};
 ghost use Rattle.link_graph.specs.Object.{is_local, is_weak, is_function, is_exported, is_passed, is_global, graph_place, graph_flags, graph_symbol, graph_symbols, name_number};
+ghost use Rattle.link_model.specs.Image.{at_or};
+ghost use Rattle.link_graph.specs.Padding.{moved, trimmed_symbol};
 ghost use Rattle.link_graph.specs.Parts.{graph_places};
 ghost use Rattle.link_graph.specs.Read.{HasShortNames, AreNamed};
 
 use crate::blocks::in_common;
+use crate::cuts::Cuts;
 use crate::error::GraphError;
 use elf_read::{SymPlace, Symbol};
 use link_model::{GPlace, GSym};
@@ -39,14 +42,24 @@ fn seen_by_others(s: &Symbol) -> bool
     s.bind != LOCAL && !passed_over(s.place)
 }
 
-fn place_in_graph(s: &Symbol, common: u32) -> GPlace
-    ensures { result ≡ graph_place common s.now s.now.place }
+/// Where a place of a section is after deletion.
+fn moved_in(cuts: &[Cuts], section: u32, value: u64) -> u64
+    ensures { result ≡ moved (at_or [] cuts.now section) value }
+{
+    match cuts.get(section as usize) {
+        Some(cuts) => cuts.moved(value),
+        None => value,
+    }
+}
+
+fn place_in_graph(s: &Symbol, common: u32, cuts: &[Cuts]) -> GPlace
+    ensures { result ≡ graph_place common (trimmed_symbol cuts.now s.now) s.now.place }
 {
     match s.place {
         SymPlace::Undef => GPlace::External(s.bind == WEAK),
         SymPlace::Abs => GPlace::Abs(s.value),
         SymPlace::Common => GPlace::In(common, 0),
-        SymPlace::In(section) => GPlace::In(section, s.value),
+        SymPlace::In(section) => GPlace::In(section, moved_in(cuts, section, s.value)),
         SymPlace::Passed => GPlace::Abs(0),
     }
 }
@@ -70,8 +83,8 @@ fn number_of(names: &Names, text: &[u8]) -> Option<NameId>
     names.find(text)
 }
 
-fn symbol_in_graph(names: &Names, s: &Symbol, common: u32) -> GSym
-    ensures { result ≡ graph_symbol names.now common s.now }
+fn symbol_in_graph(names: &Names, s: &Symbol, common: u32, cuts: &[Cuts]) -> GSym
+    ensures { result ≡ graph_symbol names.now common (trimmed_symbol cuts.now s.now) }
 {
     let global = seen_by_others(s);
     let name = if global {
@@ -81,26 +94,28 @@ fn symbol_in_graph(names: &Names, s: &Symbol, common: u32) -> GSym
     };
     GSym {
         name,
-        place: place_in_graph(s, common),
+        place: place_in_graph(s, common, cuts),
         flags: flags_in_graph(s),
         global,
     }
 }
 
-/// The symbols of a graph whose first common block has this number. The names are interned.
+/// The symbols after deletion of a graph whose first common block has this number. The names are
+/// interned.
 pub(crate) fn all_symbols(
     alloc: Global,
     names: &Names,
     symbols: &[Symbol],
     first_common: u32,
+    cuts: &[Cuts],
 ) -> Result<Vec<GSym>, AllocError>
     requires { first_common + length symbols.now < 2 ^ 32 }
-    ensures { IfOk result (λ made. made.items ≡ graph_symbols names.now first_common symbols.now) }
+    ensures { IfOk result (λ made. made.items ≡ graph_symbols names.now first_common (map (trimmed_symbol cuts.now) symbols.now)) }
 {
     let mut made = Vec::new(alloc);
     let mut common = first_common;
     for s in symbols {
-        made.push(symbol_in_graph(names, s, common))?;
+        made.push(symbol_in_graph(names, s, common, cuts))?;
         if in_common(s.place) {
             common += 1;
         }
@@ -113,14 +128,15 @@ pub(crate) fn all_places(
     alloc: Global,
     symbols: &[Symbol],
     first_common: u32,
+    cuts: &[Cuts],
 ) -> Result<Vec<GPlace>, AllocError>
     requires { first_common + length symbols.now < 2 ^ 32 }
-    ensures { IfOk result (λ places. places.items ≡ graph_places first_common symbols.now) }
+    ensures { IfOk result (λ places. places.items ≡ graph_places first_common (map (trimmed_symbol cuts.now) symbols.now)) }
 {
     let mut places = Vec::new(alloc);
     let mut common = first_common;
     for s in symbols {
-        places.push(place_in_graph(s, common))?;
+        places.push(place_in_graph(s, common, cuts))?;
         if in_common(s.place) {
             common += 1;
         }

@@ -499,8 +499,11 @@ const CHANGES: [Change; 14] = [
     (&[(112, 34)], b"end object refused 0 g2 0 34\n"),
     (&[(148, 2)], b"end object refused 0 g4 0 8\n"),
     (&[(120, 18)], b"end object refused 0 g4 0 8\n"),
-    // an ALIGN whose padding would end past a multiple of 4
-    (&[(120, 43), (128, 3)], b"end object refused 0 g5 0 4\n"),
+    // an ALIGN whose padding is shorter than the three bytes that lead from 5 to a multiple of 4
+    (
+        &[(112, 5), (120, 43), (128, 2)],
+        b"end object refused 0 g5 0 5\n",
+    ),
     // a symbol for thread-local storage
     (&[(212, 6)], b"end object refused 0 g3 2\n"),
     // a refusal of the bytes comes before one of the graph

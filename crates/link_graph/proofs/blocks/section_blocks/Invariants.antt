@@ -1,6 +1,7 @@
 use Rattle.std.proofs.Common.{◌≡◌, ◌++◌, drop, map}
 use Rattle.link_graph.specs.Object.{section_block}
+use Rattle.link_graph.specs.Padding.{trimmed_section}
 use Rattle.link_graph.proofs.blocks.section_blocks.Given as goal
 
-abbrev pub invariant-loop-section : goal.invariant-loop-section
-invariant-loop-section l = l.blocks.items ++ map section_block (drop l.section-index l.sections) ≡ map section_block l.sections
+abbrev pub invariant-loop-k : goal.invariant-loop-k
+invariant-loop-k l = l.blocks.items ++ map section_block (map trimmed_section (drop l.k l.sections)) ≡ map section_block (map trimmed_section l.sections)

@@ -3,6 +3,6 @@ use Rattle.link_graph.specs.Checks.{first_error}
 use Rattle.link_graph.specs.Parts.{label_error}
 use Rattle.link_graph.proofs.pairs.first_unpaired.Given as goal
 
-abbrev pub invariant-loop-e : goal.invariant-loop-e
-invariant-loop-e l =
-    first_error (label_error l.labels.keys.keys l.places) (drop l.e-index l.edges) ≡ first_error (label_error l.labels.keys.keys l.places) l.edges
+abbrev pub invariant-loop-r : goal.invariant-loop-r
+invariant-loop-r l =
+    first_error (label_error l.labels.keys.keys l.places l.block) (drop l.r-index l.relocs) ≡ first_error (label_error l.labels.keys.keys l.places l.block) l.relocs
