@@ -2,7 +2,7 @@
 use Rattle.std.proofs.Common.{ℕ, ◌+◌, ◌^◌, ◌≤◌, ◌<◌, List, [], ◌∷◌, length, arith}
 use Rattle.code_memory.specs.Apart.{AreApart}
 use Rattle.code_memory.specs.Mapped.{AreSegments}
-use Rattle.code_memory.specs.declared.bounds.TheConstants.{CODE_START, CODE_END}
+use Rattle.orc_ids.specs.declared.limits.TheConstants.{CODE_START, CODE_END}
 use Rattle.code_memory.specs.declared.image.Segment.{Segment}
 
 -- each range takes an address at least

@@ -1,23 +1,13 @@
 -- The bytes of a range among those of others.
-use Rattle.std.proofs.Common.{◌≡◌, ⊎_elim, ℕ, true, false, Option, Some, None, ◌+◌, ◌-◌, ◌<◌, ◌≤◌, List, [], ◌∷◌, length, suc, refl, ap, ◌∙◌, cond, subst, arith}
+use Rattle.std.proofs.Common.{◌≡◌, ℕ, true, false, Option, Some, None, ◌+◌, ◌-◌, ◌<◌, ◌≤◌, List, [], ◌∷◌, length, refl, ap, ◌∙◌, cond, subst, arith}
 use Rattle.std.specs.Prelude.{slice_get, nat_lt, find, IfSome}
-use Rattle.std.proofs.Math.Dec.{leb}
-use Rattle.std.proofs.lemmas.Bool.Decides.{leb_tells}
 use Rattle.orc_ids.specs.declared.ids.UnitId.{UnitId}
-use Rattle.code_memory.specs.Apart.{AreApart}
+use Rattle.code_memory.specs.Gaps.{end_of}
 use Rattle.code_memory.specs.Mapped.{byte_at}
 use Rattle.code_memory.specs.declared.image.Segment.{Segment}
 use Rattle.code_memory.specs.declared.placement.Placement.{Placement}
-use Rattle.code_memory.specs.Places.{is_of, deposits, before, AreWhole, IsWhole}
-use Rattle.code_memory.proofs.LaidOut.{base, size}
-
-below_is : (a b : ℕ) → a < b → nat_lt a b ≡ true
-below_is a b h =
-    ⊎_elim (λ (e : (leb (suc a) b ≡ true) × (suc a ≤ b)). e.0) (λ (e : (leb (suc a) b ≡ false) × (b < suc a)). absurd (omega (arith, e.1))) (leb_tells (suc a) b)
-
-not_below : (a b : ℕ) → b ≤ a → nat_lt a b ≡ false
-not_below a b h =
-    ⊎_elim (λ (e : (leb (suc a) b ≡ true) × (suc a ≤ b)). absurd (omega (arith, e.1))) (λ (e : (leb (suc a) b ≡ false) × (b < suc a)). e.0) (leb_tells (suc a) b)
+use Rattle.code_memory.proofs.Compared.{below_is, not_below}
+use Rattle.code_memory.specs.Places.{is_of, deposits, before, AreBetween, AreWhole, IsWhole}
 
 in_first : (b : ℕ) (bytes : List ℕ) (ss : List Segment) (k : ℕ) → k < length bytes → byte_at (record { base = b; bytes = bytes } ∷ ss) (b + k) ≡ slice_get bytes k
 in_first b bytes ss k less =
@@ -31,15 +21,15 @@ past_first p ss (Some bytes) at whole past =
     ap (λ t. cond t (byte_at ss at) (cond (nat_lt at (p.base + length bytes)) (slice_get bytes (at - p.base)) (byte_at ss at))) (not_below at p.base (omega arith))
     ∙ ap (λ t. cond t (slice_get bytes (at - p.base)) (byte_at ss at)) (not_below at (p.base + length bytes) (omega (arith, whole)))
 
-found_above : (low : ℕ) (ps : List Placement) (high : ℕ) (u : UnitId) (p : Placement) → AreApart base size low ps high → find (is_of u) ps ≡ Some p → low ≤ p.base
+pub found_above : (low : ℕ) (ps : List Placement) (high : ℕ) (u : UnitId) (p : Placement) → AreBetween low ps high → find (is_of u) ps ≡ Some p → low ≤ p.base
 found_above low [] high u p apart found = absurd cc
 found_above low (q ∷ ps) high u p apart found =
     elim (is_of u q) as (λ b. cond b (Some q) (find (is_of u) ps) ≡ Some p → low ≤ p.base) [
       | true ↦ λ h. let same : q ≡ p = cc in subst (λ (x : Placement). low ≤ x.base) same apart.0
-      | false ↦ λ h. omega (arith, apart.0, found_above (base q + size q) ps high u p apart.2 h)
+      | false ↦ λ h. omega (arith, apart.0, found_above (end_of q) ps high u p apart.2 h)
     ] found
 
-pub mapped_at : (low : ℕ) (ps : List Placement) (high : ℕ) (u : UnitId) (p : Placement) (bytes : List ℕ) (k : ℕ) → AreApart base size low ps high → AreWhole ps → find (is_of u) ps ≡ Some p → p.bytes ≡ Some bytes → k < p.shape.need →
+pub mapped_at : (low : ℕ) (ps : List Placement) (high : ℕ) (u : UnitId) (p : Placement) (bytes : List ℕ) (k : ℕ) → AreBetween low ps high → AreWhole ps → find (is_of u) ps ≡ Some p → p.bytes ≡ Some bytes → k < p.shape.need →
     byte_at (deposits ps) (p.base + k) ≡ slice_get bytes k
 mapped_at low [] high u p bytes k apart whole found full less = absurd cc
 mapped_at low (q ∷ ps) high u p bytes k apart whole found full less =
@@ -51,6 +41,6 @@ mapped_at low (q ∷ ps) high u p bytes k apart whole found full less =
           ∙ ap (λ o. byte_at (before p.base o (deposits ps)) (p.base + k)) full
           ∙ in_first p.base bytes (deposits ps) k (omega (arith, long))
       | false ↦ λ h.
-          let later = found_above (base q + size q) ps high u p apart.2 h in
-          past_first q (deposits ps) q.bytes (p.base + k) whole.0.full (omega (arith, later)) ∙ mapped_at (base q + size q) ps high u p bytes k apart.2 whole.1 h full less
+          let later = found_above (end_of q) ps high u p apart.2 h in
+          past_first q (deposits ps) q.bytes (p.base + k) whole.0.full (omega (arith, later)) ∙ mapped_at (end_of q) ps high u p bytes k apart.2 whole.1 h full less
     ] found

@@ -1,161 +1,96 @@
 -- Placements stay laid out as one is added, filled or taken away, and so are their deposits.
-use Rattle.std.proofs.Common.{◌≡◌, ℕ, Bool, true, false, Option, Some, None, ◌+◌, ◌<◌, ◌≤◌, List, [], ◌∷◌, ◌++◌, length, map, refl, ap, sym, ◌∙◌, cond, subst, arith, ◌≢◌}
-use Rattle.std.proofs.lemmas.Bool.{eq-eqb}
-use Rattle.std.proofs.lemmas.Bool.Decides.{eqb_tells}
-use Rattle.std.proofs.Common.{⊎_elim}
-use Rattle.std.specs.Prelude.{find, filter, IfSome, ◌==◌}
+use Rattle.std.proofs.Common.{◌≡◌, ℕ, Option, Some, None, ◌+◌, ◌<◌, ◌≤◌, List, [], ◌∷◌, ◌++◌, length, refl, ap, ◌∙◌, cond, subst, arith}
+use Rattle.std.specs.Prelude.{find, IfSome}
 use Rattle.orc_ids.specs.declared.ids.UnitId.{UnitId}
+use Rattle.orc_ids.specs.declared.limits.TheConstants.{CODE_START, CODE_END}
 use Rattle.code_memory.specs.declared.image.Segment.{Segment}
 use Rattle.code_memory.specs.declared.placement.Placement.{Placement}
-use Rattle.code_memory.specs.declared.bounds.TheConstants.{CODE_START, CODE_END}
 use Rattle.code_memory.specs.Apart.{AreApart}
+use Rattle.code_memory.specs.Gaps.{end_of}
 use Rattle.code_memory.specs.Mapped.{AreSegments}
-use Rattle.code_memory.specs.Places.{is_of, filled, deposits, before, IsWhole, AreWhole, AreDistinct}
+use Rattle.code_memory.specs.Places.{is_of, deposits, before, IsWhole, AreWhole, AreDistinct, AreBetween, AreLaidOut}
+use Rattle.code_memory.proofs.Between.{apart_from}
+use Rattle.code_memory.proofs.Units.{none_next, turned, find-insert}
 
-abbrev pub base : Placement → ℕ
-base p = p.base
+-- a placement with other bytes
+abbrev pub with : Placement → Option (List ℕ) → Placement
+with p bytes = record p { bytes = bytes }
 
-abbrev pub size : Placement → ℕ
-size p = p.shape.need
+apart-remove : (low : ℕ) (xs : List Placement) (p : Placement) (ys : List Placement) (high : ℕ) → AreBetween low (xs ++ p ∷ ys) high → AreBetween low (xs ++ ys) high
+apart-remove low [] p ys high apart = apart_from (end_of p) low ys high (omega (arith, apart.0)) apart.2
+apart-remove low (x ∷ xs) p ys high apart = (apart.0, apart.1, apart-remove (end_of x) xs p ys high apart.2)
 
--- from a lower address on
-apart_from : {X : Type 0} (b n : X → ℕ) (low low' : ℕ) (xs : List X) (high : ℕ) → low' ≤ low → AreApart b n low xs high → AreApart b n low' xs high
-apart_from b n low low' [] high below apart = omega arith
-apart_from b n low low' (x ∷ xs) high below apart = (omega (arith, apart.0), apart.1, apart.2)
+apart-set : (low : ℕ) (xs : List Placement) (p : Placement) (bytes : Option (List ℕ)) (ys : List Placement) (high : ℕ) → AreBetween low (xs ++ p ∷ ys) high → AreBetween low (xs ++ with p bytes ∷ ys) high
+apart-set low [] p bytes ys high apart = apart
+apart-set low (x ∷ xs) p bytes ys high apart = (apart.0, apart.1, apart-set (end_of x) xs p bytes ys high apart.2)
 
--- up to a higher address
-apart_below : {X : Type 0} (b n : X → ℕ) (low : ℕ) (xs : List X) (high high' : ℕ) → high ≤ high' → AreApart b n low xs high → AreApart b n low xs high'
-apart_below b n low [] high high' above apart = omega arith
-apart_below b n low (x ∷ xs) high high' above apart = (apart.0, apart.1, apart_below b n (b x + n x) xs high high' above apart.2)
+whole-insert : (xs : List Placement) (p : Placement) (ys : List Placement) → AreWhole (xs ++ ys) → IsWhole p → AreWhole (xs ++ p ∷ ys)
+whole-insert [] p ys all one = (one, all)
+whole-insert (x ∷ xs) p ys all one = (all.0, whole-insert xs p ys all.1 one)
 
-pub apart-push : {X : Type 0} (b n : X → ℕ) (low : ℕ) (xs : List X) (high : ℕ) (x : X) (top : ℕ) → AreApart b n low xs high → high ≤ b x → 0 < n x → b x + n x ≤ top → AreApart b n low (xs ++ x ∷ []) top
-apart-push b n low [] high x top apart above some within = (omega arith, some, within)
-apart-push b n low (y ∷ ys) high x top apart above some within =
-    (apart.0, apart.1, apart-push b n (b y + n y) ys high x top apart.2 above some within)
+whole-remove : (xs : List Placement) (p : Placement) (ys : List Placement) → AreWhole (xs ++ p ∷ ys) → AreWhole (xs ++ ys)
+whole-remove [] p ys all = all.1
+whole-remove (x ∷ xs) p ys all = (all.0, whole-remove xs p ys all.1)
 
-filled_base : (u : UnitId) (bytes : List ℕ) (p : Placement) → base (filled u bytes p) ≡ base p
-filled_base u bytes p = elim (is_of u p) as (λ b. base (cond b (record p { bytes = Some bytes }) p) ≡ base p) [ true ↦ refl | false ↦ refl ]
+whole-set : (xs : List Placement) (p : Placement) (bytes : List ℕ) (ys : List Placement) → AreWhole (xs ++ p ∷ ys) → length bytes ≡ p.shape.need → AreWhole (xs ++ with p (Some bytes) ∷ ys)
+whole-set [] p bytes ys all long = (record { aligned = all.0.aligned; full = long }, all.1)
+whole-set (x ∷ xs) p bytes ys all long = (all.0, whole-set xs p bytes ys all.1 long)
 
-filled_size : (u : UnitId) (bytes : List ℕ) (p : Placement) → size (filled u bytes p) ≡ size p
-filled_size u bytes p = elim (is_of u p) as (λ b. size (cond b (record p { bytes = Some bytes }) p) ≡ size p) [ true ↦ refl | false ↦ refl ]
+distinct-insert : (xs : List Placement) (p : Placement) (ys : List Placement) → AreDistinct (xs ++ ys) → find (is_of p.unit) (xs ++ ys) ≡ None → AreDistinct (xs ++ p ∷ ys)
+distinct-insert [] p ys all none = (none, all)
+distinct-insert (x ∷ xs) p ys all none =
+    let both = none_next p.unit x (find (is_of p.unit) (xs ++ ys)) (is_of p.unit x) refl none in
+    (find-insert x.unit xs p ys both.1 ∙ ap (λ b. cond b (Some p) (find (is_of x.unit) (xs ++ ys))) (turned p.unit x.unit p x refl refl both.0) ∙ all.0, distinct-insert xs p ys all.1 both.1)
 
-pub apart-fill : (u : UnitId) (bytes : List ℕ) (low : ℕ) (ps : List Placement) (high : ℕ) → AreApart base size low ps high → AreApart base size low (map (filled u bytes) ps) high
-apart-fill u bytes low [] high apart = apart
-apart-fill u bytes low (p ∷ ps) high apart =
-    let same_base = filled_base u bytes p in
-    let same_size = filled_size u bytes p in
-    let rest : AreApart base size (base p + size p) (map (filled u bytes) ps) high = apart-fill u bytes (base p + size p) ps high apart.2 in
-    (omega (arith, apart.0), omega (arith, apart.1), apart_from base size (base p + size p) (base (filled u bytes p) + size (filled u bytes p)) (map (filled u bytes) ps) high (omega arith) rest)
+find-remove : (v : UnitId) (xs : List Placement) (p : Placement) (ys : List Placement) → find (is_of v) (xs ++ p ∷ ys) ≡ None → find (is_of v) (xs ++ ys) ≡ None
+find-remove v [] p ys none = (none_next v p (find (is_of v) ys) (is_of v p) refl none).1
+find-remove v (x ∷ xs) p ys none =
+    let both = none_next v x (find (is_of v) (xs ++ p ∷ ys)) (is_of v x) refl none in
+    ap (λ b. cond b (Some x) (find (is_of v) (xs ++ ys))) both.0 ∙ find-remove v xs p ys both.1
 
-pub apart-clear : (t : Placement → Bool) (low : ℕ) (ps : List Placement) (high : ℕ) → AreApart base size low ps high → AreApart base size low (filter t ps) high
-apart-clear t low [] high apart = apart
-apart-clear t low (p ∷ ps) high apart =
-    let rest : AreApart base size (base p + size p) (filter t ps) high = apart-clear t (base p + size p) ps high apart.2 in
-    elim (t p) as (λ b. AreApart base size low (cond b (p ∷ filter t ps) (filter t ps)) high) [
-      | true ↦ (apart.0, apart.1, rest)
-      | false ↦ apart_from base size (base p + size p) low (filter t ps) high (omega (arith, apart.0)) rest
-    ]
+distinct-remove : (xs : List Placement) (p : Placement) (ys : List Placement) → AreDistinct (xs ++ p ∷ ys) → AreDistinct (xs ++ ys)
+distinct-remove [] p ys all = all.1
+distinct-remove (x ∷ xs) p ys all = (find-remove x.unit xs p ys all.0, distinct-remove xs p ys all.1)
 
-pub whole-push : (ps : List Placement) (p : Placement) → AreWhole ps → IsWhole p → AreWhole (ps ++ p ∷ [])
-whole-push [] p all one = (one, tt)
-whole-push (q ∷ qs) p all one = (all.0, whole-push qs p all.1 one)
+find-set : (v : UnitId) (xs : List Placement) (p : Placement) (bytes : Option (List ℕ)) (ys : List Placement) → find (is_of v) (xs ++ p ∷ ys) ≡ None → find (is_of v) (xs ++ with p bytes ∷ ys) ≡ None
+find-set v [] p bytes ys none =
+    let both = none_next v p (find (is_of v) ys) (is_of v p) refl none in
+    ap (λ b. cond b (Some (with p bytes)) (find (is_of v) ys)) both.0 ∙ both.1
+find-set v (x ∷ xs) p bytes ys none =
+    let both = none_next v x (find (is_of v) (xs ++ p ∷ ys)) (is_of v x) refl none in
+    ap (λ b. cond b (Some x) (find (is_of v) (xs ++ with p bytes ∷ ys))) both.0 ∙ find-set v xs p bytes ys both.1
 
-filled_whole : (u : UnitId) (bytes : List ℕ) (p : Placement) → IsWhole p → (is_of u p ≡ true → length bytes ≡ p.shape.need) → IsWhole (filled u bytes p)
-filled_whole u bytes p whole long =
-    elim (is_of u p) as (λ b. (b ≡ true → length bytes ≡ p.shape.need) → IsWhole (cond b (record p { bytes = Some bytes }) p)) [
-      | true ↦ λ h. record { aligned = whole.aligned; full = h refl }
-      | false ↦ λ h. whole
-    ] long
+distinct-set : (xs : List Placement) (p : Placement) (bytes : Option (List ℕ)) (ys : List Placement) → AreDistinct (xs ++ p ∷ ys) → AreDistinct (xs ++ with p bytes ∷ ys)
+distinct-set [] p bytes ys all = all
+distinct-set (x ∷ xs) p bytes ys all = (find-set x.unit xs p bytes ys all.0, distinct-set xs p bytes ys all.1)
 
--- the bytes are as long as each range of the unit
-abbrev pub AreAsLong : UnitId → List ℕ → List Placement → Type 0
-AreAsLong u bytes [] = Unit {0}
-AreAsLong u bytes (p ∷ ps) = (is_of u p ≡ true → length bytes ≡ p.shape.need) × AreAsLong u bytes ps
+pub laid_out-insert : (xs : List Placement) (p : Placement) (ys : List Placement) → AreLaidOut (xs ++ ys) → AreBetween CODE_START (xs ++ p ∷ ys) CODE_END → IsWhole p → find (is_of p.unit) (xs ++ ys) ≡ None → AreLaidOut (xs ++ p ∷ ys)
+laid_out-insert xs p ys laid apart whole none =
+    record { apart = apart; whole = whole-insert xs p ys laid.whole whole; distinct = distinct-insert xs p ys laid.distinct none }
 
-pub whole-fill : (u : UnitId) (bytes : List ℕ) (ps : List Placement) → AreWhole ps → AreAsLong u bytes ps → AreWhole (map (filled u bytes) ps)
-whole-fill u bytes [] all long = tt
-whole-fill u bytes (p ∷ ps) all long = (filled_whole u bytes p all.0 long.0, whole-fill u bytes ps all.1 long.1)
+pub laid_out-remove : (xs : List Placement) (p : Placement) (ys : List Placement) → AreLaidOut (xs ++ p ∷ ys) → AreLaidOut (xs ++ ys)
+laid_out-remove xs p ys laid =
+    record { apart = apart-remove CODE_START xs p ys CODE_END laid.apart; whole = whole-remove xs p ys laid.whole; distinct = distinct-remove xs p ys laid.distinct }
 
-pub whole-clear : (t : Placement → Bool) (ps : List Placement) → AreWhole ps → AreWhole (filter t ps)
-whole-clear t [] all = tt
-whole-clear t (p ∷ ps) all =
-    elim (t p) as (λ b. AreWhole (cond b (p ∷ filter t ps) (filter t ps))) [
-      | true ↦ (all.0, whole-clear t ps all.1)
-      | false ↦ whole-clear t ps all.1
-    ]
+pub laid_out-set : (xs : List Placement) (p : Placement) (bytes : List ℕ) (ys : List Placement) → AreLaidOut (xs ++ p ∷ ys) → length bytes ≡ p.shape.need → AreLaidOut (xs ++ with p (Some bytes) ∷ ys)
+laid_out-set xs p bytes ys laid long =
+    record { apart = apart-set CODE_START xs p (Some bytes) ys CODE_END laid.apart; whole = whole-set xs p bytes ys laid.whole long; distinct = distinct-set xs p (Some bytes) ys laid.distinct }
 
-deposit_apart : (low : ℕ) (p : Placement) (rest : List Segment) (high : ℕ) (bytes : Option (List ℕ)) → p.bytes ≡ bytes → IsWhole p → low ≤ p.base → 0 < p.shape.need → AreApart (λ s. s.base) (λ s. length s.bytes) (p.base + p.shape.need) rest high → AreApart (λ s. s.base) (λ s. length s.bytes) low (before p.base bytes rest) high
-deposit_apart low p rest high None is whole below some apart = apart_from (λ s. s.base) (λ s. length s.bytes) (p.base + p.shape.need) low rest high (omega arith) apart
+segments_from : (low low' : ℕ) (xs : List Segment) (high : ℕ) → low' ≤ low → AreApart (λ s. s.base) (λ s. length s.bytes) low xs high → AreApart (λ s. s.base) (λ s. length s.bytes) low' xs high
+segments_from low low' [] high below apart = omega arith
+segments_from low low' (x ∷ xs) high below apart = (omega (arith, apart.0), apart.1, apart.2)
+
+deposit_apart : (low : ℕ) (p : Placement) (rest : List Segment) (high : ℕ) (bytes : Option (List ℕ)) → p.bytes ≡ bytes → IsWhole p → low ≤ p.base → 0 < p.shape.need → AreApart (λ s. s.base) (λ s. length s.bytes) (end_of p) rest high → AreApart (λ s. s.base) (λ s. length s.bytes) low (before p.base bytes rest) high
+deposit_apart low p rest high None is whole below some apart = segments_from (end_of p) low rest high (omega arith) apart
 deposit_apart low p rest high (Some bytes) is whole below some apart =
     let full : length bytes ≡ p.shape.need = subst (λ o. IfSome o (λ b. length b ≡ p.shape.need)) is whole.full in
-    (below, omega arith, apart_from (λ s. s.base) (λ s. length s.bytes) (p.base + p.shape.need) (p.base + length bytes) rest high (omega arith) apart)
+    (below, omega arith, segments_from (end_of p) (p.base + length bytes) rest high (omega arith) apart)
 
--- the deposits of placements that are apart are apart
-pub apart-deposits : (low : ℕ) (ps : List Placement) (high : ℕ) → AreApart base size low ps high → AreWhole ps → AreApart (λ s. s.base) (λ s. length s.bytes) low (deposits ps) high
+apart-deposits : (low : ℕ) (ps : List Placement) (high : ℕ) → AreBetween low ps high → AreWhole ps → AreApart (λ s. s.base) (λ s. length s.bytes) low (deposits ps) high
 apart-deposits low [] high apart all = apart
 apart-deposits low (p ∷ ps) high apart all =
-    deposit_apart low p (deposits ps) high p.bytes refl all.0 apart.0 apart.1 (apart-deposits (p.base + p.shape.need) ps high apart.2 all.1)
+    deposit_apart low p (deposits ps) high p.bytes refl all.0 apart.0 apart.1 (apart-deposits (end_of p) ps high apart.2 all.1)
 
--- each unit still has one range
-none_next : (u : UnitId) (q : Placement) (rest : Option Placement) (b : Bool) → is_of u q ≡ b → cond b (Some q) rest ≡ None → (is_of u q ≡ false) × (rest ≡ None)
-none_next u q rest true own found = absurd cc
-none_next u q rest false other found = (other, found)
-
-turned : (u v : UnitId) (p q : Placement) → p.unit ≡ u → q.unit ≡ v → is_of u q ≡ false → is_of v p ≡ false
-turned u v p q e f other =
-    let apart = eqb_tells p.unit.0 v.0 in
-    ⊎_elim (λ (h : (is_of v p ≡ true) × (p.unit.0 ≡ v.0)).
-    let same : q.unit.0 ≡ u.0 = ap (λ (x : UnitId). x.0) f ∙ sym h.1 ∙ ap (λ (x : UnitId). x.0) e in
-    let no : true ≡ false = sym (eq-eqb q.unit.0 u.0 same) ∙ other in absurd cc)
-    (λ (h : (is_of v p ≡ false) × (p.unit.0 ≢ v.0)). h.0) apart
-
-find-push : (u : UnitId) (ps : List Placement) (q : Placement) → find (is_of u) ps ≡ None → is_of u q ≡ false → find (is_of u) (ps ++ q ∷ []) ≡ None
-find-push u [] q none other = ap (λ b. cond b (Some q) None) other
-find-push u (p ∷ ps) q none other =
-    let both = none_next u p (find (is_of u) ps) (is_of u p) refl none in
-    ap (λ b. cond b (Some p) (find (is_of u) (ps ++ q ∷ []))) both.0 ∙ find-push u ps q both.1 other
-
-pub distinct-push : (ps : List Placement) (q : Placement) → AreDistinct ps → find (is_of q.unit) ps ≡ None → AreDistinct (ps ++ q ∷ [])
-distinct-push [] q all none = (refl, tt)
-distinct-push (p ∷ ps) q all none =
-    let both = none_next q.unit p (find (is_of q.unit) ps) (is_of q.unit p) refl none in
-    (find-push p.unit ps q all.0 (turned q.unit p.unit q p refl refl both.0), distinct-push ps q all.1 both.1)
-
-filled_unit : (u : UnitId) (bytes : List ℕ) (p : Placement) → (filled u bytes p).unit ≡ p.unit
-filled_unit u bytes p = elim (is_of u p) as (λ b. (cond b (record p { bytes = Some bytes }) p).unit ≡ p.unit) [ true ↦ refl | false ↦ refl ]
-
-find-fill : (v u : UnitId) (bytes : List ℕ) (ps : List Placement) → find (is_of v) ps ≡ None → find (is_of v) (map (filled u bytes) ps) ≡ None
-find-fill v u bytes [] none = refl
-find-fill v u bytes (p ∷ ps) none =
-    let both = none_next v p (find (is_of v) ps) (is_of v p) refl none in
-    let other : is_of v (filled u bytes p) ≡ false = ap (λ (x : UnitId). x.0 == v.0) (filled_unit u bytes p) ∙ both.0 in
-    ap (λ b. cond b (Some (filled u bytes p)) (find (is_of v) (map (filled u bytes) ps))) other ∙ find-fill v u bytes ps both.1
-
-pub distinct-fill : (u : UnitId) (bytes : List ℕ) (ps : List Placement) → AreDistinct ps → AreDistinct (map (filled u bytes) ps)
-distinct-fill u bytes [] all = tt
-distinct-fill u bytes (p ∷ ps) all =
-    (ap (λ v. find (is_of v) (map (filled u bytes) ps)) (filled_unit u bytes p) ∙ find-fill p.unit u bytes ps all.0, distinct-fill u bytes ps all.1)
-
-find-clear : (v : UnitId) (t : Placement → Bool) (ps : List Placement) → find (is_of v) ps ≡ None → find (is_of v) (filter t ps) ≡ None
-find-clear v t [] none = refl
-find-clear v t (p ∷ ps) none =
-    let both = none_next v p (find (is_of v) ps) (is_of v p) refl none in
-    let rest : find (is_of v) (filter t ps) ≡ None = find-clear v t ps both.1 in
-    elim (t p) as (λ b. find (is_of v) (cond b (p ∷ filter t ps) (filter t ps)) ≡ None) [
-      | true ↦ ap (λ b. cond b (Some p) (find (is_of v) (filter t ps))) both.0 ∙ rest
-      | false ↦ rest
-    ]
-
-pub distinct-clear : (t : Placement → Bool) (ps : List Placement) → AreDistinct ps → AreDistinct (filter t ps)
-distinct-clear t [] all = tt
-distinct-clear t (p ∷ ps) all =
-    let rest : AreDistinct (filter t ps) = distinct-clear t ps all.1 in
-    elim (t p) as (λ b. AreDistinct (cond b (p ∷ filter t ps) (filter t ps))) [
-      | true ↦ (find-clear p.unit t ps all.0, rest)
-      | false ↦ rest
-    ]
-
--- deposits of what is laid out in code memory, below the end of all ranges
-pub code_deposits : (ps : List Placement) (end : ℕ) → AreApart base size CODE_START ps end → end ≤ CODE_END → AreWhole ps → AreSegments (deposits ps)
-code_deposits ps end apart below all =
-    apart_below (λ s. s.base) (λ s. length s.bytes) CODE_START (deposits ps) end CODE_END below (apart-deposits CODE_START ps end apart all)
+-- deposits of what is laid out lie apart in code memory
+pub code_deposits : (ps : List Placement) → AreLaidOut ps → AreSegments (deposits ps)
+code_deposits ps laid = apart-deposits CODE_START ps CODE_END laid.apart laid.whole

@@ -1,6 +1,14 @@
 pub mod Apart
-pub mod Deposited
-pub mod Kept
-pub mod LaidOut
+pub mod Between
+pub mod Cuts
 pub mod Lowest
+pub mod Compared
+pub mod Fits
+pub mod Entries
+pub mod Units
+pub mod LaidOut
+pub mod Known
+pub mod Deposited
 pub mod Tied
+pub mod Counted
+pub mod Placed

@@ -5,7 +5,12 @@ use Rattle.std.specs.Int.{next_multiple_of}
 use Rattle.std.proofs.Math.Dec.{leb}
 use Rattle.std.proofs.Math.Nat.{mod_self, mod-eq_of_lt, mod-lt, mul-le-mul_left, mul-mod_left}
 use Rattle.std.proofs.lemmas.Bool.Decides.{eqb_tells, leb_tells}
-use Rattle.code_memory.specs.Laws.{IsLowest}
+
+-- the base is the lowest multiple of the alignment that isn't below an address
+pub record IsLowest (from align base : ℕ) : Type 0 where
+  pub aligned : base % align ≡ 0
+  pub above : from ≤ base
+  pub lowest : (other : ℕ) → other % align ≡ 0 → from ≤ other → base ≤ other
 
 -- of two multiples, one less than an alignment above the other is not above it
 least : (align base other : ℕ) → 0 < align → base % align ≡ 0 → other % align ≡ 0 → base < other + align → base ≤ other

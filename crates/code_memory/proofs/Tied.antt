@@ -1,287 +1,214 @@
--- The slots, their index and the placements stay tied as a slot is added, filled or emptied.
-use Rattle.std.proofs.Common.{◌≡◌, ◌≢◌, ◌⊎◌, ⊎_elim, inl, inr, ℕ, true, false, Option, Some, None, ◌+◌, ◌%◌, ◌<◌, ◌≤◌, List, [], ◌∷◌, ◌++◌, length, set, zero, suc, refl, ap, sym, ◌∙◌, cond, subst, arith}
-use Rattle.std.specs.Prelude.{slice_get, find, nat_eq, ◌==◌, IfSome, IsSome, IsSomeAnd, OnOk, is_err, Result, Ok, Err}
-use Rattle.std.specs.Int.{next_multiple_of}
+-- What a space keeps stays tied as a placement is added, filled or taken away.
+use Rattle.std.proofs.Common.{◌≡◌, ◌^◌, zero, suc, ℕ, false, Option, Some, None, ◌+◌, ◌<◌, ◌≤◌, List, [], ◌∷◌, ◌++◌, length, refl, ap, sym, ◌∙◌, cond, subst, arith, length-append}
+use Rattle.std.specs.Prelude.{find, option_map, nat_eq, IsSome, IsSomeAnd, Result, Ok, Err, OnOk, is_err}
+use Rattle.std.specs.Int.{IsPowerOfTwo}
+use Rattle.std.specs.Ordering.{nat_cmp}
 use Rattle.std.specs.HashMap.{get}
-use Rattle.std.proofs.lemmas.Bool.{eqb-true, eq-eqb}
-use Rattle.std.proofs.lemmas.Bool.Decides.{eqb_tells}
+use Rattle.std.specs.BTreeMap.{insert_entry, is_at}
+use Rattle.std.specs.Map.{values_of, lookup, set_value, remove_entry}
+use Rattle.std.proofs.lemmas.List.{length-map}
+use Rattle.std.proofs.lemmas.Bool.{eqb-true}
 use Rattle.orc_ids.specs.declared.ids.UnitId.{UnitId}
 use Rattle.orc_ids.specs.declared.place.Shape.{Shape}
-use Rattle.code_memory.specs.declared.bounds.TheConstants.{CODE_START, CODE_END}
+use Rattle.orc_ids.specs.declared.limits.TheConstants.{CODE_START, CODE_END}
+use Rattle.code_memory.specs.declared.gaps.Gap.{Gap}
 use Rattle.code_memory.specs.declared.placement.Placement.{Placement}
-use Rattle.code_memory.specs.Places.{Placements, placement_of, with_range, is_of, with_bytes, without, AreLaidOut}
-use Rattle.code_memory.specs.Slots.{Index, kept, Holds, AreIndexed, IsTied}
-use Rattle.code_memory.proofs.Kept.{IsAlone, kept-push, kept-fill, kept-clear, is_other, found_slot, free_slots}
-use Rattle.code_memory.proofs.LaidOut.{base, size, AreAsLong, apart-push, apart-fill, apart-clear, whole-push, whole-fill, whole-clear, distinct-push, distinct-fill, distinct-clear}
+use Rattle.code_memory.specs.Gaps.{between, end_of, gaps_below, last_end, first_fit, with_rest}
+use Rattle.code_memory.specs.Kept.{Bases, keyed, AreKnown, AreGaps, IsCut, IsTied}
+use Rattle.code_memory.specs.Places.{placement_of, is_of, with_range, with_bytes, without, AreBetween, AreLaidOut, IsFull}
+use Rattle.code_memory.proofs.Between.{few_gaps, apart-insert, gaps-append, last_from, last_to}
+use Rattle.code_memory.proofs.Entries.{values-keyed, among-at, insert-at, lookup-at, set-at, remove-at}
+use Rattle.code_memory.proofs.Fits.{IsFit, IsAnswer, answer, full}
+use Rattle.code_memory.proofs.Known.{known-insert, known-remove, known-set}
+use Rattle.code_memory.proofs.LaidOut.{with, laid_out-insert, laid_out-remove, laid_out-set}
+use Rattle.code_memory.proofs.Units.{IsOwned, owned, fill-owned, without-owned}
 
--- the slots that a write shows
-get-set_same : {X : Type 0} (xs : List X) (at : ℕ) (x y : X) → slice_get xs at ≡ Some x → slice_get (set xs at y) at ≡ Some y
-get-set_same [] at x y there = absurd cc
-get-set_same (z ∷ xs) zero x y there = refl
-get-set_same (z ∷ xs) (suc at) x y there = get-set_same xs at x y there
-
-get-set_other : {X : Type 0} (xs : List X) (at k : ℕ) (y : X) → k ≢ at → slice_get (set xs at y) k ≡ slice_get xs k
-get-set_other [] at k y apart = refl
-get-set_other (z ∷ xs) zero zero y apart = absurd (apart refl)
-get-set_other (z ∷ xs) zero (suc k) y apart = refl
-get-set_other (z ∷ xs) (suc at) zero y apart = refl
-get-set_other (z ∷ xs) (suc at) (suc k) y apart = get-set_other xs at k y (λ e. apart (ap suc e))
-
-get-push_old : {X : Type 0} (xs : List X) (k : ℕ) (x y : X) → slice_get xs k ≡ Some x → slice_get (xs ++ y ∷ []) k ≡ Some x
-get-push_old [] k x y there = absurd cc
-get-push_old (z ∷ xs) zero x y there = there
-get-push_old (z ∷ xs) (suc k) x y there = get-push_old xs k x y there
-
-get-push_new : {X : Type 0} (xs : List X) (y : X) → slice_get (xs ++ y ∷ []) (length xs) ≡ Some y
-get-push_new [] y = refl
-get-push_new (z ∷ xs) y = get-push_new xs y
-
-get-push : {X : Type 0} (xs : List X) (k : ℕ) (x y : X) → slice_get (xs ++ y ∷ []) k ≡ Some x → (slice_get xs k ≡ Some x) ⊎ ((k ≡ length xs) × (x ≡ y))
-get-push [] zero x y there = inr (refl, cc)
-get-push [] (suc k) x y there = absurd cc
-get-push (z ∷ xs) zero x y there = inl there
-get-push (z ∷ xs) (suc k) x y there = ⊎_elim (λ h. inl h) (λ h. inr (ap suc h.0, h.1)) (get-push xs k x y there)
-
-pub within : {X : Type 0} (xs : List X) (k : ℕ) (x : X) → slice_get xs k ≡ Some x → k < length xs
-within [] k x there = absurd cc
-within (z ∷ xs) zero x there = omega arith
-within (z ∷ xs) (suc k) x there = omega (arith, within xs k x there)
-
--- an indexed slot is the only one with its unit
-pub alone : (u : UnitId) (slots : List (Option Placement)) (index : Index) (at : ℕ) (p : Placement) → AreIndexed slots index → slice_get slots at ≡ Some (Some p) → is_of u p ≡ true → IsAlone u slots at
-alone u slots index at p indexed there own = record {
-  alone = λ other q here yes.
-      let first : get nat_eq index u.0 ≡ Some at = ap (get nat_eq index) (sym (eqb-true p.unit.0 u.0 own)) ∙ indexed.complete at p there in
-      let second : get nat_eq index u.0 ≡ Some other = ap (get nat_eq index) (sym (eqb-true q.unit.0 u.0 yes)) ∙ indexed.complete other q here in
-      cc;
-}
-
--- a unit that is placed has its slot in the index
-pub record IsPlaced (u : UnitId) (slots : List (Option Placement)) (index : Index) (p : Placement) : Type 0 where
-  pub at : ℕ
-  pub there : slice_get slots at ≡ Some (Some p)
-  pub own : is_of u p ≡ true
-  pub known : get nat_eq index u.0 ≡ Some at
-
-pub placed : (u : UnitId) (slots : List (Option Placement)) (index : Index) (p : Placement) → AreIndexed slots index → find (is_of u) (kept slots) ≡ Some p → IsPlaced u slots index p
-placed u slots index p indexed found =
-    let slot = found_slot u slots p found in
+tie : (placed : List (ℕ × Placement)) (ps : List Placement) (bases : Bases) (gaps : List Gap) (room last : ℕ) → placed ≡ keyed ps → AreKnown bases ps → AreGaps gaps last ps → (0 < length ps → length ps < room) → AreLaidOut ps → IsTied placed bases gaps room last
+tie placed ps bases gaps room last is known filled spare laid =
+    let same : values_of placed ≡ ps = ap values_of is ∙ values-keyed ps in
+    let long : length placed ≡ length ps = ap length is ∙ length-map ps (λ p. (p.base, p)) in
     record {
-      at = slot.at;
-      there = slot.there;
-      own = slot.own;
-      known = ap (get nat_eq index) (sym (eqb-true p.unit.0 u.0 slot.own)) ∙ indexed.complete slot.at p slot.there;
+      by_base = is ∙ ap keyed (sym same);
+      known = subst (AreKnown bases) (sym same) known;
+      filled = subst (AreGaps gaps last) (sym same) filled;
+      spare = subst (λ n. 0 < n → n < room) (sym long) spare;
+      laid_out = subst AreLaidOut (sym same) laid;
     }
 
--- the bytes are as long as the one range of the unit
-as_long : (u : UnitId) (bytes : List ℕ) (slots : List (Option Placement)) → ((at : ℕ) (q : Placement) → slice_get slots at ≡ Some (Some q) → is_of u q ≡ true → length bytes ≡ q.shape.need) → AreAsLong u bytes (kept slots)
-as_long u bytes [] h = tt
-as_long u bytes (None ∷ slots) h = as_long u bytes slots (λ at q there. h (suc at) q there)
-as_long u bytes (Some p ∷ slots) h = (h 0 p refl, as_long u bytes slots (λ at q there. h (suc at) q there))
+pub count_is : (placed : List (ℕ × Placement)) → length (values_of placed) ≡ length placed
+count_is placed = length-map placed (λ e. e.1)
 
--- a slot of the unit is filled
-fill_sound : (u : UnitId) (bytes : List ℕ) (slots : List (Option Placement)) (at : ℕ) (p : Placement) → slice_get slots at ≡ Some (Some p) → (v other : ℕ) → Holds slots v other → Holds (set slots at (Some (record p { bytes = Some bytes }))) v other
-fill_sound u bytes slots at p there v other h =
-    ⊎_elim (λ (e : ((other == at) ≡ true) × (other ≡ at)).
-    let same : h.placement ≡ p = (let first : slice_get slots at ≡ Some (Some h.placement) = sym (ap (slice_get slots) e.1) ∙ h.there in cc) in
-    record {
-      placement = record p { bytes = Some bytes };
-      there = ap (slice_get (set slots at (Some (record p { bytes = Some bytes })))) e.1 ∙ get-set_same slots at (Some p) (Some (record p { bytes = Some bytes })) there;
-      owner = sym (ap (λ (q : Placement). q.unit.0) same) ∙ h.owner;
-    })
-    (λ (e : ((other == at) ≡ false) × (other ≢ at)).
-    record {
-      placement = h.placement;
-      there = get-set_other slots at other (Some (record p { bytes = Some bytes })) e.1 ∙ h.there;
-      owner = h.owner;
-    })
-    (eqb_tells other at)
+-- there are no more gaps than entries
+pub gaps_few : (placed : List (ℕ × Placement)) (bases : Bases) (gaps : List Gap) (room last : ℕ) → IsTied placed bases gaps room last → length gaps ≤ length placed
+gaps_few placed bases gaps room last tied =
+    omega (arith, ap length tied.filled.below, few_gaps CODE_START (values_of placed), count_is placed)
 
-fill_complete : (bytes : List ℕ) (slots : List (Option Placement)) (index : Index) (at : ℕ) (p : Placement) → AreIndexed slots index → slice_get slots at ≡ Some (Some p) → (other : ℕ) (q : Placement) → slice_get (set slots at (Some (record p { bytes = Some bytes }))) other ≡ Some (Some q) → get nat_eq index q.unit.0 ≡ Some other
-fill_complete bytes slots index at p indexed there other q here =
-    let new : Placement = record p { bytes = Some bytes } in
-    ⊎_elim (λ (e : ((other == at) ≡ true) × (other ≡ at)).
-    let first : slice_get (set slots at (Some new)) at ≡ Some (Some q) = sym (ap (slice_get (set slots at (Some new))) e.1) ∙ here in
-    let second : slice_get (set slots at (Some new)) at ≡ Some (Some new) = get-set_same slots at (Some p) (Some new) there in
-    let same : q ≡ new = cc in
-    ap (λ (x : Placement). get nat_eq index x.unit.0) same ∙ indexed.complete at p there ∙ ap Some (sym e.1))
-    (λ (e : ((other == at) ≡ false) × (other ≢ at)).
-    indexed.complete other q (sym (get-set_other slots at other (Some new) e.1) ∙ here))
-    (eqb_tells other at)
+-- a unit that is placed: its base is known, and its placement stands there
+pub record IsHere (u : UnitId) (placed : List (ℕ × Placement)) (bases : Bases) (p : Placement) : Type 0 where
+  pub known : get nat_eq bases u.0 ≡ Some p.base
+  pub there : lookup (is_at (nat_cmp p.base)) placed ≡ Some p
+  pub owned : IsOwned u (values_of placed) p
 
-pub tied_fill : (u : UnitId) (bytes : List ℕ) (slots : List (Option Placement)) (index : Index) (end at : ℕ) (p : Placement) → IsTied slots index end → slice_get slots at ≡ Some (Some p) → is_of u p ≡ true → length bytes ≡ p.shape.need →
-    IsTied (set slots at (Some (record p { bytes = Some bytes }))) index end
-tied_fill u bytes slots index end at p tied there own long =
-    let only = alone u slots index at p tied.indexed there own in
-    let changed = kept-fill u bytes slots at p there own only in
-    let laid = tied.laid_out in
-    let each : AreAsLong u bytes (kept slots) = as_long u bytes slots (λ other q here yes.
-    let e : other ≡ at = only.alone other q here yes in
-    let same : q ≡ p = (let first : slice_get slots at ≡ Some (Some q) = sym (ap (slice_get slots) e) ∙ here in cc) in
-    long ∙ sym (ap (λ (x : Placement). x.shape.need) same)) in
+here : (u : UnitId) (placed : List (ℕ × Placement)) (bases : Bases) (gaps : List Gap) (room last : ℕ) (p : Placement) → IsTied placed bases gaps room last → placement_of (values_of placed) u ≡ Some p → IsHere u placed bases p
+here u placed bases gaps room last p tied found =
+    let o = owned u (values_of placed) p tied.laid_out.distinct found in
     record {
-      indexed = record {
-        sound = λ v other found. fill_sound u bytes slots at p there v other (tied.indexed.sound v other found);
-        complete = fill_complete bytes slots index at p tied.indexed there;
-      };
-      laid_out = subst (λ ps. AreLaidOut (record { placed = ps; end = end })) (sym changed) (record {
-        apart = apart-fill u bytes CODE_START (kept slots) end laid.apart;
-        inside = laid.inside;
-        whole = whole-fill u bytes (kept slots) laid.whole each;
-        distinct = distinct-fill u bytes (kept slots) laid.distinct;
-      });
+      known = tied.known.at u ∙ ap (λ o. option_map (λ (q : Placement). q.base) o) found;
+      there = ap (lookup (is_at (nat_cmp p.base))) tied.by_base ∙ ap (λ ps. lookup (is_at (nat_cmp p.base)) (keyed ps)) o.split
+          ∙ lookup-at CODE_START o.front p o.back CODE_END (subst (λ ps. AreBetween CODE_START ps CODE_END) o.split tied.laid_out.apart);
+      owned = o;
     }
 
--- a slot of the unit is emptied, and the index no longer has the unit
-abbrev pub IsRemoved : ℕ → Index → Index → Type 0
-IsRemoved u index next = (q : ℕ) → get nat_eq next q ≡ cond (nat_eq u q) None (get nat_eq index q)
-
-removed_other : (u q : ℕ) (rest : Option ℕ) (at : ℕ) → cond (nat_eq u q) None rest ≡ Some at → (u ≢ q) × (rest ≡ Some at)
-removed_other u q rest at h =
-    ⊎_elim (λ (e : ((u == q) ≡ true) × (u ≡ q)). let none : cond (u == q) None rest ≡ None = ap (λ b. cond b None rest) e.0 in absurd cc)
-    (λ (e : ((u == q) ≡ false) × (u ≢ q)). (e.1, sym (ap (λ b. cond b None rest) e.0) ∙ h))
-    (eqb_tells u q)
-
-removed_rest : (u q : ℕ) (rest : Option ℕ) → u ≢ q → cond (nat_eq u q) None rest ≡ rest
-removed_rest u q rest apart =
-    ⊎_elim (λ (e : ((u == q) ≡ true) × (u ≡ q)). absurd (apart e.1)) (λ (e : ((u == q) ≡ false) × (u ≢ q)). ap (λ b. cond b None rest) e.0) (eqb_tells u q)
-
-pub tied_clear : (u : UnitId) (slots : List (Option Placement)) (index next : Index) (end at : ℕ) (p : Placement) → IsTied slots index end → slice_get slots at ≡ Some (Some p) → is_of u p ≡ true → IsRemoved u.0 index next →
-    IsTied (set slots at None) next end
-tied_clear u slots index next end at p tied there own removed =
-    let only = alone u slots index at p tied.indexed there own in
-    let changed = kept-clear u slots at p there own only in
-    let laid = tied.laid_out in
-    record {
-      indexed = record {
-        sound = λ v other found.
-            let kept_index = removed_other u.0 v (get nat_eq index v) other (sym (removed v) ∙ found) in
-            let h = tied.indexed.sound v other kept_index.1 in
-            let apart : other ≢ at = λ e.
-            let first : slice_get slots at ≡ Some (Some h.placement) = sym (ap (slice_get slots) e) ∙ h.there in
-            let same : h.placement ≡ p = cc in
-            kept_index.0 (sym (eqb-true p.unit.0 u.0 own) ∙ sym (ap (λ (x : Placement). x.unit.0) same) ∙ h.owner) in
-            record { placement = h.placement; there = get-set_other slots at other None apart ∙ h.there; owner = h.owner };
-        complete = λ other q here.
-            let apart : other ≢ at = λ e.
-            let first : slice_get (set slots at None) at ≡ Some (Some q) = sym (ap (slice_get (set slots at None)) e) ∙ here in
-            let second : slice_get (set slots at None) at ≡ Some None = get-set_same slots at (Some p) None there in
-            absurd cc in
-            let before = sym (get-set_other slots at other None apart) ∙ here in
-            let foreign : u.0 ≢ q.unit.0 = λ e. apart (only.alone other q before (eq-eqb q.unit.0 u.0 (sym e))) in
-            removed q.unit.0 ∙ removed_rest u.0 q.unit.0 (get nat_eq index q.unit.0) foreign ∙ tied.indexed.complete other q before;
-      };
-      laid_out = subst (λ ps. AreLaidOut (record { placed = ps; end = end })) (sym changed) (record {
-        apart = apart-clear (is_other u) CODE_START (kept slots) end laid.apart;
-        inside = laid.inside;
-        whole = whole-clear (is_other u) (kept slots) laid.whole;
-        distinct = distinct-clear (is_other u) (kept slots) laid.distinct;
-      });
-    }
-
--- a slot is added, and the index has it at its unit
-abbrev pub IsAdded : ℕ → ℕ → Index → Index → Type 0
-IsAdded u at index next = (q : ℕ) → get nat_eq next q ≡ cond (nat_eq u q) (Some at) (get nat_eq index q)
-
-added_rest : (u q at : ℕ) (rest : Option ℕ) → u ≢ q → cond (nat_eq u q) (Some at) rest ≡ rest
-added_rest u q at rest apart =
-    ⊎_elim (λ (e : ((u == q) ≡ true) × (u ≡ q)). absurd (apart e.1)) (λ (e : ((u == q) ≡ false) × (u ≢ q)). ap (λ b. cond b (Some at) rest) e.0) (eqb_tells u q)
-
-added_same : (u q at : ℕ) (rest : Option ℕ) → u ≡ q → cond (nat_eq u q) (Some at) rest ≡ Some at
-added_same u q at rest same = ap (λ b. cond b (Some at) rest) (eq-eqb u q same)
-
-pub tied_push : (p : Placement) (slots : List (Option Placement)) (index next : Index) (end : ℕ) → IsTied slots index end → find (is_of p.unit) (kept slots) ≡ None → p.bytes ≡ None → end ≤ p.base → 0 < p.shape.need → p.base + p.shape.need ≤ CODE_END → p.base % p.shape.align ≡ 0 → IsAdded p.unit.0 (length slots) index next →
-    IsTied (slots ++ Some p ∷ []) next (p.base + p.shape.need)
-tied_push p slots index next end tied none empty above some room aligned added =
-    let free = free_slots p.unit slots none in
-    let laid = tied.laid_out in
-    record {
-      indexed = record {
-        sound = λ v at found.
-            ⊎_elim (λ (e : ((p.unit.0 == v) ≡ true) × (p.unit.0 ≡ v)).
-            let last : Some (length slots) ≡ Some at = sym (added_same p.unit.0 v (length slots) (get nat_eq index v) e.1) ∙ sym (added v) ∙ found in
-            let same : length slots ≡ at = cc in
-            record { placement = p; there = ap (slice_get (slots ++ Some p ∷ [])) (sym same) ∙ get-push_new slots (Some p); owner = e.1 })
-            (λ (e : ((p.unit.0 == v) ≡ false) × (p.unit.0 ≢ v)).
-            let h = tied.indexed.sound v at (sym (added_rest p.unit.0 v (length slots) (get nat_eq index v) e.1) ∙ sym (added v) ∙ found) in
-            record { placement = h.placement; there = get-push_old slots at (Some h.placement) (Some p) h.there; owner = h.owner })
-            (eqb_tells p.unit.0 v);
-        complete = λ at q here.
-            ⊎_elim (λ (old : slice_get slots at ≡ Some (Some q)).
-            let foreign : p.unit.0 ≢ q.unit.0 = λ e.
-            let yes : is_of p.unit q ≡ true = eq-eqb q.unit.0 p.unit.0 (sym e) in
-            let no : is_of p.unit q ≡ false = free.free at q old in absurd cc in
-            added q.unit.0 ∙ added_rest p.unit.0 q.unit.0 (length slots) (get nat_eq index q.unit.0) foreign ∙ tied.indexed.complete at q old)
-            (λ (new : (at ≡ length slots) × (Some q ≡ Some p)).
-            let same : q ≡ p = (let e = new.1 in cc) in
-            let owner : p.unit.0 ≡ q.unit.0 = sym (ap (λ (x : Placement). x.unit.0) same) in
-            added q.unit.0 ∙ added_same p.unit.0 q.unit.0 (length slots) (get nat_eq index q.unit.0) owner ∙ ap Some (sym new.0))
-            (get-push slots at (Some q) (Some p) here);
-      };
-      laid_out = subst (λ ps. AreLaidOut (record { placed = ps; end = p.base + p.shape.need })) (sym (kept-push slots p)) (record {
-        apart = apart-push base size CODE_START (kept slots) end p (p.base + p.shape.need) laid.apart above some (omega arith);
-        inside = room;
-        whole = whole-push (kept slots) p laid.whole (record { aligned = aligned; full = subst (λ o. IfSome o (λ b. length b ≡ p.shape.need)) (sym empty) tt });
-        distinct = distinct-push (kept slots) p laid.distinct none;
-      });
-    }
-
--- what a space shows of its fields
-abbrev pub shown : List (Option Placement) → ℕ → Placements
-shown slots end = record { placed = kept slots; end = end }
+-- the placement of a unit that has one, and what is known of it
+pub record IsReady (u : UnitId) (placed : List (ℕ × Placement)) (bases : Bases) (P : Placement → Type 0) : Type 0 where
+  pub p : Placement
+  pub is : IsHere u placed bases p
+  pub fact : P p
 
 holder : (o : Option Placement) (P : Placement → Type 0) → IsSomeAnd o P → (p : Placement) × (o ≡ Some p) × P p
 holder None P h = absurd h
 holder (Some p) P h = (p, refl, h)
 
-some_of : (o : Option Placement) → IsSome o → IsSomeAnd o (λ p. Unit {0})
-some_of None h = absurd cc
-some_of (Some p) h = tt
+pub ready : (u : UnitId) (placed : List (ℕ × Placement)) (bases : Bases) (gaps : List Gap) (room last : ℕ) (m : List Placement) (P : Placement → Type 0) → IsTied placed bases gaps room last → values_of placed ≡ m → IsSomeAnd (placement_of m u) P → IsReady u placed bases P
+ready u placed bases gaps room last m P tied is h =
+    let found = holder (placement_of (values_of placed) u) P (subst (λ ps. IsSomeAnd (placement_of ps u) P) (sym is) h) in
+    record { p = found.0; is = here u placed bases gaps room last found.0 tied found.1; fact = found.2 }
 
--- a unit that has a range, with what is known of it
-pub record IsReady (u : UnitId) (slots : List (Option Placement)) (index : Index) (P : Placement → Type 0) : Type 0 where
-  pub placement : Placement
-  pub slot : IsPlaced u slots index placement
-  pub fact : P placement
+some_and : (o : Option Placement) → IsSome o → IsSomeAnd o (λ p. Unit {0})
+some_and None h = absurd cc
+some_and (Some p) h = tt
 
-pub ready : (u : UnitId) (slots : List (Option Placement)) (index : Index) (end : ℕ) (m : Placements) (P : Placement → Type 0) → IsTied slots index end → shown slots end ≡ m → IsSomeAnd (placement_of m u) P → IsReady u slots index P
-ready u slots index end m P tied is h =
-    let there = holder (find (is_of u) (kept slots)) P (subst (λ n. IsSomeAnd (placement_of n u) P) (sym is) h) in
-    record { placement = there.0; slot = placed u slots index there.0 tied.indexed there.1; fact = there.2 }
+pub ready_some : (u : UnitId) (placed : List (ℕ × Placement)) (bases : Bases) (gaps : List Gap) (room last : ℕ) (m : List Placement) → IsTied placed bases gaps room last → values_of placed ≡ m → IsSome (placement_of m u) → IsReady u placed bases (λ p. Unit {0})
+ready_some u placed bases gaps room last m tied is h = ready u placed bases gaps room last m (λ p. Unit {0}) tied is (some_and (placement_of m u) h)
 
-pub ready_some : (u : UnitId) (slots : List (Option Placement)) (index : Index) (end : ℕ) (m : Placements) → IsTied slots index end → shown slots end ≡ m → IsSome (placement_of m u) → IsReady u slots index (λ p. Unit {0})
-ready_some u slots index end m tied is h = ready u slots index end m (λ p. Unit {0}) tied is (some_of (placement_of m u) h)
+-- a placement gets its bytes
+gaps-set : (low : ℕ) (xs : List Placement) (p : Placement) (bytes : Option (List ℕ)) (ys : List Placement) → gaps_below low (xs ++ with p bytes ∷ ys) ≡ gaps_below low (xs ++ p ∷ ys)
+gaps-set low [] p bytes ys = refl
+gaps-set low (x ∷ xs) p bytes ys = ap (λ gs. between low x.base ++ gs) (gaps-set (end_of x) xs p bytes ys)
 
--- what is shown after a slot was filled
-pub shown_fill : (u : UnitId) (bytes : List ℕ) (slots now : List (Option Placement)) (index : Index) (end at : ℕ) (p : Placement) (m : Placements) → IsTied slots index end → shown slots end ≡ m → slice_get slots at ≡ Some (Some p) → is_of u p ≡ true →
-    now ≡ set slots at (Some (record p { bytes = Some bytes })) → shown now end ≡ with_bytes m u bytes
-shown_fill u bytes slots now index end at p m tied is there own written =
-    ap (λ xs. shown xs end) written
-    ∙ ap (λ ps. record { placed = ps; end = end }) (kept-fill u bytes slots at p there own (alone u slots index at p tied.indexed there own))
-    ∙ ap (λ n. with_bytes n u bytes) is
+last-set : (low : ℕ) (xs : List Placement) (p : Placement) (bytes : Option (List ℕ)) (ys : List Placement) → last_end low (xs ++ with p bytes ∷ ys) ≡ last_end low (xs ++ p ∷ ys)
+last-set low [] p bytes ys = refl
+last-set low (x ∷ xs) p bytes ys = last-set (end_of x) xs p bytes ys
 
--- what is shown after a slot was emptied
-pub shown_clear : (u : UnitId) (slots now : List (Option Placement)) (index : Index) (end at : ℕ) (p : Placement) (m : Placements) → IsTied slots index end → shown slots end ≡ m → slice_get slots at ≡ Some (Some p) → is_of u p ≡ true →
-    now ≡ set slots at None → shown now end ≡ without m u
-shown_clear u slots now index end at p m tied is there own written =
-    ap (λ xs. shown xs end) written
-    ∙ ap (λ ps. record { placed = ps; end = end }) (kept-clear u slots at p there own (alone u slots index at p tied.indexed there own))
-    ∙ ap (λ n. without n u) is
+pub filled_is : (u : UnitId) (bytes : List ℕ) (placed now : List (ℕ × Placement)) (bases : Bases) (gaps : List Gap) (room last : ℕ) (p : Placement) → IsTied placed bases gaps room last → IsHere u placed bases p →
+    now ≡ set_value (is_at (nat_cmp p.base)) placed (record p { bytes = Some bytes }) → (o : IsOwned u (values_of placed) p) → now ≡ keyed (o.front ++ with p (Some bytes) ∷ o.back)
+filled_is u bytes placed now bases gaps room last p tied is written o =
+    written ∙ ap (λ es. set_value (is_at (nat_cmp p.base)) es (with p (Some bytes))) (tied.by_base ∙ ap keyed o.split)
+    ∙ set-at CODE_START o.front p (with p (Some bytes)) o.back CODE_END (subst (λ ps. AreBetween CODE_START ps CODE_END) o.split tied.laid_out.apart) refl
 
--- what is shown after a slot was added
-pub shown_push : (u : UnitId) (shape : Shape) (slots now : List (Option Placement)) (end base : ℕ) (m : Placements) → shown slots end ≡ m → base ≡ next_multiple_of end shape.align →
-    now ≡ slots ++ Some (record { unit = u; base = base; shape = shape; bytes = None }) ∷ [] → shown now (base + shape.need) ≡ with_range m u shape
-shown_push u shape slots now end base m is at written =
-    ap (λ xs. shown xs (base + shape.need)) written
-    ∙ ap (λ ps. record { placed = ps; end = base + shape.need }) (kept-push slots (record { unit = u; base = base; shape = shape; bytes = None }))
-    ∙ ap (λ b. record { placed = kept slots ++ record { unit = u; base = b; shape = shape; bytes = None } ∷ []; end = b + shape.need }) at
-    ∙ ap (λ n. with_range n u shape) is
+pub tied_fill : (u : UnitId) (bytes : List ℕ) (placed now : List (ℕ × Placement)) (bases : Bases) (gaps : List Gap) (room last : ℕ) (p : Placement) → IsTied placed bases gaps room last → IsHere u placed bases p → length bytes ≡ p.shape.need →
+    now ≡ set_value (is_at (nat_cmp p.base)) placed (record p { bytes = Some bytes }) → IsTied now bases gaps room last
+tied_fill u bytes placed now bases gaps room last p tied is long written =
+    let o = is.owned in
+    let count : length (values_of placed) ≡ length placed = count_is placed in
+    tie now (o.front ++ with p (Some bytes) ∷ o.back) bases gaps room last (filled_is u bytes placed now bases gaps room last p tied is written o)
+    (known-set bases o.front p (Some bytes) o.back (subst (AreKnown bases) o.split tied.known))
+    (record {
+      below = tied.filled.below ∙ ap (gaps_below CODE_START) o.split ∙ sym (gaps-set CODE_START o.front p (Some bytes) o.back);
+      ends = tied.filled.ends ∙ ap (last_end CODE_START) o.split ∙ sym (last-set CODE_START o.front p (Some bytes) o.back);
+    })
+    (λ some. let few : length (o.front ++ with p (Some bytes) ∷ o.back) ≡ length placed = omega (arith, count, ap length o.split, length-append o.front (p ∷ o.back), length-append o.front (with p (Some bytes) ∷ o.back)) in
+    let more : 0 < length placed = omega (arith, few, some) in omega (arith, few, tied.spare more))
+    (laid_out-set o.front p bytes o.back (subst AreLaidOut o.split tied.laid_out) long)
+
+pub shown_fill : (u : UnitId) (bytes : List ℕ) (placed now : List (ℕ × Placement)) (bases : Bases) (gaps : List Gap) (room last : ℕ) (p : Placement) (m : List Placement) → IsTied placed bases gaps room last → values_of placed ≡ m → IsHere u placed bases p →
+    now ≡ set_value (is_at (nat_cmp p.base)) placed (record p { bytes = Some bytes }) → values_of now ≡ with_bytes m u bytes
+shown_fill u bytes placed now bases gaps room last p m tied shown is written =
+    ap values_of (filled_is u bytes placed now bases gaps room last p tied is written is.owned) ∙ values-keyed (is.owned.front ++ with p (Some bytes) ∷ is.owned.back)
+    ∙ sym (fill-owned u bytes (values_of placed) p is.owned) ∙ ap (λ ps. with_bytes ps u bytes) shown
+
+-- a placement is taken away
+pub cut_is : (u : UnitId) (placed : List (ℕ × Placement)) (bases : Bases) (gaps : List Gap) (room last : ℕ) (p : Placement) (base end : ℕ) → IsTied placed bases gaps room last → (is : IsHere u placed bases p) → base ≡ p.base → end ≡ end_of p → IsCut is.owned.front p is.owned.back base end
+cut_is u placed bases gaps room last p base end tied is start stop =
+    record { starts = start; ends = stop; apart = subst (λ ps. AreBetween CODE_START ps CODE_END) is.owned.split tied.laid_out.apart }
+
+pub gaps_are : (u : UnitId) (placed : List (ℕ × Placement)) (bases : Bases) (gaps : List Gap) (room last : ℕ) (p : Placement) → IsTied placed bases gaps room last → (is : IsHere u placed bases p) → AreGaps gaps last (is.owned.front ++ p ∷ is.owned.back)
+gaps_are u placed bases gaps room last p tied is = subst (AreGaps gaps last) is.owned.split tied.filled
+
+taken_is : (u : UnitId) (placed now : List (ℕ × Placement)) (bases : Bases) (gaps : List Gap) (room last : ℕ) (p : Placement) → IsTied placed bases gaps room last → (o : IsOwned u (values_of placed) p) → now ≡ remove_entry (is_at (nat_cmp p.base)) placed → now ≡ keyed (o.front ++ o.back)
+taken_is u placed now bases gaps room last p tied o written =
+    written ∙ ap (remove_entry (is_at (nat_cmp p.base))) (tied.by_base ∙ ap keyed o.split) ∙ remove-at CODE_START o.front p o.back CODE_END (subst (λ ps. AreBetween CODE_START ps CODE_END) o.split tied.laid_out.apart)
+
+pub tied_free : (u : UnitId) (placed now : List (ℕ × Placement)) (bases next : Bases) (gaps left : List Gap) (room last top : ℕ) (p : Placement) → IsTied placed bases gaps room last → (is : IsHere u placed bases p) → now ≡ remove_entry (is_at (nat_cmp p.base)) placed →
+    ((v : ℕ) → get nat_eq next v ≡ cond (nat_eq u.0 v) None (get nat_eq bases v)) → AreGaps left top (is.owned.front ++ is.owned.back) → IsTied now next left room top
+tied_free u placed now bases next gaps left room last top p tied is written dropped filled =
+    let o = is.owned in
+    let same : u.0 ≡ p.unit.0 = sym (eqb-true p.unit.0 u.0 o.own) in
+    let none : (xs : List Placement) → find (is_of u) xs ≡ None → find (is_of p.unit) xs ≡ None = λ xs h. subst (λ k. find (λ (q : Placement). nat_eq q.unit.0 k) xs ≡ None) same h in
+    let count : length (values_of placed) ≡ length placed = count_is placed in
+    tie now (o.front ++ o.back) next left room top (taken_is u placed now bases gaps room last p tied o written)
+    (known-remove bases next o.front p o.back (subst (AreKnown bases) o.split tied.known) (none o.front o.before) (none o.back o.after) (λ v. dropped v ∙ ap (λ k. cond (nat_eq k v) None (get nat_eq bases v)) same))
+    filled
+    (λ some. let more : length placed ≡ length (o.front ++ o.back) + 1 = omega (arith, count, ap length o.split, length-append o.front (p ∷ o.back), length-append o.front o.back) in
+    let any : 0 < length placed = omega (arith, more) in omega (arith, more, tied.spare any))
+    (laid_out-remove o.front p o.back (subst AreLaidOut o.split tied.laid_out))
+
+pub shown_free : (u : UnitId) (placed now : List (ℕ × Placement)) (bases : Bases) (gaps : List Gap) (room last : ℕ) (p : Placement) (m : List Placement) → IsTied placed bases gaps room last → values_of placed ≡ m → (is : IsHere u placed bases p) → now ≡ remove_entry (is_at (nat_cmp p.base)) placed → values_of now ≡ without m u
+shown_free u placed now bases gaps room last p m tied shown is written =
+    ap values_of (taken_is u placed now bases gaps room last p tied is.owned written) ∙ values-keyed (is.owned.front ++ is.owned.back)
+    ∙ sym (without-owned u (values_of placed) p is.owned) ∙ ap (λ ps. without ps u) shown
+
+-- a base is found, or none is free
+pub found : (gaps : List Gap) (last : ℕ) (ps : List Placement) (shape : Shape) (at base : ℕ) → AreLaidOut ps → AreGaps gaps last ps → 0 < shape.need → 0 < shape.align → first_fit shape 0 (with_rest gaps last) ≡ Some (at, base) → IsFit CODE_START ps shape 0 at base
+found gaps last ps shape at base laid filled some align is =
+    let e : first_fit shape 0 (with_rest (gaps_below CODE_START ps) (last_end CODE_START ps)) ≡ Some (at, base) =
+    ap (λ l. first_fit shape 0 (with_rest (gaps_below CODE_START ps) l)) (sym filled.ends) ∙ ap (λ gs. first_fit shape 0 (with_rest gs last)) (sym filled.below) ∙ is in
+    subst (IsAnswer CODE_START ps shape 0) e (answer CODE_START ps shape 0 laid.apart some align)
+
+pub missed : (gaps : List Gap) (last : ℕ) (ps : List Placement) (shape : Shape) → AreLaidOut ps → AreGaps gaps last ps → 0 < shape.need → 0 < shape.align → first_fit shape 0 (with_rest gaps last) ≡ None → IsFull ps shape
+missed gaps last ps shape laid filled some align is =
+    let e : first_fit shape 0 (with_rest (gaps_below CODE_START ps) (last_end CODE_START ps)) ≡ None =
+    ap (λ l. first_fit shape 0 (with_rest (gaps_below CODE_START ps) l)) (sym filled.ends) ∙ ap (λ gs. first_fit shape 0 (with_rest gs last)) (sym filled.below) ∙ is in
+    full ps shape (subst (IsAnswer CODE_START ps shape 0) e (answer CODE_START ps shape 0 laid.apart some align))
+
+-- a placement is added where a base was found
+abbrev pub new : UnitId → Shape → ℕ → Placement
+new u shape base = record { unit = u; base = base; shape = shape; bytes = None }
+
+pub fit_cut : (ps : List Placement) (u : UnitId) (shape : Shape) (at base end : ℕ) → AreLaidOut ps → 0 < shape.need → end ≡ base + shape.need → (fit : IsFit CODE_START ps shape 0 at base) → IsCut fit.front (new u shape base) fit.back base end
+fit_cut ps u shape at base end laid some stop fit =
+    record { starts = refl; ends = stop; apart = apart-insert CODE_START fit.front (new u shape base) fit.back CODE_END (subst (λ xs. AreBetween CODE_START xs CODE_END) fit.split laid.apart) fit.above some fit.below }
+
+pub shown_place : (u : UnitId) (shape : Shape) (placed now : List (ℕ × Placement)) (bases : Bases) (gaps : List Gap) (room last at base end : ℕ) (m : List Placement) → IsTied placed bases gaps room last → values_of placed ≡ m → (fit : IsFit CODE_START (values_of placed) shape 0 at base) →
+    IsCut fit.front (new u shape base) fit.back base end → now ≡ insert_entry nat_cmp placed base (new u shape base) → (now ≡ keyed (fit.front ++ new u shape base ∷ fit.back)) × (values_of now ≡ with_range m u shape base)
+shown_place u shape placed now bases gaps room last at base end m tied shown fit cut written =
+    let is : now ≡ keyed (fit.front ++ new u shape base ∷ fit.back) = written ∙ ap (λ es. insert_entry nat_cmp es base (new u shape base)) (tied.by_base ∙ ap keyed fit.split) ∙ insert-at CODE_START fit.front (new u shape base) fit.back CODE_END cut.apart in
+    (is, ap values_of is ∙ values-keyed (fit.front ++ new u shape base ∷ fit.back) ∙ sym (among-at CODE_START fit.front (new u shape base) fit.back CODE_END cut.apart) ∙ ap (λ ps. with_range ps u shape base) (sym fit.split ∙ shown))
+
+pub tied_place : (u : UnitId) (shape : Shape) (placed now : List (ℕ × Placement)) (bases next : Bases) (gaps left : List Gap) (room wide last top at base end : ℕ) → IsTied placed bases gaps room last → placement_of (values_of placed) u ≡ None → (fit : IsFit CODE_START (values_of placed) shape 0 at base) →
+    IsCut fit.front (new u shape base) fit.back base end → now ≡ keyed (fit.front ++ new u shape base ∷ fit.back) → ((v : ℕ) → get nat_eq next v ≡ cond (nat_eq u.0 v) (Some base) (get nat_eq bases v)) →
+    AreGaps left top (fit.front ++ new u shape base ∷ fit.back) → length placed + 1 < wide → IsTied now next left wide top
+tied_place u shape placed now bases next gaps left room wide last top at base end tied absent fit cut is added filled spare =
+    let count : length (values_of placed) ≡ length placed = count_is placed in
+    let none : find (is_of u) (fit.front ++ fit.back) ≡ None = subst (λ ps. find (is_of u) ps ≡ None) fit.split absent in
+    tie now (fit.front ++ new u shape base ∷ fit.back) next left wide top is
+    (known-insert bases next fit.front (new u shape base) fit.back (subst (AreKnown bases) fit.split tied.known) none added)
+    filled
+    (λ some. omega (arith, spare, count, ap length fit.split, length-append fit.front (new u shape base ∷ fit.back), length-append fit.front fit.back))
+    (laid_out-insert fit.front (new u shape base) fit.back (subst AreLaidOut fit.split tied.laid_out) cut.apart (record { aligned = fit.aligned; full = tt }) none)
+
+-- where a unit is placed, there is an entry
+pub some_placed : (u : UnitId) (placed : List (ℕ × Placement)) (bases : Bases) (p : Placement) → IsHere u placed bases p → 0 < length placed
+some_placed u [] bases p is = let no = is.there in absurd cc
+some_placed u (e ∷ placed) bases p is = omega arith
+
+pub power_some : (n : ℕ) → IsPowerOfTwo n → 0 < n
+power_some n power = subst (λ k. 0 < k) (sym power.1) (pow_pos power.0)
+  where
+    pow_pos : (k : ℕ) → 0 < 2 ^ k
+    pow_pos zero = omega arith
+    pow_pos (suc k) = omega (arith, pow_pos k)
+
+-- a range that was found ends in code memory, and its gap is one of those
+pub fit_within : (ps : List Placement) (shape : Shape) (gaps : List Gap) (last at base : ℕ) → AreLaidOut ps → AreGaps gaps last ps → (fit : IsFit CODE_START ps shape 0 at base) → (base + shape.need ≤ CODE_END) × (at ≡ length (gaps_below CODE_START fit.front)) × (at ≤ length gaps)
+fit_within ps shape gaps last at base laid filled fit =
+    let place : at ≡ length (gaps_below CODE_START fit.front) = omega (arith, fit.place) in (
+      omega (arith, last_from (base + shape.need) fit.back CODE_END fit.below, last_to (base + shape.need) fit.back CODE_END fit.below),
+      place,
+      omega (arith, place, ap length filled.below, ap (λ xs. length (gaps_below CODE_START xs)) fit.split, ap length (gaps-append CODE_START fit.front fit.back), length-append (gaps_below CODE_START fit.front) (gaps_below (last_end CODE_START fit.front) fit.back)),
+    )
 
 -- what a call that didn't fail ensures
 pub if_not_err : {T E : Type 0} (r : Result T E) (P : Type 0) → OnOk r P → is_err r ≡ false → P
 if_not_err (Ok x) P h e = h
 if_not_err (Err x) P h e = absurd cc
-
--- none in the index means none placed
-pub not_ready : (u : UnitId) (slots : List (Option Placement)) (index : Index) (P : Placement → Type 0) → IsReady u slots index P → None ≡ get nat_eq index u.0 → ⊥
-not_ready u slots index P r none = let known = r.slot.known in cc

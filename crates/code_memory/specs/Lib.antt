@@ -1,5 +1,6 @@
 pub mod Apart
+pub mod Gaps
+pub mod Kept
 pub mod Laws
 pub mod Mapped
 pub mod Places
-pub mod Slots

@@ -1,6 +1,6 @@
 -- Deposited ranges as a map from addresses to bytes.
 use Rattle.std.specs.Prelude.{ℕ, Option, None, ◌+◌, ◌-◌, List, [], ◌∷◌, length, nat_lt, slice_get, if◌then◌else◌}
-use Rattle.code_memory.specs.declared.bounds.TheConstants.{CODE_START, CODE_END}
+use Rattle.orc_ids.specs.declared.limits.TheConstants.{CODE_START, CODE_END}
 use Rattle.code_memory.specs.declared.image.Segment.{Segment}
 use Rattle.code_memory.specs.Apart.{AreApart}
 

@@ -1,62 +1,76 @@
 -- The placements of units in code memory (LLVM ORC, `JITLinkMemoryManager`: allocate, finalize, deallocate).
-use Rattle.std.specs.Prelude.{◌≡◌, ℕ, Bool, Option, Some, None, ◌+◌, ◌%◌, ◌≤◌, ◌<◌, List, [], ◌∷◌, ◌++◌, length, map, filter, find, not, ◌==◌, IfSome, if◌then◌else◌}
-use Rattle.std.specs.Int.{next_multiple_of}
+use Rattle.std.specs.Prelude.{◌≡◌, ℕ, Bool, Option, Some, None, ◌+◌, ◌%◌, ◌≤◌, ◌⊎◌, List, [], ◌∷◌, length, map, filter, find, not, ◌==◌, nat_lt, IfSome, if◌then◌else◌}
 use Rattle.orc_ids.specs.declared.ids.UnitId.{UnitId}
 use Rattle.orc_ids.specs.declared.place.Shape.{Shape}
-use Rattle.code_memory.specs.declared.bounds.TheConstants.{CODE_START, CODE_END}
+use Rattle.orc_ids.specs.declared.limits.TheConstants.{CODE_START, CODE_END}
 use Rattle.code_memory.specs.declared.image.Segment.{Segment}
 use Rattle.code_memory.specs.declared.placement.Placement.{Placement}
 use Rattle.code_memory.specs.declared.space.SpaceError.{SpaceError}
 use Rattle.code_memory.specs.declared.space.SpaceError.TheVariants.{NoRoom, NoMemory}
 use Rattle.code_memory.specs.Apart.{AreApart}
 
--- the units that have a range, in rising order of their bases, and where the last range that was ever given ends
-pub record Placements : Type 0 where
-  pub placed : List Placement
-  pub end : ℕ
-
--- no range was ever given
-abbrev pub nothing_placed : Placements
-nothing_placed = record { placed = []; end = CODE_START }
-
 -- the placement is the unit's
 abbrev pub is_of : UnitId → Placement → Bool
 is_of u p = p.unit.0 == u.0
 
 -- the unit's placement
-abbrev pub placement_of : Placements → UnitId → Option Placement
-placement_of m u = find (is_of u) m.placed
+abbrev pub placement_of : List Placement → UnitId → Option Placement
+placement_of ps u = find (is_of u) ps
 
--- the lowest aligned address from the end of all ranges on
-abbrev pub next_base : Placements → Shape → ℕ
-next_base m shape = next_multiple_of m.end shape.align
+-- the range of that length from the base on meets the placement's nowhere
+abbrev pub IsBeside : ℕ → ℕ → Placement → Type 0
+IsBeside base need p = (base + need ≤ p.base) ⊎ (p.base + p.shape.need ≤ base)
 
--- a range of that shape fits into what is left
-abbrev pub HasRoom : Placements → Shape → Type 0
-HasRoom m shape = next_base m shape + shape.need ≤ CODE_END
+-- it meets none of them
+abbrev pub IsBesideAll : ℕ → ℕ → List Placement → Type 0
+IsBesideAll base need [] = Unit {0}
+IsBesideAll base need (p ∷ ps) = IsBeside base need p × IsBesideAll base need ps
 
--- the unit has the next range, without bytes
-abbrev pub with_range : Placements → UnitId → Shape → Placements
-with_range m u shape =
-    let base = next_base m shape in
-    record { placed = m.placed ++ record { unit = u; base = base; shape = shape; bytes = None } ∷ []; end = base + shape.need }
+-- the base is free for the shape: it is aligned, and its range lies in code memory, beside all placements
+pub record IsFree (ps : List Placement) (shape : Shape) (base : ℕ) : Type 0 where
+  pub aligned : base % shape.align ≡ 0
+  pub from_start : CODE_START ≤ base
+  pub to_end : base + shape.need ≤ CODE_END
+  pub beside : IsBesideAll base shape.need ps
 
--- why no range was given: no room is left, or want of memory
-abbrev pub IsRefused : Placements → Shape → SpaceError → Type 0
-IsRefused m shape (NoRoom need) = (need ≡ shape.need) × (CODE_END < next_base m shape + shape.need)
-IsRefused m shape NoMemory = HasRoom m shape
+-- the base is the lowest that is free
+pub record IsLowestFree (ps : List Placement) (shape : Shape) (base : ℕ) : Type 0 where
+  pub free : IsFree ps shape base
+  pub lowest : (other : ℕ) → IsFree ps shape other → base ≤ other
+
+-- no base is free
+abbrev pub IsFull : List Placement → Shape → Type 0
+IsFull ps shape = (base : ℕ) → IsFree ps shape base → ⊥
+
+-- a placement among others, in rising order of base
+abbrev pub placed_among : Placement → List Placement → List Placement
+placed_among p [] = p ∷ []
+placed_among p (q ∷ qs) = if nat_lt p.base q.base then p ∷ q ∷ qs else q ∷ placed_among p qs
+
+-- the unit has the range of that shape from the base on, without bytes
+abbrev pub with_range : List Placement → UnitId → Shape → ℕ → List Placement
+with_range ps u shape base = placed_among (record { unit = u; base = base; shape = shape; bytes = None }) ps
+
+-- why no range was given: no base is free, or one is and memory is wanting
+abbrev pub IsRefused : List Placement → Shape → SpaceError → Type 0
+IsRefused ps shape (NoRoom need) = (need ≡ shape.need) × IsFull ps shape
+IsRefused ps shape NoMemory = (base : ℕ) × IsFree ps shape base
 
 -- a placement of the unit gets these bytes
 abbrev pub filled : UnitId → List ℕ → Placement → Placement
 filled u bytes p = if is_of u p then record p { bytes = Some bytes } else p
 
 -- the unit's range has these bytes
-abbrev pub with_bytes : Placements → UnitId → List ℕ → Placements
-with_bytes m u bytes = record m { placed = map (filled u bytes) m.placed }
+abbrev pub with_bytes : List Placement → UnitId → List ℕ → List Placement
+with_bytes ps u bytes = map (filled u bytes) ps
+
+-- the placement is another unit's
+abbrev pub is_other : UnitId → Placement → Bool
+is_other u p = not (is_of u p)
 
 -- the unit has no range
-abbrev pub without : Placements → UnitId → Placements
-without m u = record m { placed = filter (λ (p : Placement). not (is_of u p)) m.placed }
+abbrev pub without : List Placement → UnitId → List Placement
+without ps u = filter (is_other u) ps
 
 -- a range before others, if it has bytes
 abbrev pub before : ℕ → Option (List ℕ) → List Segment → List Segment
@@ -83,9 +97,12 @@ abbrev pub AreDistinct : List Placement → Type 0
 AreDistinct [] = Unit {0}
 AreDistinct (p ∷ ps) = (find (is_of p.unit) ps ≡ None) × AreDistinct ps
 
+-- the ranges from low up to high rise and lie apart
+abbrev pub AreBetween : ℕ → List Placement → ℕ → Type 0
+AreBetween low ps high = AreApart (λ p. p.base) (λ p. p.shape.need) low ps high
+
 -- the ranges are apart, aligned and inside code memory, and each unit has one
-pub record AreLaidOut (m : Placements) : Type 0 where
-  pub apart : AreApart (λ p. p.base) (λ p. p.shape.need) CODE_START m.placed m.end
-  pub inside : m.end ≤ CODE_END
-  pub whole : AreWhole m.placed
-  pub distinct : AreDistinct m.placed
+pub record AreLaidOut (ps : List Placement) : Type 0 where
+  pub apart : AreBetween CODE_START ps CODE_END
+  pub whole : AreWhole ps
+  pub distinct : AreDistinct ps

@@ -1,9 +1,14 @@
-ghost use Rattle.code_memory.specs.Laws.{NextBaseIsLowest, DepositsAreMapped};
+ghost use Rattle.code_memory.specs.Laws.{LowestBaseIsInFirstGap, PlacementsLieApart, DepositsAreMapped};
 
-/// The base that `place` gives is the lowest aligned address from the end of all ranges on, and it
-/// refuses where no range of the length fits from there: a law, which does nothing.
-pub fn next_base_is_lowest()
-    ensures { NextBaseIsLowest }
+/// The lowest free base is the one in the first gap that the shape fits into, and where it fits into
+/// none no base is free: a law, which does nothing.
+pub fn lowest_base_is_in_first_gap()
+    ensures { LowestBaseIsInFirstGap }
+{}
+
+/// The ranges of two units meet nowhere: a law, which does nothing.
+pub fn placements_lie_apart()
+    ensures { PlacementsLieApart }
 {}
 
 /// A range is mapped from its deposit on, with the bytes deposited: a law, which does nothing.

@@ -2,25 +2,26 @@
 //! a part of its own, the copy of it that a run starts from (LLVM ORC: the memory manager of
 //! `JITLinkMemoryManager`).
 //!
-//! Contracts see a `Space` as the list of its placements, in rising order, and the end of all that
-//! were ever placed; `place` is given by that model exactly. A range that was freed isn't given out
-//! again. They see an `Image` as the list of the deposited ranges in rising order, each a base and
-//! its bytes, and `byte_at` as the map from addresses to bytes that such a list is.
+//! Contracts see a `Space` as the list of its placements, in rising order of base, and nothing else.
+//! A base is free for a shape where it is aligned and its range lies in code memory, beside all
+//! placements; `place` gives the lowest free base, so a range that was freed is used again. They see
+//! an `Image` as the list of the deposited ranges in rising order, each a base and its bytes, and
+//! `byte_at` as the map from addresses to bytes that such a list is.
 //!
-//! Read `exec_run` next, for what a run does with an image.
+//! Inside, the gaps below the placements stand in a list of their own, so that placing looks at gaps
+//! alone. Read `exec_run` next, for what a run does with an image.
 #![tactic(auto)]
 
-mod bounds;
+mod gaps;
 mod image;
 mod laws;
 mod placement;
-mod slots;
+mod ranges;
 mod space;
 #[cfg(test)]
 mod tests;
 
-pub use bounds::{CODE_END, CODE_START};
 pub use image::{Image, Segment};
-pub use laws::{deposits_are_mapped, next_base_is_lowest};
+pub use laws::{deposits_are_mapped, lowest_base_is_in_first_gap, placements_lie_apart};
 pub use placement::Placement;
 pub use space::{Space, SpaceError};

@@ -1,18 +1,18 @@
-ghost use Rattle.std.specs.Prelude.{◌≡◌, ◌<◌, None, length, IsSome, IfOk, OnOk, IfErr, OnErr, IsSomeAnd};
+ghost use Rattle.std.specs.Prelude.{◌≡◌, ◌+◌, ◌<◌, [], length, nat_eq, if◌then◌else◌, Some, None, IsSome, IfOk, OnOk, IfErr, OnErr, IsSomeAnd, ℕ};
 ghost use Rattle.std.specs.Int.{IsPowerOfTwo};
-ghost use Rattle.code_memory.specs.Places.{Placements, nothing_placed, placement_of, next_base, HasRoom, IsRefused, with_range, with_bytes, without, deposits, AreLaidOut};
+ghost use Rattle.code_memory.specs.Places.{placement_of, IsLowestFree, IsRefused, with_range, with_bytes, without, deposits, AreLaidOut};
 
-use crate::bounds::{CODE_END, CODE_START};
+use crate::gaps::{Gap, find_fit};
 use crate::image::Image;
 use crate::placement::Placement;
-use crate::slots::{clear, copy_deposits, fill};
-use orc_ids::{Bytes, Shape, UnitId};
+use crate::ranges::{copy_deposits, fill, give_back, record, take_at, take_out};
+use orc_ids::{Bytes, CODE_START, Shape, UnitId};
 use std::alloc::{AllocError, Global};
-use std::collections::HashMap;
+use std::collections::{BTreeMap, HashMap};
 use std::marker::Model;
 use thiserror::Error;
 
-/// Why a unit got no range: none of the needed length is left, or memory ran out.
+/// Why a unit got no range: no base is free for that many bytes, or memory ran out.
 #[derive(Debug, Drop, Error)]
 pub enum SpaceError {
     #[error("no room for {0} bytes")]
@@ -25,63 +25,70 @@ pub enum SpaceError {
 #[derive(Drop)]
 pub struct Space {
     alloc: Global,
-    slots: Vec<Option<Placement>>,
-    index: HashMap<u32, usize>,
-    end: u64,
+    placed: BTreeMap<u64, Placement>,
+    bases: HashMap<u32, u64>,
+    gaps: Vec<Gap>,
+    last: u64,
 }
 
 impl Model for Space {
-    ghost use Rattle.code_memory.specs.Places.{Placements};
+    ghost use Rattle.std.specs.Prelude.{List};
+    ghost use Rattle.code_memory.specs.declared.placement.Placement.{Placement};
 
-    ghost Value = { Placements };
+    ghost Value = { List Placement };
 
-    ghost use Rattle.code_memory.specs.Slots.{kept, IsTied};
+    ghost use Rattle.std.specs.Prelude.{vec_capacity};
+    ghost use Rattle.std.specs.BTreeMap.{values};
+    ghost use Rattle.code_memory.specs.Kept.{IsTied};
 
-    ghost view = { λ s. record { placed = kept s.slots.items; end = s.end } };
+    ghost view = { λ s. values s.placed };
 
-    ghost invariant = { λ s. IsTied s.slots.items s.index s.end };
+    ghost invariant = { λ s. IsTied s.placed.entries s.bases s.gaps.items (vec_capacity s.gaps) s.last };
 }
 
 impl Space {
     /// Code memory without a range; takes no memory.
     pub fn new(alloc: Global) -> Space
-        ensures { result ≡ nothing_placed }
+        ensures { result ≡ [] }
     {
         Space {
             alloc,
-            slots: Vec::new(alloc),
-            index: HashMap::new(alloc),
-            end: CODE_START,
+            placed: BTreeMap::new(alloc),
+            bases: HashMap::new(alloc),
+            gaps: Vec::new(alloc),
+            last: CODE_START,
         }
     }
 
-    /// Gives the unit the next range of that shape, and makes the room for its bytes' deposit.
+    /// Gives the unit the lowest free range of that shape, and makes the room for its bytes' deposit
+    /// and for its end.
     pub fn place(&mut self, u: UnitId, shape: Shape) -> Result<u64, SpaceError>
         requires absent { placement_of self.old u ≡ None }
         requires need { 0 < shape.need }
         requires align { IsPowerOfTwo shape.align }
-        ensures base { IfOk result (λ base. base ≡ next_base self.old shape) }
-        ensures room { OnOk result (HasRoom self.old shape) }
-        ensures ok { OnOk result (self.new ≡ with_range self.old u shape) }
+        ensures lowest { IfOk result (λ base. IsLowestFree self.old shape base) }
+        ensures ok { IfOk result (λ base. self.new ≡ with_range self.old u shape base) }
         ensures refused { IfErr result (λ e. IsRefused self.old shape e) }
         ensures err { OnErr result (self.new ≡ self.old) }
         ensures laid_out { AreLaidOut self.new }
     {
-        let base = self.end.next_multiple_of(shape.align);
-        if base >= CODE_END || CODE_END - base < shape.need {
+        let Some((at, base)) = find_fit(self.gaps.as_slice(), self.last, shape) else {
             return Err(SpaceError::NoRoom(shape.need));
-        }
-        let slot = self.slots.len();
-        if self.slots.reserve(1).is_err() || self.index.insert(u.0, slot).is_err() {
+        };
+        let room = self.placed.len() + 2 - self.gaps.len();
+        if self.gaps.reserve(room).is_err() {
             return Err(SpaceError::NoMemory);
         }
-        self.slots.push_reserved(Some(Placement {
+        let placement = Placement {
             unit: u,
             base,
             shape,
             bytes: None,
-        }));
-        self.end = base + shape.need;
+        };
+        if record(&mut self.placed, &mut self.bases, placement).is_err() {
+            return Err(SpaceError::NoMemory);
+        }
+        self.last = take_out(&mut self.gaps, self.last, at, base, base + shape.need);
         Ok(base)
     }
 
@@ -90,26 +97,27 @@ impl Space {
         requires { IsSomeAnd (placement_of self.old u) (λ p. length bytes ≡ p.shape.need) }
         ensures { self.new ≡ with_bytes self.old u bytes }
     {
-        if let Some(slot) = self.index.get(&u.0) {
-            fill(&mut self.slots, *slot, bytes);
+        if let Some(base) = self.bases.get(&u.0) {
+            fill(&mut self.placed, *base, bytes);
         }
     }
 
-    /// Takes the unit's range away; it isn't given out again. Takes no memory.
+    /// Takes the unit's range away, which is free from then on; takes no memory.
     pub fn free(&mut self, u: UnitId)
         requires { IsSome (placement_of self.old u) }
         ensures { self.new ≡ without self.old u }
     {
-        if let Some(slot) = self.index.remove(&u.0) {
-            clear(&mut self.slots, slot);
+        if let Some(base) = self.bases.remove(&u.0) {
+            let need = take_at(&mut self.placed, base);
+            self.last = give_back(&mut self.gaps, self.last, base, base + need);
         }
     }
 
     /// A copy of the deposited ranges.
     pub fn image(&self) -> Result<Image, AllocError>
-        ensures image { IfOk result (λ image. image ≡ deposits self.now.placed) }
+        ensures image { IfOk result (λ image. image ≡ deposits self.now) }
         ensures laid_out { AreLaidOut self.now }
     {
-        Ok(Image::from_segments(copy_deposits(self.alloc, self.slots.as_slice())?))
+        Ok(Image::from_segments(copy_deposits(self.alloc, &self.placed)?))
     }
 }

@@ -5,7 +5,7 @@ use Rattle.std.proofs.Math.Dec.{leb}
 use Rattle.std.proofs.lemmas.Bool.Decides.{leb_tells}
 use Rattle.rv_hart.specs.Map.{Map, byte_of}
 use Rattle.code_memory.specs.Mapped.{byte_at, AreSegments}
-use Rattle.code_memory.specs.declared.bounds.TheConstants.{CODE_START, CODE_END}
+use Rattle.orc_ids.specs.declared.limits.TheConstants.{CODE_START, CODE_END}
 use Rattle.code_memory.specs.declared.image.Segment.{Segment}
 use Rattle.exec_run.specs.declared.host.TheConstants.{STACK_START, STACK_END}
 use Rattle.exec_run.specs.declared.region.Region.{Region}

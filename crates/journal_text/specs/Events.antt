@@ -14,6 +14,7 @@ abbrev pub why_text : List (List ℕ) → Why → List ℕ
 why_text names (why.Refused place kind value) = codes "refused " ++ decimal place.block ++ codes " " ++ decimal place.offset ++ codes " " ++ decimal kind ++ codes " " ++ signed_decimal value
 why_text names (why.Missing name) = codes "missing " ++ name_text names name
 why_text names (why.InError i) = codes "inerror i" ++ decimal i.0
+why_text names (why.AliasCycle i) = codes "aliascycle i" ++ decimal i.0
 why_text names (why.BadDep i) = codes "baddep i" ++ decimal i.0
 why_text names (why.NoRoom need) = codes "noroom " ++ decimal need
 why_text names why.NoMemory = codes "nomemory"

@@ -5,7 +5,7 @@ use Rattle.orc_ids.specs.declared.groups.Group.{Group}
 use Rattle.orc_ids.specs.declared.ids.InstId.{InstId}
 use Rattle.orc_ids.specs.declared.ids.NameId.{NameId}
 use Rattle.orc_ids.specs.declared.ids.UnitName.{UnitName}
-use Rattle.orc_ids.specs.declared.ids.UnitName.TheVariants.{Object, Absolute}
+use Rattle.orc_ids.specs.declared.ids.UnitName.TheVariants.{Object, Absolute, Alias}
 use Rattle.orc_ids.specs.declared.lookup.Level.{Level}
 use Rattle.orc_ids.specs.declared.lookup.Level.TheVariants.{Resolved, Ready}
 use Rattle.orc_ids.specs.declared.lookup.OrderItem.{OrderItem}
@@ -30,10 +30,11 @@ abbrev pub listed : {X : Type 0} → List ℕ → List ℕ → (X → List ℕ) 
 listed first next text [] = []
 listed first next text (x ∷ xs) = first ++ text x ++ listed next next text xs
 
--- what the journal calls a unit: an object of a file, or a line of absolute symbols
+-- what the journal calls a unit: an object of a file, a line of absolute symbols, or one of aliases
 abbrev pub unit_text : UnitName → List ℕ
 unit_text (Object file) = codes "o" ++ decimal file
 unit_text (Absolute line) = codes "a" ++ decimal line
+unit_text (Alias line) = codes "l" ++ decimal line
 
 abbrev pub level_text : Level → List ℕ
 level_text Resolved = codes "resolved"

@@ -28,6 +28,7 @@ reply_text names (reply.Spent g) = codes "spent g" ++ decimal g.0
 reply_text names (reply.Offer g) = codes "offer g" ++ decimal g.0
 reply_text names (reply.InError i) = codes "inerror i" ++ decimal i.0
 reply_text names (reply.Missing name) = codes "missing " ++ name_text names name
+reply_text names (reply.AliasCycle i) = codes "aliascycle i" ++ decimal i.0
 reply_text names (reply.Done q) = codes "done q" ++ decimal q.0
 reply_text names (reply.Pending q) = codes "pending q" ++ decimal q.0
 reply_text names (reply.Unknown q) = codes "unknown q" ++ decimal q.0

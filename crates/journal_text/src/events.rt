@@ -83,6 +83,7 @@ fn put_why(out: &mut Vec<u8>, names: &Names, why: Why) -> Result<(), AllocError>
         }
         Why::Missing(name) => put_named(out, b"missing ", names, name),
         Why::InError(i) => put_numbered(out, b"inerror i", i.0),
+        Why::AliasCycle(i) => put_numbered(out, b"aliascycle i", i.0),
         Why::BadDep(i) => put_numbered(out, b"baddep i", i.0),
         Why::NoRoom(need) => put_numbered(out, b"noroom ", need),
         Why::NoMemory => put(out, b"nomemory"),

@@ -13,11 +13,12 @@
 mod events;
 mod known;
 mod lists;
-mod parts;
+pub mod parts;
 mod replies;
 mod text;
 
-pub use known::are_known;
+pub use known::{are_known, is_given, knows_reply};
+pub use replies::put_reply;
 pub use text::text_of;
 
 #[cfg(test)]

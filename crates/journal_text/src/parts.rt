@@ -1,3 +1,4 @@
+//! The parts of texts: words, numbers, names and addresses, each put at the end of a buffer.
 ghost use Rattle.std.specs.Prelude.{◌≡◌, ◌++◌, ◌<◌, length, OnOk};
 ghost use Rattle.journal_text.specs.Parts.{hex, IsGiven, name_text, unit_text, level_text, scope_text};
 
@@ -6,13 +7,15 @@ use orc_ids::{Level, NameId, Scope, UnitName};
 use orc_names::Names;
 use std::alloc::{AllocError, Global};
 
-pub(crate) fn put(out: &mut Vec<u8>, text: &[u8]) -> Result<(), AllocError>
+/// A text.
+pub fn put(out: &mut Vec<u8>, text: &[u8]) -> Result<(), AllocError>
     ensures { OnOk result (out.new.items ≡ out.old.items ++ text.now) }
 {
     out.extend_from_slice(text)
 }
 
-pub(crate) fn put_decimal<I: Integer>(out: &mut Vec<u8>, number: I) -> Result<(), AllocError>
+/// A decimal number.
+pub fn put_decimal<I: Integer>(out: &mut Vec<u8>, number: I) -> Result<(), AllocError>
     ensures { OnOk result (out.new.items ≡ out.old.items ++ I.text number) }
 {
     let mut buffer = itoa::Buffer::new();
@@ -20,11 +23,7 @@ pub(crate) fn put_decimal<I: Integer>(out: &mut Vec<u8>, number: I) -> Result<()
 }
 
 /// A text and a decimal number.
-pub(crate) fn put_numbered<I: Integer>(
-    out: &mut Vec<u8>,
-    text: &[u8],
-    number: I,
-) -> Result<(), AllocError>
+pub fn put_numbered<I: Integer>(out: &mut Vec<u8>, text: &[u8], number: I) -> Result<(), AllocError>
     ensures { OnOk result (out.new.items ≡ out.old.items ++ (text.now ++ I.text number)) }
 {
     put(out, text)?;
@@ -32,7 +31,7 @@ pub(crate) fn put_numbered<I: Integer>(
 }
 
 /// Two texts, each with a decimal number.
-pub(crate) fn put_pair<I: Integer, J: Integer>(
+pub fn put_pair<I: Integer, J: Integer>(
     out: &mut Vec<u8>,
     text: &[u8],
     number: I,
@@ -46,12 +45,7 @@ pub(crate) fn put_pair<I: Integer, J: Integer>(
 }
 
 /// A text and an address.
-pub(crate) fn put_at(
-    alloc: Global,
-    out: &mut Vec<u8>,
-    text: &[u8],
-    address: u64,
-) -> Result<(), AllocError>
+pub fn put_at(alloc: Global, out: &mut Vec<u8>, text: &[u8], address: u64) -> Result<(), AllocError>
     ensures { OnOk result (out.new.items ≡ out.old.items ++ (text.now ++ hex address)) }
 {
     let digits = format!(in alloc; "{address:x}")?;
@@ -60,7 +54,7 @@ pub(crate) fn put_at(
 }
 
 /// A text and a name.
-pub(crate) fn put_named(
+pub fn put_named(
     out: &mut Vec<u8>,
     text: &[u8],
     names: &Names,
@@ -74,17 +68,19 @@ pub(crate) fn put_named(
 }
 
 /// A text and what the journal calls a unit.
-pub(crate) fn put_unit(out: &mut Vec<u8>, text: &[u8], unit: UnitName) -> Result<(), AllocError>
+pub fn put_unit(out: &mut Vec<u8>, text: &[u8], unit: UnitName) -> Result<(), AllocError>
     ensures { OnOk result (out.new.items ≡ out.old.items ++ (text.now ++ unit_text unit)) }
 {
     put(out, text)?;
     match unit {
         UnitName::Object(file) => put_numbered(out, b"o", file),
         UnitName::Absolute(line) => put_numbered(out, b"a", line),
+        UnitName::Alias(line) => put_numbered(out, b"l", line),
     }
 }
 
-pub(crate) fn level_word(level: Level) -> &'static [u8]
+/// The word for a level.
+pub fn level_word(level: Level) -> &'static [u8]
     ensures { result.now ≡ level_text level }
 {
     match level {
@@ -93,7 +89,8 @@ pub(crate) fn level_word(level: Level) -> &'static [u8]
     }
 }
 
-pub(crate) fn scope_word(scope: Scope) -> &'static [u8]
+/// A scope, with the colon before it.
+pub fn scope_word(scope: Scope) -> &'static [u8]
     ensures { result.now ≡ scope_text scope }
 {
     match scope {

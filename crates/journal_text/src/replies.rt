@@ -7,7 +7,8 @@ use orc_names::Names;
 use session_model::{Finishing, Reply};
 use std::alloc::{AllocError, Global};
 
-pub(crate) fn put_reply(
+/// The words of a reply.
+pub fn put_reply(
     alloc: Global,
     out: &mut Vec<u8>,
     names: &Names,
@@ -37,6 +38,7 @@ pub(crate) fn put_reply(
         Reply::Offer(g) => put_numbered(out, b"offer g", g.0),
         Reply::InError(i) => put_numbered(out, b"inerror i", i.0),
         Reply::Missing(name) => put_named(out, b"missing ", names, *name),
+        Reply::AliasCycle(i) => put_numbered(out, b"aliascycle i", i.0),
         Reply::Done(q) => put_numbered(out, b"done q", q.0),
         Reply::Pending(q) => put_numbered(out, b"pending q", q.0),
         Reply::Unknown(q) => put_numbered(out, b"unknown q", q.0),

@@ -1,5 +1,6 @@
 //! Lines that were written by hand from the journal's grammar.
 
+mod aliases;
 mod cycle;
 mod events;
 mod hello;
@@ -28,6 +29,7 @@ impl UnitKind for Named {
       offers = (record { 0 = 0 }, record { weak = false; common = false; exported = false; callable = false }) ∷ [];
       shape = λ _. None;
       address = λ _ _. 0;
+      source = None;
       externals = λ _. record { name = record { 0 = 1 }; weak = true } ∷ [];
       image = λ _ _ _. [];
       groups = λ _ _ _ own. record { members = own; deps = [] } ∷ [];
@@ -52,6 +54,10 @@ impl UnitKind for Named {
 
     fn share(&self, _alloc: Global) -> Result<Named, AllocError> {
         Ok(Named(self.0))
+    }
+
+    fn source(&self) -> Option<DylibId> {
+        None
     }
 
     fn name(&self) -> UnitName {

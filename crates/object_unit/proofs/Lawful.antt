@@ -120,4 +120,5 @@ lawful name g sized offers = record {
       subst (All (Contains (bound_instances bound))) (sym all) (All-contains_itself (bound_instances bound));
   shape = λ live. (positive_need (aligned (stubs_start g live + STUB_SIZE * length (stub_symbols g live)) 16), power_align g sized);
   image = λ live base bound. length-listed 0 (unit_need g live) (image_bytes g (layout_of g live) base (addresses bound));
+  alias = tt;
 }

@@ -1,5 +1,5 @@
 -- What the unit of a graph is, as functions of what a session decides.
-use Rattle.std.specs.Prelude.{ℕ, ◌%◌, ◌^◌, List, map, Option, Some, option_map}
+use Rattle.std.specs.Prelude.{ℕ, ◌%◌, ◌^◌, List, map, Option, Some, None, option_map}
 use Rattle.orc_ids.specs.declared.ids.InstId.{InstId}
 use Rattle.orc_ids.specs.declared.ids.UnitName.{UnitName}
 use Rattle.session_model.specs.Meaning.{Bindings, Meaning}
@@ -23,6 +23,7 @@ graph_meaning name g = record {
   offers = offers_of g;
   shape = λ live. Some (layout_of g live).shape;
   address = λ k base. offer_address g k base % 2 ^ 64;
+  source = None;
   externals = wanted_by g;
   image = λ live base bound. image_of g (layout_of g live) base (addresses bound);
   groups = λ live base bound own. groups_of own (instances bound);

@@ -6,7 +6,7 @@ use crate::parts::Parts;
 use fixups::is_alone;
 use got_stubs::synthesise;
 use link_model::LinkGraph;
-use orc_ids::{NameId, Shape, SymFlags, UnitName, Wanted};
+use orc_ids::{DylibId, NameId, Shape, SymFlags, UnitName, Wanted};
 use session_model::UnitKind;
 use std::alloc::{AllocError, Global};
 use std::sync::Arc;
@@ -64,6 +64,11 @@ impl UnitKind for ObjectUnit {
             name: self.name,
             parts: Arc::try_clone(&self.parts)?,
         })
+    }
+
+    /// No object is an alias.
+    fn source(&self) -> Option<DylibId> {
+        None
     }
 
     fn name(&self) -> UnitName {

@@ -4,6 +4,7 @@ use Rattle.std.specs.Prelude.{Ok}
 use Rattle.std.specs.List.{All, list_all, list_any}
 use Rattle.std.proofs.lemmas.Bool.{cases_Bool}
 use Rattle.std.proofs.lemmas.List.Elements.{All-nil, All-cons}
+use Rattle.std.proofs.lemmas.List.Folds.{list_all-map}
 use Rattle.elf_read.specs.declared.object.ElfObject.{ElfObject}
 use Rattle.elf_read.specs.declared.object.Symbol.{Symbol}
 use Rattle.elf_read.specs.declared.object.SymPlace.{SymPlace}
@@ -17,6 +18,7 @@ use Rattle.link_model.specs.Layout.{some_edge, needs_cell, needs_stub, unit_need
 use Rattle.link_model.specs.Image.{listed}
 use Rattle.link_graph.specs.Object.{is_common, graph_place, graph_symbols, graph_of_parts}
 use Rattle.link_model.specs.Sound.{Sound}
+use Rattle.link_graph.specs.Padding.{all_cuts, trimmed_symbol, trimmed}
 use Rattle.link_graph.specs.Checks.{graph_of_object}
 use Rattle.fixups.specs.Sound.{Alone, Placed}
 use Rattle.orc_cli.specs.Unit.{all_kept, lone_layout, lone_image}
@@ -112,9 +114,13 @@ lone g own without = record {
   edges = no_cells g.edges without;
 }
 
-pub plain_is_alone : (names : List (List ℕ)) (o : ElfObject) (g : LinkGraph) → g ≡ graph_of_parts names o → list_all is_plain o.symbols ≡ true → list_any needs_cell g.edges ≡ false → Alone g (lone_layout g)
+-- deletion moves symbols, and leaves them plain
+pub plain_trimmed : (o : ElfObject) → list_all is_plain o.symbols ≡ true → list_all is_plain (trimmed o).symbols ≡ true
+plain_trimmed o plain = list_all-map is_plain (trimmed_symbol (all_cuts o.sections)) o.symbols ∙ plain
+
+pub plain_is_alone : (names : List (List ℕ)) (o : ElfObject) (g : LinkGraph) → g ≡ graph_of_parts names (trimmed o) → list_all is_plain o.symbols ≡ true → list_any needs_cell g.edges ≡ false → Alone g (lone_layout g)
 plain_is_alone names o g is plain without =
-    lone g (own_all g.symbols (rw is (all_defined names (length o.sections) o.symbols plain))) without
+    lone g (own_all g.symbols (rw is (all_defined names (length (trimmed o).sections) (trimmed o).symbols (plain_trimmed o plain)))) without
 
 -- ---- its image has a byte
 

@@ -56,7 +56,7 @@ use Rattle.link_model.specs.declared.graph.LinkGraph.{LinkGraph}
 use Rattle.link_model.specs.Layout.{layout_of}
 use Rattle.link_model.specs.Image.{image_of}
 use Rattle.object_unit.specs.Meaning.{graph_meaning}
-use Rattle.session_model.specs.Answer.{CODE_START}
+use Rattle.orc_ids.specs.declared.limits.TheConstants.{CODE_START}
 use Rattle.session_model.specs.declared.entry.Event.TheVariants as event
 use Rattle.session_run.specs.Run.{IsRun}
 use Rattle.session_run.specs.Whole.{said}
@@ -177,7 +177,7 @@ run_memory run i l e = fun_ext (λ at. ap (λ (m : Plain). memory m at) stands �
     f = found_at (main_of run) (entry_of run) (unit_of run) i e
 
     stands : state (journal_of run) ≡ done 12 (main_of run) (unit_of run) (its_shape (unit_of run)) i
-    stands = ap state (sym (whole_found (unit_of run) (its_shape (unit_of run)) (main_of run) (entry_of run) i e)) ∙ state_12 (unit_of run) (its_shape (unit_of run)) (main_of run) (entry_of run) i f l.alone
+    stands = ap state (sym (whole_found (unit_of run) (its_shape (unit_of run)) (main_of run) (entry_of run) i e)) ∙ state_12 (unit_of run) (its_shape (unit_of run)) (main_of run) (entry_of run) i f l
 
 -- What the journal says
 

@@ -22,6 +22,9 @@ use Rattle.link_model.specs.Layout.{layout_of}
 use Rattle.link_model.specs.Image.{at_or, own_address, bound_address, place_of}
 use Rattle.link_model.specs.Offers.{name_of, offers_of, offer_address}
 use Rattle.link_graph.specs.Object.{graph_of_parts}
+use Rattle.link_graph.specs.Padding.{all_cuts, trimmed_symbol, trimmed}
+use Rattle.link_graph.proofs.GraphFacts.{all_named}
+use Rattle.orc_cli.proofs.Alone.{plain_trimmed}
 use Rattle.orc_cli.specs.Unit.{all_kept, lone_layout, lone_address}
 use Rattle.link_graph.specs.Object.{is_common, is_global, graph_symbol, graph_symbols, name_number}
 use Rattle.link_graph.specs.Read.{AreNamed}
@@ -245,8 +248,16 @@ entry_of names o text number k is plain named at =
           ∙ ap (λ b. unwrap_or b (own_address (lone_layout g) 268435456 (place_of g k))) (sym (unbound (lone_layout g).externals k)))));
     }
 
-pub entry_is : (names : List (List ℕ)) (o : ElfObject) (g : LinkGraph) (text : List ℕ) (number k : ℕ) → g ≡ graph_of_parts names o → IsNumberOf names text number → list_all is_plain o.symbols ≡ true → AreNamed names o.symbols → position_from (is_named text) 0 o.symbols ≡ Some k → IsEntry g number k
-entry_is names o g text number k made is plain named at = subst (λ (x : LinkGraph). IsEntry x number k) (sym made) (entry_of names o text number k is plain named at)
+-- deletion moves symbols, and leaves them in order under their names
+same_positions : (p : Symbol → Bool) (f : Symbol → Symbol) → ((s : Symbol) → p (f s) ≡ p s) → (i : ℕ) (ss : List Symbol) → position_from p i (map f ss) ≡ position_from p i ss
+same_positions p f same i [] = refl
+same_positions p f same i (s ∷ ss) = elim (cases_Bool (p s)) [ inl t ↦ rw (same s, t) refl | inr n ↦ rw (same s, n) (same_positions p f same (i + 1) ss) ]
 
-pub entry_none : (names : List (List ℕ)) (o : ElfObject) (g : LinkGraph) (text : List ℕ) (number : ℕ) → g ≡ graph_of_parts names o → IsNumberOf names text number → list_all is_plain o.symbols ≡ true → AreNamed names o.symbols → position_from (is_named text) 0 o.symbols ≡ None → offer_from number 0 (offers_of g) ≡ None
-entry_none names o g text number made is plain named at = subst (λ (x : LinkGraph). offer_from number 0 (offers_of x) ≡ None) (sym made) (meets_none names (length o.sections) o.symbols text number 0 0 is plain named at)
+named_there : (text : List ℕ) (o : ElfObject) → position_from (is_named text) 0 (trimmed o).symbols ≡ position_from (is_named text) 0 o.symbols
+named_there text o = same_positions (is_named text) (trimmed_symbol (all_cuts o.sections)) (λ s. refl) 0 o.symbols
+
+pub entry_is : (names : List (List ℕ)) (o : ElfObject) (g : LinkGraph) (text : List ℕ) (number k : ℕ) → g ≡ graph_of_parts names (trimmed o) → IsNumberOf names text number → list_all is_plain o.symbols ≡ true → AreNamed names o.symbols → position_from (is_named text) 0 o.symbols ≡ Some k → IsEntry g number k
+entry_is names o g text number k made is plain named at = subst (λ (x : LinkGraph). IsEntry x number k) (sym made) (entry_of names (trimmed o) text number k is (plain_trimmed o plain) (all_named names (all_cuts o.sections) o.symbols named) (named_there text o ∙ at))
+
+pub entry_none : (names : List (List ℕ)) (o : ElfObject) (g : LinkGraph) (text : List ℕ) (number : ℕ) → g ≡ graph_of_parts names (trimmed o) → IsNumberOf names text number → list_all is_plain o.symbols ≡ true → AreNamed names o.symbols → position_from (is_named text) 0 o.symbols ≡ None → offer_from number 0 (offers_of g) ≡ None
+entry_none names o g text number made is plain named at = subst (λ (x : LinkGraph). offer_from number 0 (offers_of x) ≡ None) (sym made) (meets_none names (length (trimmed o).sections) (trimmed o).symbols text number 0 0 is (plain_trimmed o plain) (all_named names (all_cuts o.sections) o.symbols named) (named_there text o ∙ at))

@@ -15,7 +15,7 @@ use Rattle.link_model.specs.declared.graph.Block.{Block}
 use Rattle.link_model.specs.declared.graph.GSym.{GSym}
 use Rattle.link_model.specs.declared.graph.LinkGraph.{LinkGraph}
 use Rattle.link_model.specs.Graph.{is_offered}
-use Rattle.link_model.specs.Layout.{layout_of, unit_align, aligned}
+use Rattle.link_model.specs.Layout.{layout_of, unit_align}
 use Rattle.link_model.specs.Offers.{offers_of, name_of}
 use Rattle.link_model.specs.Sound.{IsSized, IsAlignment}
 use Rattle.object_unit.specs.Meaning.{graph_meaning}
@@ -27,9 +27,10 @@ use Rattle.orc_cli.specs.Form.{is_plain, is_placed}
 use Rattle.session_run.specs.Lone.{all_live, IsLone}
 use Rattle.orc_cli.specs.Unit.{all_kept, lone_layout, lone_refusal}
 use Rattle.session_core.specs.Strong.{AreStrong}
-use Rattle.orc_cli.proofs.Alone.{plain_is_alone}
+use Rattle.orc_cli.proofs.Alone.{plain_is_alone, plain_trimmed}
 use Rattle.session_model.specs.Meaning.{IsLawful}
 use Rattle.link_graph.specs.Object.{graph_of_parts}
+use Rattle.link_graph.specs.Padding.{trimmed}
 use Rattle.link_model.specs.Layout.{needs_cell}
 use Rattle.link_model.specs.Graph.{external_symbols}
 use Rattle.link_model.specs.Offers.{wanted_of, no_symbol}
@@ -58,21 +59,21 @@ pub unit_alignment : (g : LinkGraph) → IsSized g → IsAlignment (unit_align g
 unit_alignment g s = fold_alignment g.blocks 16 (4, omega arith, refl) s.aligns
 
 -- the start of code memory is a multiple of each
-base_aligned : (k : ℕ) → k ≤ 12 → (aligned 268435456 (2 ^ k) ≡ 268435456) × (268435456 % 2 ^ k ≡ 0)
-base_aligned zero b = (refl, refl)
-base_aligned (suc zero) b = (refl, refl)
-base_aligned (suc (suc zero)) b = (refl, refl)
-base_aligned (suc (suc (suc zero))) b = (refl, refl)
-base_aligned (suc (suc (suc (suc zero)))) b = (refl, refl)
-base_aligned (suc (suc (suc (suc (suc zero))))) b = (refl, refl)
-base_aligned (suc (suc (suc (suc (suc (suc zero)))))) b = (refl, refl)
-base_aligned (suc (suc (suc (suc (suc (suc (suc zero))))))) b = (refl, refl)
-base_aligned (suc (suc (suc (suc (suc (suc (suc (suc zero)))))))) b = (refl, refl)
-base_aligned (suc (suc (suc (suc (suc (suc (suc (suc (suc zero))))))))) b = (refl, refl)
-base_aligned (suc (suc (suc (suc (suc (suc (suc (suc (suc (suc zero)))))))))) b = (refl, refl)
-base_aligned (suc (suc (suc (suc (suc (suc (suc (suc (suc (suc (suc zero))))))))))) b = (refl, refl)
-base_aligned (suc (suc (suc (suc (suc (suc (suc (suc (suc (suc (suc (suc zero)))))))))))) b = (refl, refl)
-base_aligned (suc (suc (suc (suc (suc (suc (suc (suc (suc (suc (suc (suc (suc k))))))))))))) b = absurd (omega (arith, b))
+base_divides : (k : ℕ) → k ≤ 12 → 268435456 % 2 ^ k ≡ 0
+base_divides zero b = refl
+base_divides (suc zero) b = refl
+base_divides (suc (suc zero)) b = refl
+base_divides (suc (suc (suc zero))) b = refl
+base_divides (suc (suc (suc (suc zero)))) b = refl
+base_divides (suc (suc (suc (suc (suc zero))))) b = refl
+base_divides (suc (suc (suc (suc (suc (suc zero)))))) b = refl
+base_divides (suc (suc (suc (suc (suc (suc (suc zero))))))) b = refl
+base_divides (suc (suc (suc (suc (suc (suc (suc (suc zero)))))))) b = refl
+base_divides (suc (suc (suc (suc (suc (suc (suc (suc (suc zero))))))))) b = refl
+base_divides (suc (suc (suc (suc (suc (suc (suc (suc (suc (suc zero)))))))))) b = refl
+base_divides (suc (suc (suc (suc (suc (suc (suc (suc (suc (suc (suc zero))))))))))) b = refl
+base_divides (suc (suc (suc (suc (suc (suc (suc (suc (suc (suc (suc (suc zero)))))))))))) b = refl
+base_divides (suc (suc (suc (suc (suc (suc (suc (suc (suc (suc (suc (suc (suc k))))))))))))) b = absurd (omega (arith, b))
 
 -- Its names are strong and exported
 
@@ -124,15 +125,15 @@ few_offers g = omega (arith, length-map (filter is_offered g.symbols) as_offer, 
 
 -- An object in the form is a unit that needs no other
 
-pub lone_unit : (name : UnitName) (names : List (List ℕ)) (o : ElfObject) (g : LinkGraph) → g ≡ graph_of_parts names o → IsLawful (graph_meaning name g) → IsSized g → list_all is_plain o.symbols ≡ true → list_any needs_cell g.edges ≡ false → (lone_layout g).shape.need ≤ 67108864 → lone_refusal g ≡ None →
+pub lone_unit : (name : UnitName) (names : List (List ℕ)) (o : ElfObject) (g : LinkGraph) → g ≡ graph_of_parts names (trimmed o) → IsLawful (graph_meaning name g) → IsSized g → list_all is_plain o.symbols ≡ true → list_any needs_cell g.edges ≡ false → (lone_layout g).shape.need ≤ 67108864 → lone_refusal g ≡ None →
     IsLone (graph_meaning name g) (lone_layout g).shape
 lone_unit name names o g made lawful sized plain without small allowed = record {
   lawful = lawful;
-  strong = subst (λ (x : LinkGraph). AreStrong (offers_of x)) (sym made) (all_strong names (length o.sections) o.symbols plain);
+  strong = subst (λ (x : LinkGraph). AreStrong (offers_of x)) (sym made) (all_strong names (length (trimmed o).sections) (trimmed o).symbols (plain_trimmed o plain));
   few = omega (arith, few_offers g, sized.symbols);
   shaped = ap (λ live. Some (layout_of g live).shape) (live_is name g);
-  starts = subst (λ n. aligned 268435456 n ≡ 268435456) (sym align.2) (base_aligned align.0 align.1).0;
-  divides = subst (λ n. 268435456 % n ≡ 0) (sym align.2) (base_aligned align.0 align.1).1;
+  own = refl;
+  divides = subst (λ n. 268435456 % n ≡ 0) (sym align.2) (base_divides align.0 align.1);
   fits = omega (arith, small);
   alone = ap (λ live. map (λ s. wanted_of (at_or no_symbol g.symbols s)) (external_symbols g live)) (live_is name g) ∙ ap (map (λ s. wanted_of (at_or no_symbol g.symbols s))) (plain_is_alone names o g made plain without).externals;
   grouped = λ own. refl;

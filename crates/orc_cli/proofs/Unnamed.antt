@@ -22,6 +22,7 @@ use Rattle.link_model.specs.Graph.{is_offered, is_defined, own_symbols, first_fl
 use Rattle.link_model.specs.Layout.{layout_of, needs_cell}
 use Rattle.link_model.specs.Image.{at_or, Write, place_of, is_upper, is_at, is_paired, edge_offset, edge_value, lone_value, edge_write, cell_write, stub_write, bound_address, own_address, told_address, writes, all_written, pieces, raw_byte, listed, image_of, first_refused, refused_edge}
 use Rattle.link_graph.specs.Object.{is_common, is_global, graph_place, graph_flags, graph_symbol, graph_symbols, blocks_of, edges_from, graph_of_parts}
+use Rattle.link_graph.specs.Padding.{trimmed}
 use Rattle.link_graph.specs.Checks.{Fails, first_failed, graph_of_object}
 use Rattle.link_graph.specs.declared.error.GraphError.{GraphError}
 use Rattle.link_graph.specs.declared.error.GraphError.TheVariants.{UnknownReloc, RelocOutside, TlsOrIfunc, BadPair, NeedsAlign, TooMany, NoMemory}
@@ -143,7 +144,7 @@ outcome_bare o entry g =
 
 -- ---- what a graph by any table says of the object
 
-same_check : (names : List (List ℕ)) (o : ElfObject) → first_failed (graph_of_parts [] o) o ≡ first_failed (graph_of_parts names o) o
+same_check : (names : List (List ℕ)) (o : ElfObject) → first_failed (graph_of_parts [] (trimmed o)) o ≡ first_failed (graph_of_parts names (trimmed o)) o
 same_check names o = failed_check-is [] o ∙ sym (failed_check-is names o)
 
 record IsMade (failed : Option GraphError) (made g : LinkGraph) : Type 0 where
@@ -161,22 +162,22 @@ refused_of (Some x) made e h = cc
 pub outcome_made : (names : List (List ℕ)) (o : ElfObject) (entry : List ℕ) (g : LinkGraph) → graph_of_object names o ≡ Ok g → object_outcome o entry ≡ unit_outcome o entry (Ok g)
 unfolding object_outcome
 outcome_made names o entry g h =
-    let made = made_of (first_failed (graph_of_parts names o) o) (graph_of_parts names o) g h in
-    ap (λ (f : Option GraphError). unit_outcome o entry (option_map_or Err f (Ok (graph_of_parts [] o)))) (same_check names o ∙ made.passed)
-    ∙ ap (λ (x : LinkGraph). unit_outcome o entry (Ok x)) (graph_bare names o ∙ ap bared made.same)
+    let made = made_of (first_failed (graph_of_parts names (trimmed o)) o) (graph_of_parts names (trimmed o)) g h in
+    ap (λ (f : Option GraphError). unit_outcome o entry (option_map_or Err f (Ok (graph_of_parts [] (trimmed o))))) (same_check names o ∙ made.passed)
+    ∙ ap (λ (x : LinkGraph). unit_outcome o entry (Ok x)) (graph_bare names (trimmed o) ∙ ap bared made.same)
     ∙ outcome_bare o entry g
 
 pub passed_made : (names : List (List ℕ)) (o : ElfObject) (g : LinkGraph) → graph_of_object names o ≡ Ok g → failed_check o ≡ None
-passed_made names o g h = sym (failed_check-is names o) ∙ (made_of (first_failed (graph_of_parts names o) o) (graph_of_parts names o) g h).passed
+passed_made names o g h = sym (failed_check-is names o) ∙ (made_of (first_failed (graph_of_parts names (trimmed o)) o) (graph_of_parts names (trimmed o)) g h).passed
 
-pub parts_made : (names : List (List ℕ)) (o : ElfObject) (g : LinkGraph) → graph_of_object names o ≡ Ok g → g ≡ graph_of_parts names o
-parts_made names o g h = sym (made_of (first_failed (graph_of_parts names o) o) (graph_of_parts names o) g h).same
+pub parts_made : (names : List (List ℕ)) (o : ElfObject) (g : LinkGraph) → graph_of_object names o ≡ Ok g → g ≡ graph_of_parts names (trimmed o)
+parts_made names o g h = sym (made_of (first_failed (graph_of_parts names (trimmed o)) o) (graph_of_parts names (trimmed o)) g h).same
 
 pub outcome_refused : (names : List (List ℕ)) (o : ElfObject) (entry : List ℕ) (e : GraphError) → graph_of_object names o ≡ Err e → object_outcome o entry ≡ refused (Graph e)
 unfolding object_outcome
 outcome_refused names o entry e h =
-    ap (λ (f : Option GraphError). unit_outcome o entry (option_map_or Err f (Ok (graph_of_parts [] o))))
-    (same_check names o ∙ refused_of (first_failed (graph_of_parts names o) o) (graph_of_parts names o) e h)
+    ap (λ (f : Option GraphError). unit_outcome o entry (option_map_or Err f (Ok (graph_of_parts [] (trimmed o)))))
+    (same_check names o ∙ refused_of (first_failed (graph_of_parts names (trimmed o)) o) (graph_of_parts names (trimmed o)) e h)
 
 pub refuses_as : (names : List (List ℕ)) (o : ElfObject) (entry : List ℕ) (why : GraphError) → Fails why (graph_of_object names o) → Refuses (refusal_of why) (object_outcome o entry)
 refuses_as names o entry NoMemory h = tt

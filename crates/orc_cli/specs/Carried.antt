@@ -1,6 +1,6 @@
 -- A run that is carried through a session, and what its journal says of the answer.
 use Rattle.std.specs.Prelude.{◌≡◌, ℕ, ◌<◌, List, [], length, take, Some, None}
-use Rattle.session_model.specs.Answer.{CODE_START}
+use Rattle.orc_ids.specs.declared.limits.TheConstants.{CODE_START}
 use Rattle.session_model.specs.History.{HasPlaces}
 use Rattle.session_model.specs.Memory.{memory}
 use Rattle.session_model.specs.State.{state}

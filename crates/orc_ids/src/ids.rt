@@ -30,9 +30,11 @@ pub struct SeatNo(pub u32);
 #[derive(Clone, Copy, Debug, PartialEq, Eq, PartialOrd, Ord, Hash)]
 pub struct NameId(pub u32);
 
-/// What the journal calls a unit: the number of its file, or of its line of absolute symbols.
+/// What the journal calls a unit: the number of its file, of its line of absolute symbols, or of its
+/// line of aliases.
 #[derive(Clone, Copy, Debug, PartialEq, Eq)]
 pub enum UnitName {
     Object(u32),
     Absolute(u32),
+    Alias(u32),
 }

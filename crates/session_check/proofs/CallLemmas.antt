@@ -8,13 +8,15 @@ use Rattle.session_model.specs.Plain.{Plain, UnitRow, is_defunct}
 use Rattle.session_model.specs.Answer.{AnswersCall, Called, Gone, Wrong, Right, called, is_held}
 use Rattle.session_model.specs.declared.entry.Reply.{Reply}
 use Rattle.session_model.specs.declared.entry.Reply.TheVariants.{Defunct, WrongPhase}
-use Rattle.session_plain.specs.Calls.{turned_away}
-use Rattle.session_plain.specs.Placing.{called_at}
-use Rattle.session_plain.proofs.PlaceLemmas.{called_there}
+use Rattle.session_plain.specs.Calls.{turned_away, called_at}
 
 -- a call on a unit that isn't there
 pub called_missing : (m : Plain) (s : ℕ) (u : UnitId) (fits : UnitRow → Bool) → slice_get m.units u.0 ≡ None → called m s u fits ≡ Wrong
 called_missing m s u fits e = ap (λ o. option_map_or (called_at s fits) o Wrong) e
+
+-- and on one that is there
+called_there : (m : Plain) (s : ℕ) (u : UnitId) (fits : UnitRow → Bool) (x : UnitRow) → slice_get m.units u.0 ≡ Some x → called m s u fits ≡ called_at s fits x
+called_there m s u fits x e = ap (λ o. option_map_or (called_at s fits) o Wrong) e
 
 turned_by : (b c : Bool) (u : UnitId) (x : UnitRow) (P : UnitRow → Type 0) (known r : Reply) → (if b then Some (Defunct u) else (if c then None else Some (WrongPhase u))) ≡ Some known →
     (r ≡ known) ↔ AnswersCall (if b then Gone else (if c then Right x else Wrong)) u P r

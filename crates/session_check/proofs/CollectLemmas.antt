@@ -16,7 +16,7 @@ use Rattle.session_laws.proofs.Choosing.{reply_is_determined}
 use Rattle.session_laws.proofs.Elements.{element_below}
 use Rattle.session_laws.proofs.Ending.{open_has_no_end}
 use Rattle.session_laws.specs.Replies.{is_placed}
-use Rattle.session_plain.specs.Taking.{IsCollected}
+use Rattle.session_past.specs.Taking.{IsCollected}
 
 not_placed : (past : List (Entry Meaning)) (m : Plain) (q : ℕ) (r : Reply) → AnswersCollect past m q r → is_placed r ≡ false
 not_placed past m q (reply.Placed base) a = absurd a

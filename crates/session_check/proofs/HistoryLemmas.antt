@@ -15,10 +15,10 @@ use Rattle.session_laws.proofs.Elements.{mapped_length}
 use Rattle.session_laws.proofs.Ending.{entries_are, front_legal}
 use Rattle.session_check.specs.Replay.{LedTo}
 use Rattle.session_check.specs.Wrong.{GoesWrongAt}
-use Rattle.session_plain.specs.Ends.{AreEnds}
-use Rattle.session_plain.specs.Fit.{FitStays, IsFit}
-use Rattle.session_plain.specs.declared.ends.Settled.{Settled}
-use Rattle.session_plain.proofs.CauseLemmas.{taken_more}
+use Rattle.session_past.specs.Ends.{AreEnds}
+use Rattle.session_past.specs.Fit.{FitStays, IsFit}
+use Rattle.session_past.specs.declared.ends.Settled.{Settled}
+use Rattle.session_past.proofs.CauseLemmas.{taken_more}
 
 -- a front of a legal front is legal
 shorter_legal : (jmax : ℕ) (h : List (Entry Meaning)) (a b : ℕ) → a ≤ b → IsLegal jmax (take b h) → IsLegal jmax (take a h)

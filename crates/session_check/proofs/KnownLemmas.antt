@@ -1,6 +1,6 @@
 -- A unit that is given by lists is lawful.
 use Rattle.std.proofs.Common.{◌≡◌, ℕ, zero, suc, ◌+◌, ◌*◌, ◌/◌, ◌^◌, ◌<◌, ◌≤◌, max, Bool, true, false, List, [], ◌∷◌, ◌++◌, length, slice_get, Option, Some, None, IfSome, IsTrue, ◌↔◌, ◌⊎◌, inl, inr, subst, sym, refl, ap, ◌∙◌, arith}
-use Rattle.std.specs.Prelude.{not, ◌&&◌, ◌||◌, ◌==◌, nat_eq, Contains}
+use Rattle.std.specs.Prelude.{not, ◌&&◌, ◌||◌, ◌==◌, ◌%◌, nat_eq, Contains, is_some, if◌then◌else◌}
 use Rattle.std.specs.List.{list_any, All}
 use Rattle.std.specs.Int.{IsPowerOfTwo}
 use Rattle.std.specs.List.Sorted.{IsPermutation}
@@ -13,10 +13,11 @@ use Rattle.std.proofs.Math.Pow.{pow-lt, pow_mono}
 use Rattle.std.proofs.lemmas.Nat.{pow_pos}
 use Rattle.std.proofs.lemmas.Option.{same_Some}
 use Rattle.orc_ids.specs.declared.flags.SymFlags.{SymFlags}
+use Rattle.orc_ids.specs.declared.ids.DylibId.{DylibId}
 use Rattle.orc_ids.specs.declared.ids.InstId.{InstId}
 use Rattle.orc_ids.specs.declared.ids.NameId.{NameId}
-use Rattle.session_model.specs.Meaning.{IsLawful, bound_instances}
-use Rattle.session_check.specs.Known.{Known, IsKnown, is_of_name, known_meaning, names_differ}
+use Rattle.session_model.specs.Meaning.{IsLawful, IsAlias, bound_instances}
+use Rattle.session_check.specs.Known.{Known, IsKnown, IsKnownAlias, is_of_name, known_meaning, names_differ}
 
 -- an element with the name is found
 named : (name : NameId) (offers : List (NameId × SymFlags)) (k : ℕ) (b : NameId × SymFlags) → slice_get offers k ≡ Some b → name ≡ b.0 → list_any (is_of_name name) offers ≡ true
@@ -39,6 +40,20 @@ differ (o ∷ os) d (suc j) (suc k) a b s t e =
     let p = and_parts (not (list_any (is_of_name o.0) os)) (names_differ os) d in
     ap suc (differ os p.1 j k a b s t e)
 
+-- one that names a source is an alias
+alias_lawful : (u : Known) (o : Option DylibId) → u.source ≡ o → IfSome o (λ d. IsKnownAlias u) → IfSome o (λ d. IsAlias (known_meaning u))
+alias_lawful u None e a = tt
+alias_lawful u (Some d) e a = record {
+  name = a.name;
+  offers = a.offers;
+  target = a.target;
+  externals = λ live. a.externals;
+  shape = λ live. a.shape;
+  address = λ base. ap (λ (s : Option DylibId). if is_some s then base else (base + 8 * 0) % 2 ^ 64) e;
+  refusal = λ live base bound. a.refusal;
+  groups = λ live base bound own. refl;
+}
+
 pub known_lawful : (u : Known) → IsKnown u → IsLawful (known_meaning u)
 known_lawful u k = record {
   differ = differ u.offers k.differ;
@@ -46,6 +61,7 @@ known_lawful u k = record {
   deps = λ live base bound own fits. subst (λ (xs : List InstId). All (Contains (bound_instances bound)) xs) (sym (append-nil (bound_instances bound))) (All-contains_itself (bound_instances bound));
   shape = λ live. k.shape;
   image = λ live base bound. length-replicate _ 0;
+  alias = alias_lawful u u.source refl k.alias;
 }
 
 -- the least power of two that is no less is the number itself, where that is a power of two

@@ -1,19 +1,45 @@
-ghost use Rattle.std.specs.Prelude.{◌≡◌, ◌↔◌, IsTrue, IfOk};
-ghost use Rattle.session_model.specs.Answer.{Answers, AnswersCollect, AnswersTake, answer_ask, answer_define, answer_generate};
+ghost use Rattle.std.specs.Prelude.{◌≡◌, ◌≤◌, ◌↔◌, length, IsTrue, IfOk};
+ghost use Rattle.session_model.specs.Answer.{Answers, AnswersCollect, AnswersTake, HasSource, answer_ask, answer_attach, answer_define, answer_generate, answer_set_order};
 ghost use Rattle.session_model.specs.State.{plain_event, plain_history};
 ghost use Rattle.session_check.specs.Replay.{LedTo};
 ghost use Rattle.session_plain.specs.Meant.{meant, IsSmall, LiveFit};
 
 use crate::calls::{emit_is_right, fail_is_right, link_is_right, place_is_right, resolve_is_right};
 use crate::sample::Sample;
-use orc_ids::{DylibId, GenId, Level, OrderItem, QueryId, TrackId, Wanted};
+use orc_ids::{
+    DylibId, GenId, Level, ORDER_LIMIT, OrderItem, QueryId, TrackId, WANTED_LIMIT, Wanted,
+};
 use session_model::{Entry, Event, Reply, UnitKind};
+use session_past::{Settled, reply_collect, reply_of_job};
 use session_plain::{
-    PlainSession, Settled, reply_ask, reply_attach, reply_collect, reply_define, reply_dylib,
-    reply_generate, reply_move, reply_of_job, reply_remove, reply_set_order, reply_tracker,
-    same_reply,
+    PlainSession, reply_ask, reply_attach, reply_define, reply_dylib, reply_generate, reply_move,
+    reply_remove, reply_set_order, reply_tracker, source_known,
 };
 use std::alloc::{AllocError, Global};
+
+fn set_order_is_right<U: UnitKind>(
+    s: &PlainSession<U>,
+    d: DylibId,
+    order: &[OrderItem],
+    reply: &Reply,
+) -> bool
+    ensures { IsTrue result ↔ (length order.now ≤ ORDER_LIMIT) × (reply.now ≡ answer_set_order (meant U.meaning s.now) d order.now) }
+{
+    order.len() <= ORDER_LIMIT && reply.is_same(&reply_set_order(s, d, order))
+}
+
+fn attach_is_right<U: UnitKind>(
+    s: &PlainSession<U>,
+    d: DylibId,
+    t: TrackId,
+    unit: &U,
+    reply: &Reply,
+) -> bool
+    requires { IsSmall s.now }
+    ensures { IsTrue result ↔ HasSource (meant U.meaning s.now) (U.meaning unit.now) × (reply.now ≡ answer_attach (meant U.meaning s.now) d t) }
+{
+    source_known(s, unit) && reply.is_same(&reply_attach(s, d, t))
+}
 
 fn define_is_right<U: UnitKind>(
     alloc: Global,
@@ -24,9 +50,10 @@ fn define_is_right<U: UnitKind>(
     reply: &Reply,
 ) -> Result<bool, AllocError>
     requires { IsSmall s.now }
-    ensures { IfOk result (λ right. IsTrue right ↔ (reply.now ≡ answer_define (meant U.meaning s.now) d t (U.meaning unit.now))) }
+    ensures { IfOk result (λ right. IsTrue right ↔ HasSource (meant U.meaning s.now) (U.meaning unit.now) × (reply.now ≡ answer_define (meant U.meaning s.now) d t (U.meaning unit.now))) }
 {
-    Ok(same_reply(reply, &reply_define(alloc, s, d, t, unit)?))
+    let known = reply_define(alloc, s, d, t, unit)?;
+    Ok(source_known(s, unit) && reply.is_same(&known))
 }
 
 fn generate_is_right<U: UnitKind>(
@@ -38,7 +65,7 @@ fn generate_is_right<U: UnitKind>(
     requires { IsSmall s.now }
     ensures { IfOk result (λ right. IsTrue right ↔ (reply.now ≡ answer_generate (meant U.meaning s.now) g)) }
 {
-    Ok(same_reply(reply, &reply_generate(alloc, s, g)?))
+    Ok(reply.is_same(&reply_generate(alloc, s, g)?))
 }
 
 fn ask_is_right<U: UnitKind>(
@@ -50,9 +77,11 @@ fn ask_is_right<U: UnitKind>(
     reply: &Reply,
 ) -> Result<bool, AllocError>
     requires { IsSmall s.now }
-    ensures { IfOk result (λ right. IsTrue right ↔ (reply.now ≡ answer_ask (meant U.meaning s.now) order.now wanted.now level)) }
+    ensures { IfOk result (λ right. IsTrue right ↔ (length order.now ≤ ORDER_LIMIT) × (length wanted.now ≤ WANTED_LIMIT) × (reply.now ≡ answer_ask (meant U.meaning s.now) order.now wanted.now level)) }
 {
-    Ok(same_reply(reply, &reply_ask(alloc, s, order, wanted, level)?))
+    let known = reply_ask(alloc, s, order, wanted, level)?;
+    let fits = order.len() <= ORDER_LIMIT && wanted.len() <= WANTED_LIMIT;
+    Ok(fits && reply.is_same(&known))
 }
 
 fn is_open(reply: &Reply) -> bool
@@ -77,7 +106,7 @@ fn collect_is_right<U: UnitKind>(
     if is_open(&known) {
         return Ok(false);
     }
-    Ok(same_reply(reply, &known))
+    Ok(reply.is_same(&known))
 }
 
 /// Whether the oldest job is handed out so.
@@ -92,7 +121,7 @@ fn take_is_right<U: UnitKind>(
     ensures { IfOk result (λ right. IsTrue right ↔ AnswersTake (plain_history U.meaning past.now) (meant U.meaning s.now) (meant U.meaning s.now).jobs reply.now) }
 {
     match reply_of_job(alloc, s, ends)? {
-        Some(known) => Ok(same_reply(reply, &known)),
+        Some(known) => Ok(reply.is_same(&known)),
         None => Ok(false),
     }
 }
@@ -114,12 +143,9 @@ pub fn is_right<U: Sample>(
     let seat = e.seat;
     let reply = &e.reply;
     match &e.event {
-        Event::Dylib(name) => Ok(same_reply(reply, &reply_dylib(s, *name))),
-        Event::SetOrder(d, order) => Ok(same_reply(
-            reply,
-            &reply_set_order(s, *d, order.as_slice()),
-        )),
-        Event::Attach(d, t, _) => Ok(same_reply(reply, &reply_attach(s, *d, *t))),
+        Event::Dylib(name) => Ok(reply.is_same(&reply_dylib(s, *name))),
+        Event::SetOrder(d, order) => Ok(set_order_is_right(s, *d, order.as_slice(), reply)),
+        Event::Attach(d, t, unit) => Ok(attach_is_right(s, *d, *t, unit, reply)),
         Event::Define(d, t, unit) => define_is_right(alloc, s, *d, *t, unit, reply),
         Event::Generate(g) => generate_is_right(alloc, s, *g, reply),
         Event::Ask(order, wanted, level, _) => ask_is_right(
@@ -132,14 +158,14 @@ pub fn is_right<U: Sample>(
         ),
         Event::Collect(q) => collect_is_right(alloc, past, s, ends, *q, reply),
         Event::Take => take_is_right(alloc, past, s, ends, reply),
-        Event::Place(u, shape) => Ok(place_is_right(s, seat, *u, *shape, reply)),
+        Event::Place(u, shape) => place_is_right(alloc, s, seat, *u, *shape, reply),
         Event::Resolve(u) => Ok(resolve_is_right(s, seat, *u, reply)),
         Event::Emit(u, groups) => emit_is_right(alloc, s, seat, *u, groups.as_slice(), reply),
         Event::Fail(u, why) => Ok(fail_is_right(jmax, past, s, ends, seat, *u, *why, reply)),
-        Event::Tracker(d) => Ok(same_reply(reply, &reply_tracker(s, *d))),
-        Event::MoveTracker(t, to) => Ok(same_reply(reply, &reply_move(s, *t, *to))),
-        Event::Remove(t) => Ok(same_reply(reply, &reply_remove(s, *t))),
-        Event::Image => Ok(same_reply(reply, &Reply::Image)),
+        Event::Tracker(d) => Ok(reply.is_same(&reply_tracker(s, *d))),
+        Event::MoveTracker(t, to) => Ok(reply.is_same(&reply_move(s, *t, *to))),
+        Event::Remove(t) => Ok(reply.is_same(&reply_remove(s, *t))),
+        Event::Image => Ok(reply.is_same(&Reply::Image)),
         Event::Link(u) => link_is_right(alloc, s, seat, *u, reply),
     }
 }

@@ -1,82 +1,55 @@
 ghost use Rattle.std.specs.Prelude.{◌≡◌, ◌↔◌, ◌<◌, ◌^◌, ◌++◌, ◌∷◌, [], true, length, unwrap_or, Some, IsTrue, IfOk, OnOk, if◌then◌else◌};
-ghost use Rattle.orc_ids.specs.declared.lookup.Level.TheVariants as level;
-ghost use Rattle.session_model.specs.Answer.{AnswersCall, AnswersEmit, AnswersPlace, HasCause, answer_lookup, called, is_stage, unit_shape};
-ghost use Rattle.session_model.specs.Change.{link_order};
-ghost use Rattle.session_model.specs.Plain.{own_rows};
+ghost use Rattle.session_model.specs.Answer.{AnswersCall, AnswersEmit, AnswersPlace, HasCause, answer_link, called, can_emit, can_link, can_place, can_resolve};
+ghost use Rattle.session_model.specs.Plain.{own_rows, unit_shape};
 ghost use Rattle.session_model.specs.State.{plain_history};
-ghost use Rattle.session_model.specs.declared.rows.UnitPhase.TheVariants as stage;
 ghost use Rattle.session_check.specs.Replay.{LedTo};
-ghost use Rattle.session_plain.specs.Calls.{may_resolve};
-ghost use Rattle.session_plain.specs.Causes.{may_emit};
+ghost use Rattle.session_plain.specs.Calls.{called_at};
 ghost use Rattle.session_plain.specs.Meant.{meant, unit_row, IsSmall, LiveFit};
-ghost use Rattle.session_plain.specs.Placing.{called_at, may_place};
 
 use crate::sample::Sample;
 use orc_ids::{Group, InstId, Place, SeatNo, Shape, UnitId};
 use session_model::{Entry, InstRow, Reply, UnitKind, Why};
+use session_past::{Settled, has_cause};
 use session_plain::{
-    PlainSession, PlainUnit, Settled, answer_deps, has_cause, may_be_placed, may_emit_now,
-    may_place_now, owned, reply_link, reply_resolve, same_groups, same_reply, shape_of, turn_away,
-    unit_there,
+    PlainSession, PlainUnit, bindings, emit_is_next, may_be_placed, owned, place_is_next,
+    reply_by_deps, reply_link, reply_resolve, same_groups, turn_away, unit_there,
 };
 use std::alloc::{AllocError, Global};
 
-fn same_shape(a: Option<Shape>, b: Shape) -> bool
-    ensures { IsTrue result ↔ (a ≡ Some b) }
-{
-    match a {
-        Some(shape) => shape.need == b.need && shape.align == b.align,
-        None => false,
-    }
-}
-
-/// Whether a started unit of this memory is placed so.
-fn is_placed<U: UnitKind>(
-    s: &PlainSession<U>,
-    x: &PlainUnit<U>,
-    shape: Shape,
-    reply: &Reply,
-) -> bool
-    requires { length x.now.live ≡ length (U.meaning x.now.unit).offers }
-    ensures { IsTrue result ↔ (unit_shape (unit_row U.meaning x.now) ≡ Some shape) × AnswersPlace (meant U.meaning s.now) shape reply.now }
-{
-    match shape_of(x) {
-        Some(own) => same_shape(Some(own), shape) && may_be_placed(s, own, reply),
-        None => false,
-    }
-}
-
 fn unit_placed<U: UnitKind>(
+    alloc: Global,
     s: &PlainSession<U>,
     x: &PlainUnit<U>,
     seat: SeatNo,
     u: UnitId,
     shape: Shape,
     reply: &Reply,
-) -> bool
-    requires { length x.now.live ≡ length (U.meaning x.now.unit).offers }
-    ensures { IsTrue result ↔ AnswersCall (called_at seat.0 may_place (unit_row U.meaning x.now)) u (λ y. (unit_shape y ≡ Some shape) × AnswersPlace (meant U.meaning s.now) shape reply.now) reply.now }
+) -> Result<bool, AllocError>
+    requires session { LiveFit U.meaning s.now.units.items }
+    requires unit { length x.now.live ≡ length (U.meaning x.now.unit).offers }
+    ensures { IfOk result (λ right. IsTrue right ↔ AnswersCall (called_at seat.0 can_place (unit_row U.meaning x.now)) u (λ y. (unit_shape y ≡ Some shape) × AnswersPlace (meant U.meaning s.now) shape reply.now) reply.now) }
 {
-    match turn_away(x, seat, u, may_place_now(x)) {
-        Some(known) => same_reply(reply, &known),
-        None => is_placed(s, x, shape, reply),
+    match turn_away(x, seat, u, place_is_next(x)) {
+        Some(known) => Ok(reply.is_same(&known)),
+        None => may_be_placed(alloc, s, x, shape, reply),
     }
 }
 
 /// Whether the unit is placed so.
 pub fn place_is_right<U: UnitKind>(
+    alloc: Global,
     s: &PlainSession<U>,
     seat: SeatNo,
     u: UnitId,
     shape: Shape,
     reply: &Reply,
-) -> bool
+) -> Result<bool, AllocError>
     requires { LiveFit U.meaning s.now.units.items }
-    ensures { IsTrue result ↔ AnswersCall (called (meant U.meaning s.now) seat.0 u may_place) u (λ y. (unit_shape y ≡ Some shape) × AnswersPlace (meant U.meaning s.now) shape reply.now) reply.now }
+    ensures { IfOk result (λ right. IsTrue right ↔ AnswersCall (called (meant U.meaning s.now) seat.0 u can_place) u (λ y. (unit_shape y ≡ Some shape) × AnswersPlace (meant U.meaning s.now) shape reply.now) reply.now) }
 {
     match unit_there(s, u) {
-        Some(x) => unit_placed(s, x, seat, u, shape, reply),
-        None => same_reply(reply, &Reply::WrongPhase(u)),
+        Some(x) => unit_placed(alloc, s, x, seat, u, shape, reply),
+        None => Ok(reply.is_same(&Reply::WrongPhase(u))),
     }
 }
 
@@ -88,9 +61,9 @@ pub fn resolve_is_right<U: UnitKind>(
     reply: &Reply,
 ) -> bool
     requires { LiveFit U.meaning s.now.units.items }
-    ensures { IsTrue result ↔ AnswersCall (called (meant U.meaning s.now) seat.0 u may_resolve) u (λ x. reply.now ≡ Reply.Resolved) reply.now }
+    ensures { IsTrue result ↔ AnswersCall (called (meant U.meaning s.now) seat.0 u can_resolve) u (λ x. reply.now ≡ Reply.Resolved) reply.now }
 {
-    same_reply(reply, &reply_resolve(s, seat, u))
+    reply.is_same(&reply_resolve(s, seat, u))
 }
 
 /// Whether the unit's externals are looked up so.
@@ -103,9 +76,9 @@ pub fn link_is_right<U: UnitKind>(
 ) -> Result<bool, AllocError>
     requires small { IsSmall s.now }
     requires live { LiveFit U.meaning s.now.units.items }
-    ensures { IfOk result (λ right. IsTrue right ↔ AnswersCall (called (meant U.meaning s.now) seat.0 u (λ x. is_stage stage.Linking x.phase)) u (λ x. reply.now ≡ answer_lookup (meant U.meaning s.now) (link_order (meant U.meaning s.now) x) (x.meaning.externals x.live) level.Resolved) reply.now) }
+    ensures { IfOk result (λ right. IsTrue right ↔ AnswersCall (called (meant U.meaning s.now) seat.0 u can_link) u (λ x. reply.now ≡ answer_link (meant U.meaning s.now) u.0 x) reply.now) }
 {
-    Ok(same_reply(reply, &reply_link(alloc, s, seat, u)?))
+    Ok(reply.is_same(&reply_link(alloc, s, seat, u)?))
 }
 
 fn keep_own(own: &mut Vec<InstId>, k: usize, kept: bool) -> Result<(), AllocError>
@@ -128,16 +101,6 @@ fn own_instances(alloc: Global, rows: &[InstRow], u: UnitId) -> Result<Vec<InstI
         keep_own(&mut own, k, owned(u.0, row))?;
     }
     Ok(own)
-}
-
-/// What the unit's externals are bound to; nothing before they are.
-fn bindings<U: UnitKind>(x: &PlainUnit<U>) -> &[Option<(InstId, u64)>]
-    ensures { result.now ≡ unwrap_or x.now.bound [] }
-{
-    match &x.bound {
-        Some(bound) => bound.as_slice(),
-        None => &[],
-    }
 }
 
 /// What refuses the unit where it is placed, with its bindings if it has some.
@@ -183,8 +146,8 @@ fn is_emitted<U: Sample>(
     ensures { IfOk result (λ right. IsTrue right ↔ AnswersEmit (meant U.meaning s.now) u.0 groups.now (unit_row U.meaning x.now) reply.now) }
 {
     let own = own_groups(alloc, s, x, u, groups)?;
-    let known = answer_deps(&s.rows, groups);
-    Ok(own && unit_refusal(x).is_none() && same_reply(reply, &known))
+    let known = reply_by_deps(&s.rows, groups);
+    Ok(own && unit_refusal(x).is_none() && reply.is_same(&known))
 }
 
 fn unit_emitted<U: Sample>(
@@ -198,10 +161,10 @@ fn unit_emitted<U: Sample>(
 ) -> Result<bool, AllocError>
     requires small { IsSmall s.now }
     requires live { length x.now.live ≡ length (U.meaning x.now.unit).offers }
-    ensures { IfOk result (λ right. IsTrue right ↔ AnswersCall (called_at seat.0 may_emit (unit_row U.meaning x.now)) u (λ y. AnswersEmit (meant U.meaning s.now) u.0 groups.now y reply.now) reply.now) }
+    ensures { IfOk result (λ right. IsTrue right ↔ AnswersCall (called_at seat.0 can_emit (unit_row U.meaning x.now)) u (λ y. AnswersEmit (meant U.meaning s.now) u.0 groups.now y reply.now) reply.now) }
 {
-    match turn_away(x, seat, u, may_emit_now(x)) {
-        Some(known) => Ok(same_reply(reply, &known)),
+    match turn_away(x, seat, u, emit_is_next(x)) {
+        Some(known) => Ok(reply.is_same(&known)),
         None => is_emitted(alloc, s, x, u, groups, reply),
     }
 }
@@ -217,11 +180,11 @@ pub fn emit_is_right<U: Sample>(
 ) -> Result<bool, AllocError>
     requires small { IsSmall s.now }
     requires live { LiveFit U.meaning s.now.units.items }
-    ensures { IfOk result (λ right. IsTrue right ↔ AnswersCall (called (meant U.meaning s.now) seat.0 u may_emit) u (λ y. AnswersEmit (meant U.meaning s.now) u.0 groups.now y reply.now) reply.now) }
+    ensures { IfOk result (λ right. IsTrue right ↔ AnswersCall (called (meant U.meaning s.now) seat.0 u can_emit) u (λ y. AnswersEmit (meant U.meaning s.now) u.0 groups.now y reply.now) reply.now) }
 {
     match unit_there(s, u) {
         Some(x) => unit_emitted(alloc, s, x, seat, u, groups, reply),
-        None => Ok(same_reply(reply, &Reply::WrongPhase(u))),
+        None => Ok(reply.is_same(&Reply::WrongPhase(u))),
     }
 }
 
@@ -241,10 +204,10 @@ fn unit_failed<U: Sample>(
     ensures { IsTrue result ↔ AnswersCall (called_at seat.0 (λ y. true) (unit_row U.meaning x.now)) u (λ y. HasCause jmax (plain_history U.meaning past.now) (meant U.meaning s.now) u.0 y why × (reply.now ≡ Reply.Failed)) reply.now }
 {
     match turn_away(x, seat, u, true) {
-        Some(known) => same_reply(reply, &known),
+        Some(known) => reply.is_same(&known),
         None => {
             has_cause(jmax, past, s, ends, u, x, unit_refusal(x), why)
-                && same_reply(reply, &Reply::Failed)
+                && reply.is_same(&Reply::Failed)
         }
     }
 }
@@ -266,6 +229,6 @@ pub fn fail_is_right<U: Sample>(
 {
     match unit_there(s, u) {
         Some(x) => unit_failed(jmax, past, s, ends, x, seat, u, why, reply),
-        None => same_reply(reply, &Reply::WrongPhase(u)),
+        None => reply.is_same(&Reply::WrongPhase(u)),
     }
 }

@@ -1,19 +1,20 @@
-ghost use Rattle.std.specs.Prelude.{◌≡◌, ◌↔◌, ℕ, ◌<◌, ◌^◌, ◌++◌, ◌∷◌, [], IsTrue, IfOk, IfSome, IfNone, OnOk};
+ghost use Rattle.std.specs.Prelude.{◌≡◌, ◌↔◌, ℕ, ◌<◌, ◌^◌, ◌++◌, ◌∷◌, [], true, false, IsTrue, IfOk, IfSome, IfNone, OnOk};
 ghost use Rattle.std.specs.List.{list_any};
 ghost use Rattle.session_model.specs.Meaning.{bound_instances};
-ghost use Rattle.session_check.specs.Known.{Known, IsKnown, IsShape, is_of_name, names_differ};
+ghost use Rattle.session_check.specs.Known.{Known, IsKnown, IsShape, alias_flags, is_of_name, names_differ};
 
 use crate::sample::Sample;
 use orc_ids::{
-    Group, Groups, InstId, InstList, Items, NameId, Place, Shape, SymFlags, UnitName, Wanted,
+    DylibId, Group, Groups, InstId, InstList, Items, NameId, Place, Shape, SymFlags, UnitName,
+    Wanted,
 };
 use session_model::UnitKind;
 use std::alloc::{AllocError, Global};
 use std::marker::Model;
 
 /// A unit that is given by lists: the names that it offers, and the names that it looks up whichever
-/// of its own are live. The name offered at `k` lies 8 bytes times `k` behind the unit's base. Its
-/// instances make one group, which depends on all that its externals are bound to.
+/// of its own are live. The name offered at `k` lies 8 bytes times `k` behind the unit's base, that of
+/// an alias at it. Its instances make one group, which depends on all that its externals are bound to.
 #[derive(Drop)]
 pub struct KnownUnit {
     name: UnitName,
@@ -21,6 +22,7 @@ pub struct KnownUnit {
     shape: Option<Shape>,
     externals: Vec<Wanted>,
     refusal: Option<(Place, u32, i64)>,
+    source: Option<DylibId>,
 }
 
 impl Model for KnownUnit {
@@ -28,9 +30,9 @@ impl Model for KnownUnit {
 
     ghost Value = { Known };
 
-    ghost view = { λ u. record { name = u.name; offers = u.offers.items; shape = u.shape; externals = u.externals.items; refusal = u.refusal } };
+    ghost view = { λ u. record { name = u.name; offers = u.offers.items; shape = u.shape; externals = u.externals.items; refusal = u.refusal; source = u.source } };
 
-    ghost invariant = { λ u. IsKnown (record { name = u.name; offers = u.offers.items; shape = u.shape; externals = u.externals.items; refusal = u.refusal }) };
+    ghost invariant = { λ u. IsKnown (record { name = u.name; offers = u.offers.items; shape = u.shape; externals = u.externals.items; refusal = u.refusal; source = u.source }) };
 }
 
 fn is_named(offers: &[(NameId, SymFlags)], name: NameId) -> bool
@@ -112,8 +114,8 @@ impl KnownUnit {
         externals: Vec<Wanted>,
         refusal: Option<(Place, u32, i64)>,
     ) -> Option<KnownUnit>
-        ensures some { IfSome result (λ unit. unit ≡ record { name = name; offers = offers.items; shape = shape; externals = externals.items; refusal = refusal }) }
-        ensures none { IfNone result (IsKnown (record { name = name; offers = offers.items; shape = shape; externals = externals.items; refusal = refusal }) → ⊥) }
+        ensures some { IfSome result (λ unit. unit ≡ record { name = name; offers = offers.items; shape = shape; externals = externals.items; refusal = refusal; source = None }) }
+        ensures none { IfNone result (IsKnown (record { name = name; offers = offers.items; shape = shape; externals = externals.items; refusal = refusal; source = None }) → ⊥) }
     {
         let counted = is_count(offers.len()) && is_count(externals.len());
         if counted && all_differ(&offers) && is_shape(shape) {
@@ -123,10 +125,41 @@ impl KnownUnit {
                 shape,
                 externals,
                 refusal,
+                source: None,
             })
         } else {
             None
         }
+    }
+
+    /// An alias: the unit of one name that stands for a name in another dylib.
+    pub fn alias(
+        alloc: Global,
+        unit: UnitName,
+        name: NameId,
+        source: DylibId,
+        target: NameId,
+    ) -> Result<KnownUnit, AllocError>
+        ensures { IfOk result (λ u. u ≡ record { name = unit; offers = (name, alias_flags) ∷ []; shape = None; externals = record { name = target; weak = false } ∷ []; refusal = None; source = Some source }) }
+    {
+        let flags = SymFlags {
+            weak: false,
+            common: false,
+            exported: true,
+            callable: false,
+        };
+        let wanted = Wanted {
+            name: target,
+            weak: false,
+        };
+        Ok(KnownUnit {
+            name: unit,
+            offers: vec![in alloc; (name, flags)]?,
+            shape: None,
+            externals: vec![in alloc; wanted]?,
+            refusal: None,
+            source: Some(source),
+        })
     }
 }
 
@@ -154,7 +187,12 @@ impl UnitKind for KnownUnit {
             shape: self.shape,
             externals: self.externals.to_vec(alloc)?,
             refusal: self.refusal,
+            source: self.source,
         })
+    }
+
+    fn source(&self) -> Option<DylibId> {
+        self.source
     }
 
     fn name(&self) -> UnitName {
@@ -166,7 +204,11 @@ impl UnitKind for KnownUnit {
     }
 
     fn address(&self, k: u32, base: u64) -> u64 {
-        base.wrapping_add(8 * k as u64)
+        if self.source.is_some() {
+            base
+        } else {
+            base.wrapping_add(8 * k as u64)
+        }
     }
 
     fn external_count(&self, _live: &[bool]) -> u32 {

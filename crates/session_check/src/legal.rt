@@ -6,7 +6,7 @@ ghost use Rattle.session_check.specs.Wrong.{GoesWrongAt};
 use crate::replay::{empty_session, play};
 use crate::sample::Sample;
 use session_model::Entry;
-use session_plain::Ends;
+use session_past::Ends;
 use std::alloc::{AllocError, Global};
 
 /// The number, from 0, of the first entry whose reply isn't a right one after the entries before it;

@@ -7,7 +7,8 @@ use Rattle.session_model.specs.Meaning.{Meaning}
 use Rattle.session_model.specs.Lists.{changed_at}
 use Rattle.session_model.specs.Plain.{Plain, UnitRow}
 use Rattle.session_model.specs.Query.{is_met, ending}
-use Rattle.session_model.specs.Change.{Change, changed, settled, settled_from, settled_one, finish_listed, waits_for}
+use Rattle.session_model.specs.Change.{changed, settled, settled_from, settled_one, finish_listed, waits_for}
+use Rattle.session_model.specs.declared.change.Change.{Change}
 use Rattle.session_model.specs.declared.rows.Query.{Query}
 use Rattle.session_model.specs.declared.rows.UnitPhase.{UnitPhase}
 use Rattle.session_model.specs.declared.rows.UnitPhase.TheVariants as stage
@@ -100,7 +101,7 @@ noted_calm m (q ∷ qs) (None ∷ ends) e h =
     ∙ ap (λ l. None ∷ l) (noted_calm m qs ends (omega (arith, e)) (λ k. h (suc k)))
 
 -- an entry whose change settles nothing
-pub quiet_moves : {U : Type 0} (means : U → Meaning) (c : Change) (old new : Tables U) → IsTied means old → NoMetWaits (changed c (meant means old)) →
+pub quiet_moves : {U : Type 0} (means : U → Meaning) (c : Change Meaning) (old new : Tables U) → IsTied means old → NoMetWaits (changed c (meant means old)) →
     meant means new ≡ record (changed c (meant means old)) { entries = old.entries + 1 } →
     new.rows.items ≡ old.rows.items → new.queries.items ≡ old.queries.items → new.ends.items ≡ old.ends.items → IsTied means new → Moves means c old new
 quiet_moves means c old new tied calm leads rows queries ends now = record {

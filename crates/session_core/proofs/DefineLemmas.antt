@@ -14,7 +14,7 @@ use Rattle.session_model.specs.Lists.{first_some, only_if, or_else, numbered}
 use Rattle.session_model.specs.Meaning.{Meaning}
 use Rattle.session_model.specs.Plain.{Plain, UnitRow, has_dylib, is_tracker_of, unsearched_at}
 use Rattle.session_model.specs.Match.{row_of}
-use Rattle.session_model.specs.Change.{verdict, verdict_on, is_kept, is_strong, is_replaced, replaced_by, loses_name, kept_names, new_rows, without_replaced, defined}
+use Rattle.session_model.specs.Change.{verdict, verdicts, verdict_on, is_strong, is_replaced, loses_name, kept_names, new_rows, new_unit, unreplaced_row, without_replaced, defined}
 use Rattle.session_model.specs.Answer.{answer_define, answer_unit, no_dylib, not_tracker_of, clash}
 use Rattle.session_model.specs.declared.entry.Reply.{Reply}
 use Rattle.session_model.specs.declared.entry.Reply.TheVariants as reply
@@ -24,7 +24,7 @@ use Rattle.session_model.specs.declared.rows.Verdict.{Verdict}
 use Rattle.session_model.specs.declared.rows.Verdict.TheVariants.{Kept, Replaces, Discarded, Clashes}
 use Rattle.session_model.specs.declared.rows.UnitPhase.TheVariants as stage
 use Rattle.session_core.specs.Kinds.{is_defined}
-use Rattle.session_core.specs.Defines.{IsDefinable, clash_of, first_clash, AllStrong, offered_row, offered_rows}
+use Rattle.session_core.specs.Defines.{IsDefinable, keeps, clash_of, first_clash, AllStrong, offered_row, offered_rows}
 use Rattle.session_core.specs.Strong.{AreStrong}
 use Rattle.session_core.specs.Tied.{is_named}
 use Rattle.std.proofs.lemmas.Simd.{splat_is_map}
@@ -57,17 +57,17 @@ or_false true b e = absurd (both_ways true e refl)
 or_false false b e = (refl, e)
 
 -- a strong name that doesn't clash is free
-free_name : (m : Plain) (d : ℕ) (o : NameId × SymFlags) → ((i : ℕ) (r : InstRow) → slice_get m.rows i ≡ Some r → is_strong r.flags ≡ true) → is_strong o.1 ≡ true → clash_of m d o ≡ None → row_of m d o.0.0 ≡ None
-free_name m d o strong mine none = split (row_of m d o.0.0) refl none
+free_name : (rows : List InstRow) (d : ℕ) (o : NameId × SymFlags) → ((i : ℕ) (r : InstRow) → slice_get rows i ≡ Some r → is_strong r.flags ≡ true) → is_strong o.1 ≡ true → clash_of rows d o ≡ None → row_of rows d o.0.0 ≡ None
+free_name rows d o strong mine none = split (row_of rows d o.0.0) refl none
   where
-    clashes : (old : Row) → is_strong old.flags ≡ true → verdict_on m o.1 old ≡ Clashes old.inst
-    clashes old s = ap (λ b. if not b then Discarded else (if is_strong old.flags || not (unsearched_at m.rows old.inst.0) then Clashes old.inst else Replaces old.inst)) mine
-        ∙ ap (λ b. if b || not (unsearched_at m.rows old.inst.0) then Clashes old.inst else Replaces old.inst) s
+    clashes : (old : Row) → is_strong old.flags ≡ true → verdict_on rows o.1 old ≡ Clashes old.inst
+    clashes old s = ap (λ b. if not b then Discarded else (if is_strong old.flags || not (unsearched_at rows old.inst.0) then Clashes old.inst else Replaces old.inst)) mine
+        ∙ ap (λ b. if b || not (unsearched_at rows old.inst.0) then Clashes old.inst else Replaces old.inst) s
 
-    split : (f : Option Row) → row_of m d o.0.0 ≡ f → clash o.0 (option_map_or (verdict_on m o.1) f Kept) ≡ None → f ≡ None
+    split : (f : Option Row) → row_of rows d o.0.0 ≡ f → clash o.0 (option_map_or (verdict_on rows o.1) f Kept) ≡ None → f ≡ None
     split None e n = refl
     split (Some old) e n =
-        let f : IsFirst (is_named d o.0.0) 0 m.rows old = first_found (is_named d o.0.0) 0 m.rows old e in
+        let f : IsFirst (is_named d o.0.0) 0 rows old = first_found (is_named d o.0.0) 0 rows old e in
         absurd (none-some (reply.Duplicate o.0 old.inst) (sym n ∙ ap (clash o.0) (clashes old (ap is_strong f.flags ∙ strong f.place f.row f.there))))
 
 clash_other : (name : NameId) (v : Verdict) → AllReplies (λ r. is_defined r ≡ false) (clash name v)
@@ -78,7 +78,7 @@ clash_other name Discarded = tt
 
 -- the last of its answers, and the test of the limits
 abbrev made_reply : Plain → ℕ → Meaning → Reply
-made_reply m d u = reply.Defined (record { 0 = length m.units }) (record { 0 = length m.rows }) (count_by (λ (b : Bool). b) (kept_names m d u))
+made_reply m d u = reply.Defined (record { 0 = length m.units }) (record { 0 = length m.rows }) (count_by (λ (b : Bool). b) (kept_names (verdicts m.rows d u.offers)))
 
 abbrev is_full : Plain → Meaning → Bool
 is_full m u = nat_le 65536 (length m.units) || nat_lt 262144 (length m.rows + length u.offers)
@@ -89,7 +89,7 @@ definable m d t u strong mine e = record {
   dylib = ltb-true d.0 (length m.dylibs) (not_false (has_dylib m d.0) (none_only (not (has_dylib m d.0)) (reply.NoDylib d) (none_here (λ (x : DylibId). only_if (not (has_dylib m x.0)) (reply.NoDylib x)) d None a.0).0));
   units = leb-false 65536 (length m.units) full.0;
   rows = ltb-false 262144 (length m.rows + length u.offers) full.1;
-  free = λ k o at. free_name m d.0 o strong (mine k o at).0 (none_at (clash_of m d.0) u.offers k o c2.0 at);
+  free = λ k o at. free_name m.rows d.0 o strong (mine k o at).0 (none_at (clash_of m.rows d.0) u.offers k o c2.0 at);
 }
   where
     a : (no_dylib m (d ∷ []) ≡ None) × (is_defined (unwrap_or (not_tracker_of m d t) (answer_unit m d.0 u)) ≡ true)
@@ -99,27 +99,39 @@ definable m d t u strong mine e = record {
     b : (not_tracker_of m d t ≡ None) × (is_defined (answer_unit m d.0 u) ≡ true)
     b = none_given is_defined (not_tracker_of m d t) (answer_unit m d.0 u) (replies_only (λ r. is_defined r ≡ false) (not (is_tracker_of m d.0 t.0)) (reply.TrackerGone t) refl) a.1
 
-    c : (only_if (is_full m u) reply.TooMany ≡ None) × (is_defined (unwrap_or (first_clash m d.0 u) (made_reply m d.0 u)) ≡ true)
-    c = none_given is_defined (only_if (is_full m u) reply.TooMany) (unwrap_or (first_clash m d.0 u) (made_reply m d.0 u)) (replies_only (λ r. is_defined r ≡ false) (is_full m u) reply.TooMany refl) b.1
+    c : (only_if (is_full m u) reply.TooMany ≡ None) × (is_defined (unwrap_or (first_clash m.rows d.0 u) (made_reply m d.0 u)) ≡ true)
+    c = none_given is_defined (only_if (is_full m u) reply.TooMany) (unwrap_or (first_clash m.rows d.0 u) (made_reply m d.0 u)) (replies_only (λ r. is_defined r ≡ false) (is_full m u) reply.TooMany refl) b.1
 
     full : (nat_le 65536 (length m.units) ≡ false) × (nat_lt 262144 (length m.rows + length u.offers) ≡ false)
     full = or_false (nat_le 65536 (length m.units)) (nat_lt 262144 (length m.rows + length u.offers)) (none_only (is_full m u) reply.TooMany c.0)
 
-    c2 : (first_clash m d.0 u ≡ None) × (is_defined (made_reply m d.0 u) ≡ true)
-    c2 = none_given is_defined (first_clash m d.0 u) (made_reply m d.0 u) (replies_first (λ r. is_defined r ≡ false) (clash_of m d.0) (λ o. clash_other o.0 (verdict m d.0 o)) u.offers) c.1
+    c2 : (first_clash m.rows d.0 u ≡ None) × (is_defined (made_reply m d.0 u) ≡ true)
+    c2 = none_given is_defined (first_clash m.rows d.0 u) (made_reply m d.0 u) (replies_first (λ r. is_defined r ≡ false) (clash_of m.rows d.0) (λ o. clash_other o.0 (verdict m.rows d.0 o)) u.offers) c.1
+
+-- the names that are kept, by one test
+pub kept_same : (rows : List InstRow) (d : ℕ) (offers : List (NameId × SymFlags)) → kept_names (verdicts rows d offers) ≡ map (keeps rows d) offers
+kept_same rows d [] = refl
+kept_same rows d (o ∷ os) = ap (λ bs. keeps rows d o ∷ bs) (kept_same rows d os)
 
 -- What it changes
 
-abbrev pub AllFree : Plain → ℕ → List (NameId × SymFlags) → Type 0
-AllFree m d offers = (k : ℕ) (o : NameId × SymFlags) → slice_get offers k ≡ Some o → row_of m d o.0.0 ≡ None
+abbrev pub AllFree : List InstRow → ℕ → List (NameId × SymFlags) → Type 0
+AllFree rows d offers = (k : ℕ) (o : NameId × SymFlags) → slice_get offers k ≡ Some o → row_of rows d o.0.0 ≡ None
 
-is_free : (m : Plain) (d : ℕ) (o : NameId × SymFlags) → row_of m d o.0.0 ≡ None → verdict m d o ≡ Kept
-is_free m d o e = ap (λ f. option_map_or (verdict_on m o.1) f Kept) e
+is_free : (rows : List InstRow) (d : ℕ) (o : NameId × SymFlags) → row_of rows d o.0.0 ≡ None → verdict rows d o ≡ Kept
+is_free rows d o e = ap (λ f. option_map_or (verdict_on rows o.1) f Kept) e
 
-none_replaced : (m : Plain) (d : ℕ) (offers : List (NameId × SymFlags)) (i : ℕ) → AllFree m d offers → list_any (λ (o : NameId × SymFlags). option_map_or (nat_eq i) (replaced_by (verdict m d o)) false) offers ≡ false
-none_replaced m d [] i f = refl
-none_replaced m d (o ∷ os) i f = ap (λ v. option_map_or (nat_eq i) (replaced_by v) false || list_any (λ (p : NameId × SymFlags). option_map_or (nat_eq i) (replaced_by (verdict m d p)) false) os) (is_free m d o (f 0 o refl))
-    ∙ none_replaced m d os i (λ k p e. f (suc k) p e)
+-- all names are kept
+abbrev all_kept : List (NameId × SymFlags) → List Verdict
+all_kept offers = map (λ o. Kept) offers
+
+kept_all : (rows : List InstRow) (d : ℕ) (offers : List (NameId × SymFlags)) → AllFree rows d offers → verdicts rows d offers ≡ all_kept offers
+kept_all rows d [] f = refl
+kept_all rows d (o ∷ os) f = ap₂ (λ v vs. v ∷ vs) (is_free rows d o (f 0 o refl)) (kept_all rows d os (λ k p e. f (suc k) p e))
+
+none_replaced : (offers : List (NameId × SymFlags)) (i : ℕ) → is_replaced (all_kept offers) i ≡ false
+none_replaced [] i = refl
+none_replaced (o ∷ os) i = none_replaced os i
 
 none_any : (f : ℕ → InstRow → Bool) → ((k : ℕ) (r : InstRow) → f k r ≡ false) → (k : ℕ) (rows : List InstRow) → list_any (λ (b : Bool). b) (numbered f k rows) ≡ false
 none_any f h k [] = refl
@@ -133,14 +145,13 @@ and_kept : (b c : Bool) → c ≡ false → (b && not c) ≡ b
 and_kept true c e = ap not e
 and_kept false c e = refl
 
-all_rows : (m : Plain) (d u k : ℕ) (offers : List (NameId × SymFlags)) → AllFree m d offers → new_rows m d u k offers ≡ offered_rows d u k offers
-all_rows m d u k [] f = refl
-all_rows m d u k (o ∷ os) f = ap (λ v. if is_kept v then offered_row d u k o ∷ new_rows m d u (k + 1) os else new_rows m d u (k + 1) os) (is_free m d o (f 0 o refl))
-    ∙ ap (λ rs. offered_row d u k o ∷ rs) (all_rows m d u (k + 1) os (λ j p e. f (suc j) p e))
+all_rows : (d u k : ℕ) (offers : List (NameId × SymFlags)) → new_rows d u k offers (all_kept offers) ≡ offered_rows d u k offers
+all_rows d u k [] = refl
+all_rows d u k (o ∷ os) = ap (λ rs. offered_row d u k o ∷ rs) (all_rows d u (k + 1) os)
 
-all_live : (m : Plain) (d : ℕ) (offers : List (NameId × SymFlags)) → AllFree m d offers → map (λ o. is_kept (verdict m d o)) offers ≡ map (λ o. true) offers
-all_live m d [] f = refl
-all_live m d (o ∷ os) f = ap₂ (λ b bs. b ∷ bs) (ap is_kept (is_free m d o (f 0 o refl))) (all_live m d os (λ j p e. f (suc j) p e))
+all_live : (offers : List (NameId × SymFlags)) → kept_names (all_kept offers) ≡ map (λ o. true) offers
+all_live [] = refl
+all_live (o ∷ os) = ap (λ bs. true ∷ bs) (all_live os)
 
 -- the unit that it makes
 abbrev pub made_unit : ℕ → Meaning → UnitRow
@@ -149,27 +160,24 @@ made_unit t u = record { meaning = u; tracker = t; live = map (λ o. true) u.off
 abbrev pub with_unit : ℕ → ℕ → Meaning → Plain → Plain
 with_unit d t u m = record m { rows = m.rows ++ offered_rows d (length m.units) 0 u.offers; units = m.units ++ made_unit t u ∷ [] }
 
-pub defined_is : (m : Plain) (d t : ℕ) (u : Meaning) → AllFree m d u.offers → defined m d t u ≡ with_unit d t u m
-defined_is m d t u f = parts rows units
+pub defined_is : (m : Plain) (d t : ℕ) (u : Meaning) → AllFree m.rows d u.offers → defined d t u (verdicts m.rows d u.offers) m ≡ with_unit d t u m
+defined_is m d t u f = ap (λ found. defined d t u found m) (kept_all m.rows d u.offers f) ∙ ap₂ (λ r x. record m { rows = r; units = x }) rows units
   where
-    unreplaced : (i : ℕ) → is_replaced m d u i ≡ false
-    unreplaced i = none_replaced m d u.offers i f
+    found : List Verdict
+    found = all_kept u.offers
 
-    unlost : (v k : ℕ) → loses_name m d u v k ≡ false
-    unlost v k = none_any (λ i (r : InstRow). is_replaced m d u i && r.unit.0 == v && r.offer == k) (λ i r. ap (λ b. b && r.unit.0 == v && r.offer == k) (unreplaced i)) 0 m.rows
+    unlost : (v k : ℕ) → loses_name m.rows found v k ≡ false
+    unlost v k = none_any (λ i (r : InstRow). is_replaced found i && r.unit.0 == v && r.offer == k) (λ i r. ap (λ b. b && r.unit.0 == v && r.offer == k) (none_replaced u.offers i)) 0 m.rows
 
-    left : (v : ℕ) (x : UnitRow) → without_replaced m d u v x ≡ x
-    left v x = ap (λ l. record x { live = l }) (all_same (λ k (flag : Bool). flag && not (loses_name m d u v k)) (λ k flag. and_kept flag (loses_name m d u v k) (unlost v k)) 0 x.live)
+    left : (v : ℕ) (x : UnitRow) → without_replaced m.rows found v x ≡ x
+    left v x = ap (λ l. record x { live = l }) (all_same (λ k (flag : Bool). flag && not (loses_name m.rows found v k)) (λ k flag. and_kept flag (loses_name m.rows found v k) (unlost v k)) 0 x.live)
 
-    rows : (defined m d t u).rows ≡ m.rows ++ offered_rows d (length m.units) 0 u.offers
-    rows = ap₂ (λ a b. a ++ b) (all_same (λ i (r : InstRow). record r { present = r.present && not (is_replaced m d u i) }) (λ i r. ap (λ p. record r { present = p }) (and_kept r.present (is_replaced m d u i) (unreplaced i))) 0 m.rows)
-        (all_rows m d (length m.units) 0 u.offers f)
+    rows : numbered (unreplaced_row found) 0 m.rows ++ new_rows d (length m.units) 0 u.offers found ≡ m.rows ++ offered_rows d (length m.units) 0 u.offers
+    rows = ap₂ (λ a b. a ++ b) (all_same (unreplaced_row found) (λ i r. ap (λ p. record r { present = p }) (and_kept r.present (is_replaced found i) (none_replaced u.offers i))) 0 m.rows)
+        (all_rows d (length m.units) 0 u.offers)
 
-    units : (defined m d t u).units ≡ m.units ++ made_unit t u ∷ []
-    units = ap₂ (λ a l. a ++ record { meaning = u; tracker = t; live = l; phase = stage.Unclaimed; seat = None; base = None; query = None; bound = None } ∷ []) (all_same (without_replaced m d u) left 0 m.units) (all_live m d u.offers f)
-
-    parts : (defined m d t u).rows ≡ m.rows ++ offered_rows d (length m.units) 0 u.offers → (defined m d t u).units ≡ m.units ++ made_unit t u ∷ [] → defined m d t u ≡ with_unit d t u m
-    parts a b = ap₂ (λ r x. record m { rows = r; units = x }) a b
+    units : numbered (without_replaced m.rows found) 0 m.units ++ new_unit t u found ∷ [] ≡ m.units ++ made_unit t u ∷ []
+    units = ap₂ (λ a l. a ++ record { meaning = u; tracker = t; live = l; phase = stage.Unclaimed; seat = None; base = None; query = None; bound = None } ∷ []) (all_same (without_replaced m.rows found) left 0 m.units) (all_live u.offers)
 
 -- one more row
 pub row_more : (d u k : ℕ) (o : NameId × SymFlags) (offers : List (NameId × SymFlags)) (old new : List InstRow) (row : InstRow) → slice_get offers k ≡ Some o → row ≡ offered_row d u k o → new ≡ old ++ row ∷ [] →

@@ -6,7 +6,7 @@ use Rattle.session_model.specs.Meaning.{Meaning}
 use Rattle.session_model.specs.Lists.{changed_at, numbered}
 use Rattle.session_model.specs.Plain.{Plain, kept}
 use Rattle.session_model.specs.Answer.{first_reply, bad_dep}
-use Rattle.session_model.specs.Change.{Emit}
+use Rattle.session_model.specs.declared.change.Change.TheVariants.{Emit}
 use Rattle.session_model.specs.declared.entry.Reply.TheVariants as reply
 use Rattle.session_model.specs.declared.rows.InstRow.{InstRow}
 use Rattle.session_model.specs.declared.rows.Phase.{Phase}
@@ -49,13 +49,13 @@ emit_settles means old mid u groups t rows units queries ends waiting jobs searc
 
 pub emit_moves : {U : Type 0} (means : U → Meaning) (old mid new : Tables U) (s : ℕ) (u : UnitId) (groups : List Group) → IsTied means old → IsReached (meant means old) → old.entries + 1 < 2 ^ 32 → emit_reply (meant means old) s u groups ≡ reply.Emitted →
     mid.rows.items ≡ numbered (emitted_row u.0 groups) 0 old.rows.items → map (unit_row means) mid.units.items ≡ changed_at u.0 done_unit (map (unit_row means) old.units.items) → AreSameUnits means old.units.items mid.units.items →
-    mid.entries ≡ old.entries + 1 → mid.dylibs ≡ old.dylibs → mid.trackers ≡ old.trackers → mid.queries ≡ old.queries → mid.ends ≡ old.ends → mid.jobs ≡ old.jobs → mid.taken ≡ old.taken → mid.held + 1 ≡ old.held →
-    Settles means mid new → Moves means (Emit u.0 groups) old new
-emit_moves means old mid new s u groups t reached numbered_now e rows units same entries dylibs trackers queries ends jobs taken held settles =
+    mid.entries ≡ old.entries + 1 → mid.dylibs ≡ old.dylibs → mid.trackers ≡ old.trackers → mid.queries ≡ old.queries → mid.ends ≡ old.ends → mid.jobs ≡ old.jobs → mid.held + 1 ≡ old.held →
+    Settles means mid new → Moves means (Emit u groups) old new
+emit_moves means old mid new s u groups t reached numbered_now e rows units same entries dylibs trackers queries ends jobs held settles =
     let m : Plain = meant means old in
     let x = emit_right m s u groups e in
-    let mid_is : meant means mid ≡ record m { entries = m.entries + 1; rows = numbered (emitted_row u.0 groups) 0 m.rows; units = changed_at u.0 done_unit m.units } = cc (rows, units, entries, dylibs, trackers, queries, jobs, taken) in
-    settling_moves means (Emit u.0 groups) old mid new t reached mid_is
+    let mid_is : meant means mid ≡ record m { entries = m.entries + 1; rows = numbered (emitted_row u.0 groups) 0 m.rows; units = changed_at u.0 done_unit m.units } = cc (rows, units, entries, dylibs, trackers, queries, jobs) in
+    settling_moves means (Emit u groups) old mid new t reached mid_is
     (subst (ArePhased old.rows.items) (sym rows) (emitted_phased u.0 groups old.rows.items))
     same (done_waits m (meant means mid) u.0 units) (ap (λ v. v.items) queries) (ap (λ v. v.items) ends) dylibs (ap (λ v. v.items) trackers)
     (omega (arith, held, t.held, kept_less m (meant means mid) u.0 done_unit x.unit units x.there (held_seat s x.unit x.holds) refl)) numbered_now settles

@@ -1,17 +1,19 @@
 -- Emitting a unit.
-use Rattle.std.proofs.Common.{◌≡◌, ℕ, Bool, true, false, ◌||◌, not, List, [], ◌∷◌, flat_map, slice_get, Option, Some, None, length, subst, sym, refl, ap, ◌∙◌}
+use Rattle.std.proofs.Common.{◌≡◌, ℕ, Bool, true, false, ◌&&◌, ◌||◌, not, List, [], ◌∷◌, flat_map, slice_get, Option, Some, None, length, subst, sym, refl, ap, ◌∙◌}
 use Rattle.std.specs.Option.{is_some, IsSomeAnd}
 use Rattle.std.proofs.lemmas.Bool.{both_ways, and_parts}
-use Rattle.code_memory.specs.Places.{Placements, placement_of, with_bytes}
+use Rattle.code_memory.specs.Places.{placement_of, with_bytes}
+use Rattle.code_memory.specs.declared.placement.Placement.{Placement}
 use Rattle.orc_ids.specs.declared.groups.Group.{Group}
 use Rattle.orc_ids.specs.declared.ids.InstId.{InstId}
 use Rattle.orc_ids.specs.declared.ids.SeatNo.{SeatNo}
 use Rattle.orc_ids.specs.declared.ids.UnitId.{UnitId}
 use Rattle.session_model.specs.Lists.{only_if}
 use Rattle.session_model.specs.Meaning.{Meaning, IsLawful}
-use Rattle.session_model.specs.Plain.{Plain, UnitRow, failed_at, present_at, unsearched_at}
+use Rattle.session_model.specs.Plain.{Plain, UnitRow, is_alias, failed_at, present_at, unsearched_at}
 use Rattle.session_model.specs.State.{state, after}
-use Rattle.session_model.specs.Change.{Nothing, Emit, LetGo, change_of}
+use Rattle.session_model.specs.Change.{change_of}
+use Rattle.session_model.specs.declared.change.Change.TheVariants.{Nothing, Emit, LetGo}
 use Rattle.session_model.specs.Answer.{Answers, AnswersEmit, Called, Gone, Wrong, Right, called, is_stage, bad_dep, first_reply}
 use Rattle.session_model.specs.History.{IsLegal}
 use Rattle.session_model.specs.declared.entry.Entry.{Entry}
@@ -54,25 +56,25 @@ emit_keeps u groups reply.Emitted e = absurd (both_ways true e refl)
 emit_keeps u groups _ e = refl
 
 pub emit_told : {U : Type 0} (means : U → Meaning) (s : SeatNo) (u : UnitId) (groups : List Group) (bytes : List ℕ) (r : Reply) (old new : Tables U) → ((x : UnitRow) → called (meant means old) s.0 u may_emit ≡ Right x → IsFinish (meant means old) u x groups bytes) →
-    r ≡ emit_reply (meant means old) s.0 u groups → is_emitted r ≡ false → (is_gone r ≡ true → Moves means (LetGo s.0 u.0) old new) → (is_gone r ≡ false → Moves means Nothing old new) → Steps means s (event.Emit u groups) r old new
+    r ≡ emit_reply (meant means old) s.0 u groups → is_emitted r ≡ false → (is_gone r ≡ true → Moves means (LetGo s u) old new) → (is_gone r ≡ false → Moves means Nothing old new) → Steps means s (event.Emit u groups) r old new
 emit_told {U} means s u groups bytes r old new finish is bad goes stays = record {
   answered = λ jmax past leads ends. emit_answered (meant means old) s u groups bytes r is finish jmax past;
   moves = moves (is_gone r) refl;
 }
   where
-    moves : (b : Bool) → is_gone r ≡ b → Moves means (change_of s.0 (event.Emit u groups) r) old new
-    moves false e = subst (λ c. Moves means c old new) (sym (emit_other s.0 u groups r bad e)) (stays e)
-    moves true e = subst (λ q. Moves means (change_of s.0 (event.Emit u groups) q) old new) (sym (is ∙ (unit_gone (meant means old) s.0 u may_emit _ (emit_stays (meant means old) groups) (ap is_gone (sym is) ∙ e)).1)) (goes e)
+    moves : (b : Bool) → is_gone r ≡ b → Moves means (change_of (meant means old) s.0 (event.Emit u groups) r) old new
+    moves false e = subst (λ c. Moves means c old new) (sym (emit_other (meant means old) s.0 u groups r bad e)) (stays e)
+    moves true e = subst (λ q. Moves means (change_of (meant means old) s.0 (event.Emit u groups) q) old new) (sym (is ∙ (unit_gone (meant means old) s.0 u may_emit _ (emit_stays (meant means old) groups) (ap is_gone (sym is) ∙ e)).1)) (goes e)
 
-pub told_stored : {U : Type 0} (means : U → Meaning) (s : SeatNo) (u : UnitId) (groups : List Group) (r : Reply) (old new : Tables U) (p : Placements) → (jmax : ℕ) × (past : List (Entry Meaning)) × IsLegal jmax past × (state past ≡ meant means old) × AreEnds past old.ends.items →
+pub told_stored : {U : Type 0} (means : U → Meaning) (s : SeatNo) (u : UnitId) (groups : List Group) (r : Reply) (old new : Tables U) (p : List Placement) → (jmax : ℕ) × (past : List (Entry Meaning)) × IsLegal jmax past × (state past ≡ meant means old) × AreEnds past old.ends.items →
     Steps means s (event.Emit u groups) r old new → is_emitted r ≡ false → IsStored (meant means old) p → IsStored (meant means new) p
 told_stored means s u groups r old new p h steps bad stored = still_stored means s (event.Emit u groups) r old new p h steps (emit_keeps u groups r bad) stored
 
 pub emit_made : {U : Type 0} (means : U → Meaning) (s : SeatNo) (u : UnitId) (groups : List Group) (bytes : List ℕ) (r : Reply) (old new : Tables U) → ((x : UnitRow) → called (meant means old) s.0 u may_emit ≡ Right x → IsFinish (meant means old) u x groups bytes) →
-    r ≡ emit_reply (meant means old) s.0 u groups → is_emitted r ≡ true → Moves means (Emit u.0 groups) old new → Steps means s (event.Emit u groups) r old new
+    r ≡ emit_reply (meant means old) s.0 u groups → is_emitted r ≡ true → Moves means (Emit u groups) old new → Steps means s (event.Emit u groups) r old new
 emit_made means s u groups bytes r old new finish is good moves = record {
   answered = λ jmax past leads ends. emit_answered (meant means old) s u groups bytes r is finish jmax past;
-  moves = subst (λ c. Moves means c old new) (sym (emit_makes s.0 u groups r good)) moves;
+  moves = subst (λ c. Moves means c old new) (sym (emit_makes (meant means old) s.0 u groups r good)) moves;
 }
 
 -- the unit of an emit that is right
@@ -87,10 +89,10 @@ emits_at m s u groups e = split (called m s.0 u may_emit) refl e
     split : (c : Called) → called m s.0 u may_emit ≡ c → reply_to c u (emit_right m groups) ≡ reply.Emitted → (x : UnitRow) × EmitsAt m s u x
     split Gone is f = absurd (both_ways true (sym (ap is_emitted f)) refl)
     split Wrong is f = absurd (both_ways true (sym (ap is_emitted f)) refl)
-    split (Right x) is f = let c = called_right m s.0 u may_emit x is in (x, record { right = is; there = c.0; phase = finishing_stage x.phase (and_parts (is_stage stage.Finishing x.phase) (is_some x.bound) c.3).0 })
+    split (Right x) is f = let c = called_right m s.0 u may_emit x is in (x, record { right = is; there = c.0; phase = finishing_stage x.phase (and_parts (is_stage stage.Finishing x.phase) (is_some x.bound) (and_parts (is_stage stage.Finishing x.phase && is_some x.bound) (not (is_alias x) || is_some x.base) c.3).0).0 })
 
 -- its bytes fit its range
-pub deposit_fits : (m : Plain) (p : Placements) (s : SeatNo) (u : UnitId) (groups : List Group) (bytes : List ℕ) (placed : Bool) → IsStored m p → emit_reply m s.0 u groups ≡ reply.Emitted → ((x : UnitRow) → called m s.0 u may_emit ≡ Right x → IsFinish m u x groups bytes) →
+pub deposit_fits : (m : Plain) (p : List Placement) (s : SeatNo) (u : UnitId) (groups : List Group) (bytes : List ℕ) (placed : Bool) → IsStored m p → emit_reply m s.0 u groups ≡ reply.Emitted → ((x : UnitRow) → called m s.0 u may_emit ≡ Right x → IsFinish m u x groups bytes) →
     ((x : UnitRow) → slice_get m.units u.0 ≡ Some x → IsLawful x.meaning) → ((x : UnitRow) → slice_get m.units u.0 ≡ Some x → placed ≡ is_some x.base) → placed ≡ true → IsSomeAnd (placement_of p u) (λ q. length bytes ≡ q.shape.need)
 deposit_fits m p s u groups bytes placed stored e finish known at t = let x = emits_at m s u groups e in
     subst (λ b. IsSomeAnd (placement_of p u) (λ q. length b ≡ q.shape.need)) (sym (finish x.0 x.1.right).image)
@@ -101,8 +103,8 @@ no_base None e = refl
 no_base (Some b) e = absurd (both_ways true e refl)
 
 -- the memory after it
-pub made_stored : {U : Type 0} (means : U → Meaning) (s : SeatNo) (u : UnitId) (groups : List Group) (bytes : List ℕ) (old new : Tables U) (p q : Placements) (placed : Bool) → IsStored (meant means old) p → emit_reply (meant means old) s.0 u groups ≡ reply.Emitted →
-    ((x : UnitRow) → called (meant means old) s.0 u may_emit ≡ Right x → IsFinish (meant means old) u x groups bytes) → ((x : UnitRow) → slice_get (meant means old).units u.0 ≡ Some x → placed ≡ is_some x.base) → Moves means (Emit u.0 groups) old new →
+pub made_stored : {U : Type 0} (means : U → Meaning) (s : SeatNo) (u : UnitId) (groups : List Group) (bytes : List ℕ) (old new : Tables U) (p q : List Placement) (placed : Bool) → IsStored (meant means old) p → emit_reply (meant means old) s.0 u groups ≡ reply.Emitted →
+    ((x : UnitRow) → called (meant means old) s.0 u may_emit ≡ Right x → IsFinish (meant means old) u x groups bytes) → ((x : UnitRow) → slice_get (meant means old).units u.0 ≡ Some x → placed ≡ is_some x.base) → Moves means (Emit u groups) old new →
     (placed ≡ true → q ≡ with_bytes p u bytes) → (placed ≡ false → q ≡ p) → IsStored (meant means new) q
 made_stored {U} means s u groups bytes old new p q placed stored e finish at moves filled bare = subst (λ m. IsStored m q) (sym moves.leads) (split placed refl)
   where

@@ -2,7 +2,7 @@
 use Rattle.std.proofs.lemmas.Bool.{both_ways}
 use Rattle.session_core.specs.Tied.{WaitsOpen}
 use Rattle.session_core.proofs.Calm.{is_waiting_phase}
-use Rattle.std.proofs.Common.{◌≡◌, ℕ, suc, ◌+◌, ◌<◌, ◌≤◌, ◌^◌, true, false, map, List, [], ◌∷◌, ◌++◌, length, slice_get, ◌⊎◌, inl, inr, arith, subst, sym, refl, ap, ◌∙◌, Option, Some, None, is_some, length-append}
+use Rattle.std.proofs.Common.{◌≡◌, ℕ, suc, ◌+◌, ◌<◌, ◌≤◌, ◌^◌, true, false, map, List, [], ◌∷◌, ◌++◌, length, slice_get, ◌⊎◌, inl, inr, arith, subst, sym, refl, ap, ap₂, ◌∙◌, Option, Some, None, is_some, length-append}
 use Rattle.std.specs.Prelude.{cond, count_by, Bool}
 use Rattle.std.proofs.lemmas.List.{map-append}
 use Rattle.std.specs.Option.{option_map_or}
@@ -10,10 +10,13 @@ use Rattle.std.proofs.lemmas.Bool.{cases_lt}
 use Rattle.std.proofs.lemmas.Option.{none-some}
 use Rattle.std.proofs.lemmas.List.Sums.{sum_by_push}
 use Rattle.orc_ids.specs.declared.flags.SymFlags.{SymFlags}
+use Rattle.orc_ids.specs.declared.ids.DylibId.{DylibId}
 use Rattle.orc_ids.specs.declared.ids.NameId.{NameId}
+use Rattle.orc_ids.specs.declared.ids.TrackId.{TrackId}
 use Rattle.session_model.specs.Meaning.{Meaning, IsLawful}
 use Rattle.session_model.specs.Plain.{Plain, UnitRow, kept, own_rows, is_failed, is_emitted, phase_address, phase_deps}
-use Rattle.session_model.specs.Change.{is_strong, settled, waits_for, Define}
+use Rattle.session_model.specs.Change.{defined, is_strong, settled, verdicts, waits_for}
+use Rattle.session_model.specs.declared.change.Change.TheVariants.{Define}
 use Rattle.session_model.specs.declared.rows.InstRow.{InstRow}
 use Rattle.session_model.specs.declared.rows.Phase.TheVariants as phase
 use Rattle.session_model.specs.declared.rows.UnitPhase.TheVariants as stage
@@ -91,7 +94,6 @@ module _ {U : Type 0} (means : U → Meaning) where
     pub ends : new.ends.items ≡ old.ends.items
     pub unsettled : new.unsettled.items ≡ old.unsettled.items
     pub jobs : new.jobs ≡ old.jobs
-    pub taken : new.taken.items ≡ old.taken.items
     pub held : new.held ≡ old.held
     pub made : unit_row means x ≡ made_unit t v
     pub first : x.first ≡ length old.rows.items
@@ -109,7 +111,7 @@ module _ {U : Type 0} (means : U → Meaning) where
   meant_units t v x units e = map-append (unit_row means) units (x ∷ []) ∙ ap (λ y. map (unit_row means) units ++ y ∷ []) e
 
   entered_meant : (d t : ℕ) (v : Meaning) (x : TableUnit U) (old new : Tables U) → IsEntered d t v x old new → meant means new ≡ record (with_unit d t v (meant means old)) { entries = old.entries + 1 }
-  entered_meant d t v x old new e = rw (e.entries, e.dylibs.rows, e.trackers, e.rows, e.units, e.queries, e.jobs, e.taken, meant_rows d t v old, meant_units t v x old.units.items e.made) refl
+  entered_meant d t v x old new e = rw (e.entries, e.dylibs.rows, e.trackers, e.rows, e.units, e.queries, e.jobs, meant_rows d t v old, meant_units t v x old.units.items e.made) refl
 
   spans_entered : (d t : ℕ) (v : Meaning) (x : TableUnit U) (old new : Tables U) → IsTied means old → IsEntered d t v x old new → (u : ℕ) (y : TableUnit U) → slice_get new.units.items u ≡ Some y → IsSpan new.rows.items u y.first y.count
   spans_entered d t v x old new tied e u y at = subst (λ rows. IsSpan rows u y.first y.count) (sym e.rows) (split (pushed_cases old.units.items x u y (ap (λ l. slice_get l u) (sym e.units) ∙ at)))
@@ -229,6 +231,13 @@ module _ {U : Type 0} (means : U → Meaning) where
       split (inl h) = tied.lives u y h
       split (inr h) = subst (λ (z : TableUnit U). length z.live ≡ length (means z.unit).offers) (sym h.1) mine
 
+  own_entered : (d t : ℕ) (v : Meaning) (x : TableUnit U) (old new : Tables U) → IsTied means old → v.source ≡ None → IsEntered d t v x old new → (u : ℕ) (y : TableUnit U) → slice_get new.units.items u ≡ Some y → (means y.unit).source ≡ None
+  own_entered d t v x old new tied own e u y at = split (pushed_cases old.units.items x u y (ap (λ l. slice_get l u) (sym e.units) ∙ at))
+    where
+      split : (slice_get old.units.items u ≡ Some y) ⊎ ((u ≡ length old.units.items) × (y ≡ x)) → (means y.unit).source ≡ None
+      split (inl h) = tied.own u y h
+      split (inr h) = ap (λ (z : TableUnit U). (means z.unit).source) h.1 ∙ (ap (λ (z : UnitRow). z.meaning.source) e.made ∙ own)
+
   held_entered : (d t : ℕ) (v : Meaning) (x : TableUnit U) (old new : Tables U) → IsTied means old → IsEntered d t v x old new → new.held ≡ kept (meant means new)
   held_entered d t v x old new tied e = e.held ∙ (tied.held ∙ sym (ap kept (entered_meant d t v x old new e) ∙ (sum_by_push (λ (z : UnitRow). cond (is_some z.seat) 1 0) (map (unit_row means) old.units.items) (made_unit t v) ∙ plus_none (kept (meant means old)))))
     where
@@ -267,10 +276,11 @@ module _ {U : Type 0} (means : U → Meaning) where
       split (inl h) = ap (λ l. slice_get l k) e.ends ∙ tied.waits u y k h waiting query
       split (inr h) = absurd (both_ways true (ap is_waiting_phase (sym waiting ∙ ap (λ (z : UnitRow). z.phase) h.1)) refl)
 
-  pub entered_tied : (d t : ℕ) (v : Meaning) (x : TableUnit U) (old new : Tables U) → IsTied means old → old.entries + 1 < 2 ^ 32 → IsLawful v → AllStrong v.offers → IsDefinable (meant means old) d v.offers → IsEntered d t v x old new → IsTied means new
-  entered_tied d t v x old new tied numbered lawful strong fits e = record {
+  pub entered_tied : (d t : ℕ) (v : Meaning) (x : TableUnit U) (old new : Tables U) → IsTied means old → old.entries + 1 < 2 ^ 32 → IsLawful v → AllStrong v.offers → v.source ≡ None → IsDefinable (meant means old) d v.offers → IsEntered d t v x old new → IsTied means new
+  entered_tied d t v x old new tied numbered lawful strong own fits e = record {
     sized = sized_entered d t v x old new tied numbered fits e;
     lives = lives_entered d t v x old new tied e;
+    own = own_entered d t v x old new tied own e;
     spans = spans_entered d t v x old new tied e;
     owned = owned_entered d t v x old new tied e;
     rows = rows_entered d t v x old new tied e;
@@ -288,12 +298,12 @@ module _ {U : Type 0} (means : U → Meaning) where
     search = e.search;
   }
 
-  pub entered_moves : (d t : ℕ) (v : Meaning) (x : TableUnit U) (old new : Tables U) → IsTied means old → IsReached (meant means old) → old.entries + 1 < 2 ^ 32 → IsLawful v → AllStrong v.offers → IsDefinable (meant means old) d v.offers → IsEntered d t v x old new → Moves means (Define d t v) old new
-  entered_moves d t v x old new tied reached numbered lawful strong fits e = record {
-    leads = entered_meant d t v x old new e ∙ sym (ap (λ (n : Plain). record n { entries = old.entries + 1 }) (ap settled (defined_is (meant means old) d t v fits.free) ∙ define_settles (meant means old) d t v (reached_waits (meant means old) reached)));
+  pub entered_moves : (d t : ℕ) (v : Meaning) (x : TableUnit U) (old new : Tables U) → IsTied means old → IsReached (meant means old) → old.entries + 1 < 2 ^ 32 → IsLawful v → AllStrong v.offers → v.source ≡ None → IsDefinable (meant means old) d v.offers → IsEntered d t v x old new → (i : DylibId) (j : TrackId) → i.0 ≡ d → j.0 ≡ t → Moves means (Define i j v (verdicts old.rows.items i.0 v.offers)) old new
+  entered_moves d t v x old new tied reached numbered lawful strong own fits e i j same at = record {
+    leads = entered_meant d t v x old new e ∙ sym (ap (λ (n : Plain). record n { entries = old.entries + 1 }) (ap settled (ap₂ (λ k l. defined k l v (verdicts old.rows.items k v.offers) (meant means old)) same at ∙ defined_is (meant means old) d t v fits.free) ∙ define_settles (meant means old) d t v (reached_waits (meant means old) reached)));
     ends = subst (λ l. new.ends.items ≡ noted (meant means new) new.queries.items l) e.ends (notes_none (meant means new) new.queries.items new.ends.items again.ends again.unmet);
     tied = again;
   }
     where
       again : IsTied means new
-      again = entered_tied d t v x old new tied numbered lawful strong fits e
+      again = entered_tied d t v x old new tied numbered lawful strong own fits e

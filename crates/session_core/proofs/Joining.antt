@@ -28,7 +28,7 @@ plain_push means (g ∷ gs) e = ap (λ es. plain_entry means g ∷ es) (plain_pu
 -- one more entry
 pub one_more : {U : Type 0} (means : U → Meaning) (jmax : ℕ) (t new : Tables U) (h : List (Entry U)) (e : Entry U) → AreOne means jmax t h →
     is_full jmax (state_of means h) e.seat.0 (plain_event means e.event) ≡ false → Answers jmax (plain_history means h) (state_of means h) e.seat.0 (plain_event means e.event) e.reply →
-    Moves means (change_of e.seat.0 (plain_event means e.event) e.reply) t new → AreOne means jmax new (h ++ e ∷ [])
+    Moves means (change_of (meant means t) e.seat.0 (plain_event means e.event) e.reply) t new → AreOne means jmax new (h ++ e ∷ [])
 one_more {U} means jmax t new h e one place answered moves = record {
   limit = one.limit;
   legal = subst (λ p. IsLegal jmax p) (sym grown) ((one_more_legal jmax past entry).0 one.legal answered);
@@ -48,7 +48,7 @@ one_more {U} means jmax t new h e one place answered moves = record {
     grown = plain_push means h e
 
     steps : meant means new ≡ state (past ++ entry ∷ [])
-    steps = moves.leads ∙ (ap (moved (change_of e.seat.0 (plain_event means e.event) e.reply)) one.leads ∙ sym (state_from_push empty past entry))
+    steps = moves.leads ∙ (ap (λ m. moved (change_of m e.seat.0 (plain_event means e.event) e.reply) m) one.leads ∙ sym (state_from_push empty past entry))
 
     leads : meant means new ≡ state_of means (h ++ e ∷ [])
     leads = steps ∙ sym (ap state grown)

@@ -102,6 +102,8 @@ module _ {U : Type 0} (means : U → Meaning) where
     sized = b.sized;
     lives = λ u y e. let p = kept_at (unit_still means) old.units.items new.units.items k.units u y e in
         ap (λ (z : Meaning × List Bool × ℕ × ℕ). length z.1) p.2 ∙ (t.lives u p.0 p.1 ∙ ap (λ (z : Meaning × List Bool × ℕ × ℕ). length z.0.offers) (sym p.2));
+    own = λ u y e. let p = kept_at (unit_still means) old.units.items new.units.items k.units u y e in
+        ap (λ (z : Meaning × List Bool × ℕ × ℕ). z.0.source) p.2 ∙ t.own u p.0 p.1;
     spans = λ u y e. let p = kept_at (unit_still means) old.units.items new.units.items k.units u y e in
         span_kept old.rows.items new.rows.items u y.first y.count k.rows
         (subst (λ (z : Meaning × List Bool × ℕ × ℕ). IsSpan old.rows.items u z.2 z.3) (sym p.2) (t.spans u p.0 p.1));
@@ -136,6 +138,7 @@ module _ {U : Type 0} (means : U → Meaning) where
   searched_tied t s k sparse = record {
     sized = record { entries = k.sized.entries; dylibs = k.sized.dylibs; trackers = k.sized.trackers; units = k.sized.units; rows = k.sized.rows; queries = k.sized.queries };
     lives = k.lives;
+    own = k.own;
     spans = k.spans;
     owned = k.owned;
     rows = k.rows;
@@ -171,12 +174,11 @@ module _ {U : Type 0} (means : U → Meaning) where
     pub jobs : new.jobs.items ≡ old.jobs.items
     pub listed : deque_len new.jobs ≡ deque_len old.jobs
     pub room : deque_capacity old.jobs ≤ deque_capacity new.jobs
-    pub taken : new.taken.items ≡ old.taken.items
     pub held : new.held ≡ old.held
     pub search : (n : ℕ) → IsSparse n old.search → IsSparse n new.search
 
   pub reserved_meant : (old new : Tables U) → IsReserved old new → meant means new ≡ meant means old
-  reserved_meant old new r = rw (r.entries, r.dylibs.rows, r.trackers, r.rows, r.units, r.queries, r.jobs, r.taken) refl
+  reserved_meant old new r = rw (r.entries, r.dylibs.rows, r.trackers, r.rows, r.units, r.queries, r.jobs) refl
 
   booked : (old new : Tables U) → IsTied means old → IsReserved old new → IsBooked new
   booked old new t r = record {

@@ -112,6 +112,7 @@ tied_kept means old new t same rows dylibs queries ends waiting search more belo
     queries = omega (arith, t.sized.queries, ap length queries, more);
   };
   lives = λ u y e. let x = before u y e in let s = same.each u x.0 y x.1 e in ap length s.live ∙ t.lives u x.0 x.1 ∙ ap (λ (m : Meaning). length m.offers) (sym s.meaning);
+  own = λ u y e. let x = before u y e in ap (λ (m : Meaning). m.source) (same.each u x.0 y x.1 e).meaning ∙ t.own u x.0 x.1;
   spans = λ u y e. let x = before u y e in let s = same.each u x.0 y x.1 e in
       subst (λ xs. IsSpan xs u y.first y.count) (sym rows) (subst (λ n. IsSpan old.rows.items u n y.count) (sym s.first) (subst (λ n. IsSpan old.rows.items u x.0.first n) (sym s.count) (t.spans u x.0 x.1)));
   owned = λ u y e. let x = before u y e in let s = same.each u x.0 y x.1 e in
@@ -170,10 +171,10 @@ on_err P (Err e) p = p
 -- with the same vectors but for their memory, the tables stand for the same session
 pub same_kept : {U : Type 0} (means : U → Meaning) (old new : Tables U) → IsTied means old →
     new.entries ≡ old.entries → new.dylibs ≡ old.dylibs → new.trackers.items ≡ old.trackers.items → new.rows.items ≡ old.rows.items → new.units.items ≡ old.units.items →
-    new.queries.items ≡ old.queries.items → new.ends.items ≡ old.ends.items → new.unsettled.items ≡ old.unsettled.items → new.jobs.items ≡ old.jobs.items → new.taken.items ≡ old.taken.items → new.held ≡ old.held → new.search ≡ old.search →
+    new.queries.items ≡ old.queries.items → new.ends.items ≡ old.ends.items → new.unsettled.items ≡ old.unsettled.items → new.jobs.items ≡ old.jobs.items → new.held ≡ old.held → new.search ≡ old.search →
     deque_len new.jobs + length new.unsettled.items ≤ deque_capacity new.jobs → IsSame means old new
-same_kept means old new t entries dylibs trackers rows units queries ends waiting jobs taken held search room =
-    let same : meant means new ≡ meant means old = cc (entries, dylibs, trackers, rows, units, queries, jobs, taken) in
+same_kept means old new t entries dylibs trackers rows units queries ends waiting jobs held search room =
+    let same : meant means new ≡ meant means old = cc (entries, dylibs, trackers, rows, units, queries, jobs) in
     record {
       meant = same;
       ends = ends;

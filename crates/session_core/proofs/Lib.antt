@@ -3,6 +3,7 @@ pub mod Calling
 pub mod EmitLemmas
 pub mod EmitSteps
 pub mod KeptUnits
+pub mod Own
 pub mod Owned
 pub mod Owning
 pub mod QuietSteps
@@ -36,6 +37,7 @@ pub mod Ending
 pub mod Joining
 pub mod StoredUnits
 pub mod StoredAfter
+pub mod FreeRanges
 pub mod StoredPlace
 pub mod StoredEmit
 pub mod StoredMemory

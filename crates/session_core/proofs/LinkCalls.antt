@@ -1,5 +1,5 @@
 -- What the answer of a link tells of its unit.
-use Rattle.std.proofs.Common.{◌≡◌, ℕ, Bool, true, false, ◌&&◌, List, slice_get, subst, sym, refl, ap, ◌∙◌, Option, Some, None, is_some, nat_eq, get_or, unwrap_or}
+use Rattle.std.proofs.Common.{◌≡◌, ℕ, Bool, true, false, ◌&&◌, List, slice_get, subst, sym, refl, ap, ◌∙◌, Option, Some, None, is_some, nat_eq, get_or, unwrap_or, []}
 use Rattle.std.specs.Bool.{if◌then◌else◌}
 use Rattle.std.specs.Option.{option_map_or}
 use Rattle.std.proofs.lemmas.Bool.{both_ways, and_parts}
@@ -9,7 +9,7 @@ use Rattle.orc_ids.specs.declared.ids.UnitId.{UnitId}
 use Rattle.session_model.specs.Meaning.{Meaning}
 use Rattle.session_model.specs.Plain.{Plain, UnitRow, is_defunct}
 use Rattle.session_model.specs.Answer.{Gone, Wrong, Right, is_held}
-use Rattle.session_model.specs.Change.{matched, link_order}
+use Rattle.session_model.specs.Change.{matched, link_matches, link_order, linked_matches}
 use Rattle.session_model.specs.declared.entry.Reply.{Reply}
 use Rattle.session_model.specs.declared.entry.Reply.TheVariants.{Defunct, WrongPhase}
 use Rattle.session_core.specs.Links.{link_unit_reply, IsHeldUnit}
@@ -73,3 +73,8 @@ unit_read means t s u x answer e = let c = link_called (meant means t) s u answe
 
 pub unit_answers : {U : Type 0} (means : U → Meaning) (t : Tables U) (s : ℕ) (u : UnitId) (x : TableUnit U) → slice_get t.units.items u.0 ≡ Some x → link_unit_reply (meant means t) s u (unit_row means x) ≡ link_reply (meant means t) s u
 unit_answers means t s u x e = sym (link_reply_is (meant means t) s u ∙ ap (λ o. option_map_or (link_unit_reply (meant means t) s u) o (WrongPhase u)) (mapped_some (unit_row means) t.units.items u.0 x e))
+
+-- what was matched for it, as the change has it
+pub matched_for : {U : Type 0} (means : U → Meaning) (old : Tables U) (u : UnitId) (x : TableUnit U) (found : List (Option InstId)) → slice_get old.units.items u.0 ≡ Some x →
+    found ≡ matched (meant means old) (link_order (meant means old) (unit_row means x)) ((means x.unit).externals x.live) → found ≡ linked_matches (meant means old) u.0
+matched_for means old u x found there is = is ∙ sym (ap (λ o. option_map_or (link_matches (meant means old)) o []) (mapped_some (unit_row means) old.units.items u.0 x there))

@@ -11,12 +11,14 @@ use Rattle.std.specs.VecDeque.{deque_len, deque_capacity}
 use Rattle.std.proofs.lemmas.Bool.{both_ways, cases_eq, false_from_ne_true}
 use Rattle.std.proofs.lemmas.Option.{same_Some, slice_get_within}
 use Rattle.orc_ids.specs.declared.ids.InstId.{InstId}
+use Rattle.orc_ids.specs.declared.ids.UnitId.{UnitId}
 use Rattle.orc_ids.specs.declared.lookup.Level.TheVariants as level
 use Rattle.session_model.specs.Lists.{changed_at}
 use Rattle.session_model.specs.Meaning.{Meaning}
 use Rattle.session_model.specs.Plain.{Plain, UnitRow, kept}
 use Rattle.session_model.specs.Query.{is_met, all_at, first_lost, addresses}
-use Rattle.session_model.specs.Change.{Link, linked, link_order, settled, settled_from, settled_one, finish_listed, all_claimed, claimed, matched, waits_for}
+use Rattle.session_model.specs.Change.{linked, link_order, settled, settled_from, settled_one, finish_listed, all_claimed, claimed, matched, waits_for}
+use Rattle.session_model.specs.declared.change.Change.TheVariants.{Link}
 use Rattle.session_model.specs.declared.rows.Ending.{Ending}
 use Rattle.session_model.specs.declared.rows.Ending.TheVariants.{Found}
 use Rattle.session_model.specs.declared.rows.Query.{Query}
@@ -38,7 +40,6 @@ use Rattle.session_core.proofs.Quiet.{stays_unmet, from_settles_none, reached_wa
 use Rattle.session_core.proofs.Waits.{waiting_from}
 use Rattle.session_laws.proofs.Defining.{waiting_parts}
 use Rattle.session_laws.proofs.Elements.{changed_cases, changed_some, changed_elsewhere}
-use Rattle.session_laws.proofs.Invariant.{link_unit}
 use Rattle.session_laws.proofs.Owing.{NoMetWaits}
 use Rattle.session_laws.proofs.Replies.{lookup_good}
 
@@ -48,9 +49,6 @@ awaiting found u m = record (all_claimed found m) {
   queries = (all_claimed found m).queries ++ new_query m.entries found level.Resolved (Some u) None ∷ [];
   units = changed_at u (waiting_now (length m.queries)) (all_claimed found m).units;
 }
-
-linked_is : (m : Plain) (u : ℕ) (x : UnitRow) (found : List (Option InstId)) → slice_get m.units u ≡ Some x → found ≡ matched m (link_order m x) (x.meaning.externals x.live) → linked u m ≡ awaiting found u m
-linked_is m u x found e is = ap (λ o. option_map_or (link_unit m u) o m) e ∙ ap (λ f. awaiting f u m) (sym is)
 
 -- a unit that is held stays so through claims
 held_stays : (found : List (Option InstId)) (m : Plain) (u : ℕ) (x : UnitRow) → slice_get m.units u ≡ Some x → (y : UnitRow) × (slice_get (all_claimed found m).units u ≡ Some y) × (y.seat ≡ x.seat)
@@ -137,7 +135,6 @@ module _ {U : Type 0} (means : U → Meaning) where
     pub queries : new.queries ≡ mid.queries
     pub ends : new.ends ≡ mid.ends
     pub unsettled : new.unsettled ≡ mid.unsettled
-    pub taken : new.taken ≡ mid.taken
     pub units : map (unit_row means) new.units.items ≡ linked_units met u (changed_at u (waiting_now q) (map (unit_row means) mid.units.items))
     pub same : AreSameUnits means mid.units.items new.units.items
     pub jobs : new.jobs.items ≡ finish_jobs met u mid.jobs.items
@@ -152,8 +149,8 @@ module _ {U : Type 0} (means : U → Meaning) where
     where
       split : (b : Bool) → map (unit_row means) new.units.items ≡ linked_units b u (changed_at u (waiting_now (length old.queries.items)) (map (unit_row means) mid.units.items)) → new.jobs.items ≡ finish_jobs b u mid.jobs.items →
           meant means new ≡ record (if b then finish_listed u (awaiting found u (meant means old)) else awaiting found u (meant means old)) { entries = old.entries + 1 }
-      split true units jobs = rw (e.claims, a.entries, a.dylibs, a.trackers, a.rows, units, a.queries, jobs, a.taken, e.entries, e.dylibs, e.trackers, e.queries, e.taken) refl
-      split false units jobs = rw (e.claims, a.entries, a.dylibs, a.trackers, a.rows, units, a.queries, jobs, a.taken, e.entries, e.dylibs, e.trackers, e.queries, e.taken) refl
+      split true units jobs = rw (e.claims, a.entries, a.dylibs, a.trackers, a.rows, units, a.queries, jobs, e.entries, e.dylibs, e.trackers, e.queries) refl
+      split false units jobs = rw (e.claims, a.entries, a.dylibs, a.trackers, a.rows, units, a.queries, jobs, e.entries, e.dylibs, e.trackers, e.queries) refl
 
   awaited_noted : (u : ℕ) (x : UnitRow) (found : List (Option InstId)) (b : Bool) (old mid new : Tables U) → IsTied means old → slice_get (meant means old).units u ≡ Some x → is_some x.seat ≡ true → is_some (first_lost old.rows.items found) ≡ false → b ≡ all_at old.rows.items level.Resolved found →
       IsLodged means found level.Resolved (Some u) None (fresh_end old.rows.items level.Resolved found) old mid → IsAwaited u (length old.queries.items) b mid new → IsNoted means found level.Resolved (Some u) None old new
@@ -224,10 +221,10 @@ module _ {U : Type 0} (means : U → Meaning) where
 
   pub link_moves : (u : ℕ) (x : UnitRow) (found : List (Option InstId)) (end : Option Ending) (q : ℕ) (old mid new : Tables U) → IsTied means old → IsReached (meant means old) → old.entries + 1 < 2 ^ 32 →
       slice_get (meant means old).units u ≡ Some x → is_some x.seat ≡ true → found ≡ matched (meant means old) (link_order (meant means old) x) (x.meaning.externals x.live) → is_lodged (link_answer (meant means old) x) ≡ true →
-      end ≡ fresh_end old.rows.items level.Resolved found → q ≡ length old.queries.items → IsLodged means found level.Resolved (Some u) None end old mid → IsAwaited u q (is_some end) mid new → Moves means (Link u) old new
-  link_moves u x found end q old mid new tied reached numbered there seat is answer ends qis l w = record {
+      end ≡ fresh_end old.rows.items level.Resolved found → q ≡ length old.queries.items → IsLodged means found level.Resolved (Some u) None end old mid → IsAwaited u q (is_some end) mid new → (v : UnitId) → v.0 ≡ u → Moves means (Link v found) old new
+  link_moves u x found end q old mid new tied reached numbered there seat is answer ends qis l w v same = record {
     leads = awaited_meant u found (fresh_end old.rows.items level.Resolved found) (all_at old.rows.items level.Resolved found) old mid new lodged_now awaited
-        ∙ ap (λ (n : Plain). record n { entries = old.entries + 1 }) (sym (ap settled (linked_is (meant means old) u x found there is) ∙ link_settles found u (meant means old) x (reached_waits (meant means old) reached) there unlost));
+        ∙ ap (λ (n : Plain). record n { entries = old.entries + 1 }) (sym (ap (λ k. settled (linked k found (meant means old))) same ∙ link_settles found u (meant means old) x (reached_waits (meant means old) reached) there unlost));
     ends = noted_ends means found level.Resolved (Some u) None old new tied all;
     tied = noted_tied means found level.Resolved (Some u) None old new tied numbered all;
   }

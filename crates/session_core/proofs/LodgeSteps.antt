@@ -16,7 +16,9 @@ use Rattle.orc_ids.specs.declared.lookup.Wanted.{Wanted}
 use Rattle.session_model.specs.Meaning.{Meaning}
 use Rattle.session_model.specs.Plain.{Plain, kept}
 use Rattle.session_model.specs.Query.{is_met, first_lost}
-use Rattle.session_model.specs.Change.{Change, Ask, change_of, settled, all_claimed, matched, waits_for}
+use Rattle.session_model.specs.Change.{change_of, settled, all_claimed, matched, waits_for}
+use Rattle.session_model.specs.declared.change.Change.{Change}
+use Rattle.session_model.specs.declared.change.Change.TheVariants.{Ask}
 use Rattle.session_model.specs.Answer.{answer_ask, Answers}
 use Rattle.session_model.specs.declared.entry.Event.{Event}
 use Rattle.session_model.specs.declared.entry.Reply.{Reply}
@@ -183,7 +185,7 @@ module _ {U : Type 0} (means : U → Meaning) where
 
   ask_meant : (found : List (Option InstId)) (lev : Level) (unit tag : Option ℕ) (end : Option Ending) (old new : Tables U) → IsLodged means found lev unit tag end old new →
       meant means new ≡ record (all_claimed found (meant means old)) { entries = old.entries + 1; queries = (all_claimed found (meant means old)).queries ++ new_query old.entries found lev unit tag ∷ [] }
-  ask_meant found lev unit tag end old new e = rw (e.claims, e.entries, e.dylibs, e.trackers, e.taken, e.queries) refl
+  ask_meant found lev unit tag end old new e = rw (e.claims, e.entries, e.dylibs, e.trackers, e.queries) refl
 
   -- a lodged ask settles nothing
   ask_settles : (found : List (Option InstId)) (lev : Level) (tag : Option ℕ) (m : Plain) → NoMetWaits m → settled (record (all_claimed found m) { queries = (all_claimed found m).queries ++ new_query m.entries found lev None tag ∷ [] }) ≡ record (all_claimed found m) { queries = (all_claimed found m).queries ++ new_query m.entries found lev None tag ∷ [] }
@@ -192,7 +194,7 @@ module _ {U : Type 0} (means : U → Meaning) where
       (ap (λ qs. qs ++ new_query m.entries found lev None tag ∷ []) (all_queries found m)) refl (all_wait found m))
 
   pub ask_moves : (order : List OrderItem) (wanted : List Wanted) (lev : Level) (tag : Option ℕ) (old new : Tables U) → IsTied means old → IsReached (meant means old) → old.entries + 1 < 2 ^ 32 → is_lodged (answer_ask (meant means old) order wanted lev) ≡ true →
-      IsLodged means (matched (meant means old) order wanted) lev None tag (fresh_end old.rows.items lev (matched (meant means old) order wanted)) old new → Moves means (Ask order wanted lev tag) old new
+      IsLodged means (matched (meant means old) order wanted) lev None tag (fresh_end old.rows.items lev (matched (meant means old) order wanted)) old new → Moves means (Ask (matched (meant means old) order wanted) lev tag) old new
   ask_moves order wanted lev tag old new tied reached numbered answer e = record {
     leads = ask_meant (matched (meant means old) order wanted) lev None tag (fresh_end old.rows.items lev (matched (meant means old) order wanted)) old new e
         ∙ sym (ap (λ (n : Plain). record n { entries = old.entries + 1 }) (ask_settles (matched (meant means old) order wanted) lev tag (meant means old) (reached_waits (meant means old) reached)));
@@ -204,7 +206,7 @@ module _ {U : Type 0} (means : U → Meaning) where
       all = lodged_noted (matched (meant means old) order wanted) lev None tag old new tied (good_unlost old.rows.items (matched (meant means old) order wanted) (ask_good (meant means old) order wanted lev answer)) e
 
   -- memory may be reserved before
-  pub moves_from_same : (c : Change) (old mid new : Tables U) → IsSame means old mid → Moves means c mid new → Moves means c old new
+  pub moves_from_same : (c : Change Meaning) (old mid new : Tables U) → IsSame means old mid → Moves means c mid new → Moves means c old new
   moves_from_same c old mid new s v = record {
     leads = v.leads ∙ ap (λ (m : Plain). moved c m) s.meant;
     ends = v.ends ∙ ap (λ l. noted (meant means new) new.queries.items l) s.ends;
@@ -215,18 +217,18 @@ module _ {U : Type 0} (means : U → Meaning) where
   pub steps_from_same : (s : SeatNo) (e : Event Meaning) (r : Reply) (old mid new : Tables U) → IsSame means old mid → Steps means s e r mid new → Steps means s e r old new
   steps_from_same s e r old mid new same steps = record {
     answered = λ jmax past leads ends. subst (λ m. Answers jmax past m s.0 e r) same.meant (steps.answered jmax past (leads ∙ sym same.meant) (subst (AreEnds past) (sym same.ends) ends));
-    moves = moves_from_same (change_of s.0 e r) old mid new same steps.moves;
+    moves = moves_from_same (change_of (meant means old) s.0 e r) old mid new same (subst (λ (m : Plain). Moves means (change_of m s.0 e r) mid new) same.meant steps.moves);
   }
 
   same_entries : (old mid : Tables U) → IsSame means old mid → mid.entries ≡ old.entries
   same_entries old mid s = ap (λ (m : Plain). m.entries) s.meant
 
   pub ask_from : (order : List OrderItem) (wanted : List Wanted) (lev : Level) (tag : Option ℕ) (found : List (Option InstId)) (end : Option Ending) (old mid new : Tables U) → IsReached (meant means old) → old.entries + 1 < 2 ^ 32 → is_lodged (answer_ask (meant means old) order wanted lev) ≡ true →
-      IsSame means old mid → found ≡ matched (meant means old) order wanted → end ≡ fresh_end old.rows.items lev found → IsLodged means found lev None tag end mid new → Moves means (Ask order wanted lev tag) old new
-  ask_from order wanted lev tag found end old mid new reached numbered answer same is ends l = moves_from_same (Ask order wanted lev tag) old mid new same
-      (ask_moves order wanted lev tag mid new same.tied (subst IsReached (sym same.meant) reached) (rw (same_entries old mid same) numbered) (subst (λ (m : Plain). is_lodged (answer_ask m order wanted lev) ≡ true) (sym same.meant) answer)
+      IsSame means old mid → found ≡ matched (meant means old) order wanted → end ≡ fresh_end old.rows.items lev found → IsLodged means found lev None tag end mid new → Moves means (Ask (matched (meant means old) order wanted) lev tag) old new
+  ask_from order wanted lev tag found end old mid new reached numbered answer same is ends l = moves_from_same (Ask (matched (meant means old) order wanted) lev tag) old mid new same
+      (subst (λ (m : Plain). Moves means (Ask (matched m order wanted) lev tag) mid new) same.meant (ask_moves order wanted lev tag mid new same.tied (subst IsReached (sym same.meant) reached) (rw (same_entries old mid same) numbered) (subst (λ (m : Plain). is_lodged (answer_ask m order wanted lev) ≡ true) (sym same.meant) answer)
       (subst (λ f. IsLodged means f lev None tag (fresh_end mid.rows.items lev (matched (meant means mid) order wanted)) mid new) found_is
-      (subst (λ x. IsLodged means found lev None tag x mid new) end_is l)))
+      (subst (λ x. IsLodged means found lev None tag x mid new) end_is l))))
     where
       found_is : found ≡ matched (meant means mid) order wanted
       found_is = is ∙ ap (λ (m : Plain). matched m order wanted) (sym same.meant)

@@ -9,7 +9,8 @@ use Rattle.orc_ids.specs.declared.lookup.Level.{Level}
 use Rattle.orc_ids.specs.declared.lookup.Level.TheVariants as level
 use Rattle.session_model.specs.Lists.{only_if, or_else}
 use Rattle.session_model.specs.Plain.{Plain, failed_at, present_at, emitted_at, address_at}
-use Rattle.session_model.specs.Reach.{IsPath, IsReady, is_ready, deps_at}
+use Rattle.graph_walks.specs.Walks.{IsPath}
+use Rattle.session_model.specs.Reach.{IsReady, is_ready, deps_at}
 use Rattle.session_model.specs.Query.{at_level, all_at, is_lost, first_lost, is_met}
 use Rattle.session_model.specs.Change.{settled, settled_from, settled_one, waits_for, finish_listed}
 use Rattle.session_model.specs.declared.rows.InstRow.{InstRow}
@@ -42,7 +43,7 @@ stands_again rows new newer a b = record {
 
 -- Readiness
 
-path_as : (rows new : List InstRow) → ((i : ℕ) → deps_at new i ≡ deps_at rows i) → (i : ℕ) (p : List ℕ) (j : ℕ) → IsPath new i p j → IsPath rows i p j
+path_as : (rows new : List InstRow) → ((i : ℕ) → deps_at new i ≡ deps_at rows i) → (i : ℕ) (p : List ℕ) (j : ℕ) → IsPath (deps_at new) i p j → IsPath (deps_at rows) i p j
 path_as rows new same i [] j l = l
 path_as rows new same i (k ∷ ks) j l = (subst (λ ds. Contains ds k) (same i) l.0, path_as rows new same k ks j l.1)
 

@@ -9,6 +9,7 @@ use Rattle.std.proofs.lemmas.Bool.{and_left, and_right, leb-false, ne_eqb}
 use Rattle.std.proofs.lemmas.List.{length-append}
 use Rattle.orc_ids.specs.declared.ids.DylibId.{DylibId}
 use Rattle.orc_ids.specs.declared.ids.NameId.{NameId}
+use Rattle.orc_ids.specs.declared.ids.SeatNo.{SeatNo}
 use Rattle.orc_ids.specs.declared.ids.TrackId.{TrackId}
 use Rattle.orc_ids.specs.declared.ids.UnitId.{UnitId}
 use Rattle.session_model.specs.Lists.{only_if, or_else}
@@ -26,7 +27,9 @@ use Rattle.session_core.specs.declared.tables.TableUnit.{TableUnit}
 use Rattle.session_core.specs.Ends.{open_numbers}
 use Rattle.session_model.specs.Meaning.{Meaning}
 use Rattle.session_model.specs.Plain.{Plain, UnitRow, kept, own_rows, is_defunct, has_dylib}
-use Rattle.session_model.specs.Change.{Change, LetGo, changed}
+use Rattle.session_model.specs.Change.{changed}
+use Rattle.session_model.specs.declared.change.Change.{Change}
+use Rattle.session_model.specs.declared.change.Change.TheVariants.{LetGo}
 use Rattle.session_model.specs.declared.rows.Job.{Job}
 use Rattle.session_model.specs.declared.rows.Job.TheVariants as job
 use Rattle.session_model.specs.declared.rows.UnitPhase.TheVariants as stage
@@ -46,7 +49,7 @@ use Rattle.session_core.specs.Units.{AreSameUnits}
 use Rattle.session_core.proofs.Calm.{WaitsNoMore, reached_sound, reached_calm, calm_kept, quiet_moves}
 use Rattle.session_core.proofs.KeptUnits.{tied_kept, kept_changed}
 
-pub quiet_step : {U : Type 0} (means : U → Meaning) (c : Change) (old new : Tables U) → IsTied means old → IsReached (meant means old) →
+pub quiet_step : {U : Type 0} (means : U → Meaning) (c : Change Meaning) (old new : Tables U) → IsTied means old → IsReached (meant means old) →
     meant means new ≡ record (changed c (meant means old)) { entries = old.entries + 1 } →
     (changed c (meant means old)).rows ≡ old.rows.items → (changed c (meant means old)).queries ≡ old.queries.items → WaitsNoMore (meant means old).units (changed c (meant means old)).units →
     AreSameUnits means old.units.items new.units.items →
@@ -90,10 +93,10 @@ let_go_held s x = by_seat x.seat
 pub let_go_waits : (s : ℕ) (x : UnitRow) → (let_go_of s x).phase ≡ stage.Waiting → (x.phase ≡ stage.Waiting) × (x.query ≡ (let_go_of s x).query)
 let_go_waits s x e = (e, refl)
 
-pub let_go_count : (m : Plain) (s u : ℕ) (x : UnitRow) (b : Bool) → slice_get m.units u ≡ Some x → b ≡ option_map_or (is_held s) (slice_get m.units u) false → kept (changed (LetGo s u) m) + cond b 1 0 ≡ kept m
+pub let_go_count : (m : Plain) (s : SeatNo) (u : UnitId) (x : UnitRow) (b : Bool) → slice_get m.units u.0 ≡ Some x → b ≡ option_map_or (is_held s.0) (slice_get m.units u.0) false → kept (changed (LetGo s u) m) + cond b 1 0 ≡ kept m
 let_go_count m s u x b t is =
-    let same : ◌≡◌ {A = ℕ} (cond b 1 0) (cond (is_held s x) 1 0) = ap (λ h. cond h 1 0) (is ∙ ap (λ o. option_map_or (is_held s) o false) t) in
-    omega (arith, same, let_go_held s x, kept_changed m (changed (LetGo s u) m) u (let_go_of s) x refl t)
+    let same : ◌≡◌ {A = ℕ} (cond b 1 0) (cond (is_held s.0 x) 1 0) = ap (λ h. cond h 1 0) (is ∙ ap (λ o. option_map_or (is_held s.0) o false) t) in
+    omega (arith, same, let_go_held s.0 x, kept_changed m (changed (LetGo s u) m) u.0 (let_go_of s.0) x refl t)
 
 -- Dylibs and trackers
 
@@ -149,6 +152,7 @@ tied_dylib means old new x t none left dylibs units rows queries ends waiting jo
     queries = omega (arith, t.sized.queries, ap (λ v. length v.items) queries, more);
   };
   lives = subst (λ v. (u : ℕ) (y : TableUnit _) → slice_get v.items u ≡ Some y → length y.live ≡ length (means y.unit).offers) (sym units) t.lives;
+  own = λ u y e. t.own u y (ap (λ v. slice_get v.items u) (sym units) ∙ e);
   spans = λ u y e. subst (λ v. IsSpan v.items u y.first y.count) (sym rows) (t.spans u y (ap (λ v. slice_get v.items u) (sym units) ∙ e));
   owned = λ u y e. ap (λ v. length (own_rows u 0 v.items)) rows ∙ t.owned u y (ap (λ v. slice_get v.items u) (sym units) ∙ e);
   rows = λ i r e. subst (λ v. RowFits means v.items r) (sym units) (t.rows i r (ap (λ v. slice_get v.items i) (sym rows) ∙ e));

@@ -1,10 +1,10 @@
 -- What a right answer to a call tells of its unit.
-use Rattle.std.proofs.Common.{◌≡◌, ℕ, Bool, true, false, ◌&&◌, ◌||◌, nat_eq, slice_get, Option, Some, None, is_some, is_none, refl, ap, sym}
+use Rattle.std.proofs.Common.{◌≡◌, ℕ, Bool, true, false, ◌&&◌, ◌||◌, not, nat_eq, slice_get, Option, Some, None, is_some, is_none, refl, ap, sym, ◌∙◌}
 use Rattle.std.specs.Bool.{if◌then◌else◌}
 use Rattle.std.specs.Option.{option_map_or}
 use Rattle.std.proofs.lemmas.Bool.{both_ways, and_parts}
 use Rattle.orc_ids.specs.declared.ids.UnitId.{UnitId}
-use Rattle.session_model.specs.Plain.{Plain, UnitRow, is_defunct}
+use Rattle.session_model.specs.Plain.{Plain, UnitRow, unit_shape, is_alias, is_defunct}
 use Rattle.session_model.specs.Answer.{Gone, Wrong, Right, called, is_held, is_stage, is_turned_away}
 use Rattle.session_model.specs.declared.entry.Reply.{Reply}
 use Rattle.session_model.specs.declared.rows.Phase.{Phase}
@@ -12,6 +12,7 @@ use Rattle.session_model.specs.declared.rows.UnitPhase.{UnitPhase}
 use Rattle.session_model.specs.declared.rows.UnitPhase.TheVariants as stage
 use Rattle.session_laws.specs.Sound.{fits, is_claimed, is_resolved}
 use Rattle.session_core.specs.Replies.{reply_to, may_resolve, may_emit}
+use Rattle.session_core.proofs.Own.{own_resolve}
 
 -- the seat holds the unit, at which the call is right
 pub record RightUnit (m : Plain) (s : ℕ) (u : UnitId) (test : UnitRow → Bool) (right : UnitRow → Reply) (r : Reply) : Type 0 where
@@ -34,8 +35,8 @@ right_unit m s u test right r not_away e = by_unit (slice_get m.units u.0) refl 
     by_unit (Some x) t e = by_test x t (is_defunct x.phase) (is_held s x && test x) refl e
 
 -- the instances of a unit that may be resolved are Claimed
-pub resolving_fits : (x : UnitRow) → may_resolve x ≡ true → (p : Phase) → fits x.phase p ≡ is_claimed p
-resolving_fits x e = by_phase x.phase (is_none (x.meaning.shape x.live)) e
+pub resolving_fits : (x : UnitRow) → x.meaning.source ≡ None → may_resolve x ≡ true → (p : Phase) → fits x.phase p ≡ is_claimed p
+resolving_fits x own e = by_phase x.phase (is_none (unit_shape x)) (sym (own_resolve x own) ∙ e)
   where
     by_phase : (s : UnitPhase) (b : Bool) → is_stage stage.Placed s || is_stage stage.Started s && b ≡ true → (p : Phase) → fits s p ≡ is_claimed p
     by_phase stage.Started b e p = refl
@@ -44,7 +45,7 @@ resolving_fits x e = by_phase x.phase (is_none (x.meaning.shape x.live)) e
 
 -- those of one that may be emitted are Resolved
 pub emitting_fits : (x : UnitRow) → may_emit x ≡ true → (p : Phase) → fits x.phase p ≡ is_resolved p
-emitting_fits x e = by_phase x.phase (is_some x.bound) e
+emitting_fits x e = by_phase x.phase (is_some x.bound) (and_parts (is_stage stage.Finishing x.phase && is_some x.bound) (not (is_alias x) || is_some x.base) e).0
   where
     by_phase : (s : UnitPhase) (b : Bool) → is_stage stage.Finishing s && b ≡ true → (p : Phase) → fits s p ≡ is_resolved p
     by_phase stage.Finishing b e p = refl

@@ -26,7 +26,7 @@ offer_or : (a b : Option Match) → offer_of a ≡ None → offer_of b ≡ None 
 offer_or None b e f = f
 offer_or (Some x) b e f = e
 
-none_offered : (m : Plain) (d name : ℕ) (item : OrderItem) → m.generators ≡ [] → option_map Offered (offered_by m d name item.scope) ≡ None
+none_offered : (m : Plain) (d name : ℕ) (item : OrderItem) → m.generators ≡ [] → option_map Offered (offered_by m.generators d name item.scope) ≡ None
 none_offered m d name item e = ap (λ gs. option_map Offered (option_map (λ g. record { 0 = g }) (position_from (λ (g : GenRow). not g.spent && g.dylib == d && offers_name g.meaning name item.scope) 0 gs))) e
 
 seen_only : (b : Bool) (r : Row) → offer_of (only_if b (Instance r.inst)) ≡ None
@@ -38,8 +38,8 @@ by_row item None = refl
 by_row item (Some r) = seen_only (sees item.scope r.flags) r
 
 none_in : (m : Plain) (name : ℕ) (item : OrderItem) → m.generators ≡ [] → offer_of (match_in m name item) ≡ None
-none_in m name item e = offer_or (option_map_or (λ (r : Row). only_if (sees item.scope r.flags) (Instance r.inst)) (row_of m item.dylib.0 name) None) (option_map Offered (offered_by m item.dylib.0 name item.scope))
-    (by_row item (row_of m item.dylib.0 name)) (ap offer_of (none_offered m item.dylib.0 name item e))
+none_in m name item e = offer_or (option_map_or (λ (r : Row). only_if (sees item.scope r.flags) (Instance r.inst)) (row_of m.rows item.dylib.0 name) None) (option_map Offered (offered_by m.generators item.dylib.0 name item.scope))
+    (by_row item (row_of m.rows item.dylib.0 name)) (ap offer_of (none_offered m item.dylib.0 name item e))
 
 no_offer : (m : Plain) (order : List OrderItem) (name : ℕ) → m.generators ≡ [] → offer_of (match_of m order name) ≡ None
 no_offer m [] name e = refl
@@ -59,8 +59,13 @@ errors_same : (m : Plain) (order : List OrderItem) (wanted : List Wanted) → fi
 errors_same m order [] = refl
 errors_same m order (w ∷ ws) = ap₂ or_else (error_same m (match_of m order w.name.0)) (errors_same m order ws)
 
+or_split : {X : Type 0} (a b : Option X) (last : X) → unwrap_or (or_else a b) last ≡ unwrap_or a (unwrap_or b last)
+or_split None b last = refl
+or_split (Some x) b last = refl
+
 answer_parts : (m : Plain) (order : List OrderItem) (wanted : List Wanted) (lev : Level) → m.generators ≡ [] → answer_lookup m order wanted lev ≡ unwrap_or (first_error m.rows (matched m order wanted)) (unwrap_or (first_missing m order wanted) (lodged_answer m lev (matched m order wanted)))
-answer_parts m order wanted lev e = ap₂ (λ a b. unwrap_or a (unwrap_or b (unwrap_or (first_missing m order wanted) (lodged_answer m lev (matched m order wanted))))) (no_offers m order wanted e) (errors_same m order wanted)
+answer_parts m order wanted lev e = ap₂ (λ a b. unwrap_or (or_else a (or_else b (first_missing m order wanted))) (lodged_answer m lev (matched m order wanted))) (no_offers m order wanted e) (errors_same m order wanted)
+    ∙ or_split (first_error m.rows (matched m order wanted)) (first_missing m order wanted) (lodged_answer m lev (matched m order wanted))
 
 -- what was matched, and which answer comes first
 pub answers_error : (m : Plain) (order : List OrderItem) (wanted : List Wanted) (lev : Level) (r : Reply) → m.generators ≡ [] → Some r ≡ first_error m.rows (matched m order wanted) → r ≡ answer_lookup m order wanted lev

@@ -15,8 +15,10 @@ use Rattle.session_model.specs.Plain.{Plain, empty, kept, emitted_at}
 use Rattle.session_core.proofs.Owning.{own_phased}
 use Rattle.session_model.specs.Match.{first_row}
 use Rattle.session_model.specs.Query.{is_met, all_at, first_lost}
-use Rattle.session_model.specs.Reach.{within, is_ready, deps_at}
-use Rattle.session_model.specs.Change.{is_strong, Change, changed, settled, settled_from, settled_one, finish_listed, waits_for}
+use Rattle.graph_walks.specs.Walks.{within}
+use Rattle.session_model.specs.Reach.{is_ready, deps_at}
+use Rattle.session_model.specs.Change.{is_strong, changed, settled, settled_from, settled_one, finish_listed, waits_for}
+use Rattle.session_model.specs.declared.change.Change.{Change}
 use Rattle.session_model.specs.declared.rows.InstRow.{InstRow}
 use Rattle.session_model.specs.declared.rows.Query.{Query}
 use Rattle.session_model.specs.declared.rows.Row.{Row}
@@ -107,18 +109,18 @@ any_same : (f g : ℕ → Bool) → ((k : ℕ) → f k ≡ g k) → (xs : List �
 any_same f g h [] = refl
 any_same f g h (x ∷ xs) = ap (λ b. b || list_any f xs) (h x) ∙ ap (λ b. g x || b) (any_same f g h xs)
 
-within_same : (n : ℕ) (rows new : List InstRow) (f g : ℕ → Bool) → ((i : ℕ) → deps_at new i ≡ deps_at rows i) → ((i : ℕ) → g i ≡ f i) → (i : ℕ) → within n new g i ≡ within n rows f i
+within_same : (n : ℕ) (next after : ℕ → List ℕ) (f g : ℕ → Bool) → ((i : ℕ) → after i ≡ next i) → ((i : ℕ) → g i ≡ f i) → (i : ℕ) → within n after g i ≡ within n next f i
 unfolding within
-within_same zero rows new f g deps test i = test i
-within_same (suc n) rows new f g deps test i =
-    ap (λ b. b || list_any (within n new g) (deps_at new i)) (test i)
-    ∙ ap (λ ds. f i || list_any (within n new g) ds) (deps i)
-    ∙ ap (λ b. f i || b) (any_same (within n new g) (within n rows f) (within_same n rows new f g deps test) (deps_at rows i))
+within_same zero next after f g deps test i = test i
+within_same (suc n) next after f g deps test i =
+    ap (λ b. b || list_any (within n after g) (after i)) (test i)
+    ∙ ap (λ ds. f i || list_any (within n after g) ds) (deps i)
+    ∙ ap (λ b. f i || b) (any_same (within n after g) (within n next f) (within_same n next after f g deps test) (next i))
 
 pub ready_same : (rows new : List InstRow) → length new ≡ length rows → ((i : ℕ) → deps_at new i ≡ deps_at rows i) → ((i : ℕ) → emitted_at new i ≡ emitted_at rows i) → (i : ℕ) → is_ready new i ≡ is_ready rows i
 ready_same rows new count deps emitted i =
-    ap (λ n. not (within n new (λ j. not (emitted_at new j)) i)) count
-    ∙ ap not (within_same (length rows) rows new (λ j. not (emitted_at rows j)) (λ j. not (emitted_at new j)) deps (λ j. ap not (emitted j)) i)
+    ap (λ n. not (within n (deps_at new) (λ j. not (emitted_at new j)) i)) count
+    ∙ ap not (within_same (length rows) (deps_at rows) (deps_at new) (λ j. not (emitted_at rows j)) (λ j. not (emitted_at new j)) deps (λ j. ap not (emitted j)) i)
 
 pub all_ready_same : (rows new : List InstRow) → ((i : ℕ) → is_ready new i ≡ is_ready rows i) → (os : List (Option InstId)) → all_at new Ready os ≡ all_at rows Ready os
 all_ready_same rows new h [] = refl
@@ -157,7 +159,7 @@ links_own m n s queries waits u y k q e p its there =
     let same : l.query ≡ q = same_Some l.query q (sym l.there ∙ ap (slice_get m.queries) number ∙ ap (λ qs. slice_get qs k) (sym queries) ∙ there) in
     sym (ap (λ (p : Query). p.unit) same) ∙ l.links
 
-pub settling_moves : {U : Type 0} (means : U → Meaning) (c : Change) (old mid new : Tables U) → IsTied means old → IsReached (meant means old) →
+pub settling_moves : {U : Type 0} (means : U → Meaning) (c : Change Meaning) (old mid new : Tables U) → IsTied means old → IsReached (meant means old) →
     meant means mid ≡ record (changed c (meant means old)) { entries = old.entries + 1 } →
     ArePhased old.rows.items mid.rows.items → AreSameUnits means old.units.items mid.units.items → WaitsNoMore (meant means old).units (meant means mid).units →
     mid.queries.items ≡ old.queries.items → mid.ends.items ≡ old.ends.items → mid.dylibs ≡ old.dylibs → mid.trackers.items ≡ old.trackers.items → mid.held ≡ kept (meant means mid) → old.entries + 1 < 2 ^ 32 →
@@ -187,6 +189,7 @@ settling_moves means c old mid new t reached leads phased same waits queries end
           queries = omega (arith, t.sized.queries, ap length now_queries, ap length queries, entries, counted);
         };
         lives = λ u y e. let x = unit_before units u y e in let z = units.each u x.0 y x.1 e in ap length z.live ∙ t.lives u x.0 x.1 ∙ ap (λ (a : Meaning). length a.offers) (sym z.meaning);
+        own = λ u y e. let x = unit_before units u y e in ap (λ (a : Meaning). a.source) (units.each u x.0 y x.1 e).meaning ∙ t.own u x.0 x.1;
         spans = λ u y e. let x = unit_before units u y e in let z = units.each u x.0 y x.1 e in
             phased_span old.rows.items new.rows.items u y.first y.count now_phased (subst (λ n. IsSpan old.rows.items u n y.count) (sym z.first) (subst (λ n. IsSpan old.rows.items u x.0.first n) (sym z.count) (t.spans u x.0 x.1)));
         owned = λ u y e. let x = unit_before units u y e in let z = units.each u x.0 y x.1 e in

@@ -14,7 +14,8 @@ use Rattle.orc_ids.specs.declared.lookup.OrderItem.{OrderItem}
 use Rattle.orc_ids.specs.declared.lookup.Wanted.{Wanted}
 use Rattle.session_model.specs.Meaning.{Meaning}
 use Rattle.session_model.specs.Plain.{Plain, UnitRow, is_defunct}
-use Rattle.session_model.specs.Change.{Nothing, Define, Ask, Resolve, Link, Emit, change_of}
+use Rattle.session_model.specs.Change.{change_of, linked_matches, matched, verdicts}
+use Rattle.session_model.specs.declared.change.Change.TheVariants.{Nothing, Define, Ask, Resolve, Link, Emit}
 use Rattle.session_model.specs.Answer.{Called, Gone, Wrong, Right, called, is_held, AnswersCall}
 use Rattle.session_model.specs.declared.entry.Event.TheVariants as event
 use Rattle.session_model.specs.declared.entry.Reply.{Reply}
@@ -32,27 +33,27 @@ lodged_is (reply.Done q) e = (q, inl refl)
 lodged_is (reply.Pending q) e = (q, inr refl)
 lodged_is _ e = absurd (both_ways false refl e)
 
-pub ask_lodges : (s : ℕ) (order : List OrderItem) (wanted : List Wanted) (lev : Level) (n : Option ℕ) (r : Reply) → is_lodged r ≡ true → change_of s (event.Ask order wanted lev n) r ≡ Ask order wanted lev n
-ask_lodges s order wanted lev n (reply.Done q) e = refl
-ask_lodges s order wanted lev n (reply.Pending q) e = refl
-ask_lodges s order wanted lev n _ e = absurd (both_ways false refl e)
+pub ask_lodges : (m : Plain) (s : ℕ) (order : List OrderItem) (wanted : List Wanted) (lev : Level) (n : Option ℕ) (r : Reply) → is_lodged r ≡ true → change_of m s (event.Ask order wanted lev n) r ≡ Ask (matched m order wanted) lev n
+ask_lodges m s order wanted lev n (reply.Done q) e = refl
+ask_lodges m s order wanted lev n (reply.Pending q) e = refl
+ask_lodges m s order wanted lev n _ e = absurd (both_ways false refl e)
 
-pub ask_other : (s : ℕ) (order : List OrderItem) (wanted : List Wanted) (lev : Level) (n : Option ℕ) (r : Reply) → is_lodged r ≡ false → is_gone r ≡ false → change_of s (event.Ask order wanted lev n) r ≡ Nothing
-ask_other s order wanted lev n (reply.Done q) e f = absurd (both_ways true e refl)
-ask_other s order wanted lev n (reply.Pending q) e f = absurd (both_ways true e refl)
-ask_other s order wanted lev n (reply.Defunct u) e f = absurd (both_ways true f refl)
-ask_other s order wanted lev n _ e f = refl
+pub ask_other : (m : Plain) (s : ℕ) (order : List OrderItem) (wanted : List Wanted) (lev : Level) (n : Option ℕ) (r : Reply) → is_lodged r ≡ false → is_gone r ≡ false → change_of m s (event.Ask order wanted lev n) r ≡ Nothing
+ask_other m s order wanted lev n (reply.Done q) e f = absurd (both_ways true e refl)
+ask_other m s order wanted lev n (reply.Pending q) e f = absurd (both_ways true e refl)
+ask_other m s order wanted lev n (reply.Defunct u) e f = absurd (both_ways true f refl)
+ask_other m s order wanted lev n _ e f = refl
 
-pub link_lodges : (s : ℕ) (u : UnitId) (r : Reply) → is_lodged r ≡ true → change_of s (event.Link u) r ≡ Link u.0
-link_lodges s u (reply.Done q) e = refl
-link_lodges s u (reply.Pending q) e = refl
-link_lodges s u _ e = absurd (both_ways false refl e)
+pub link_lodges : (m : Plain) (s : ℕ) (u : UnitId) (r : Reply) → is_lodged r ≡ true → change_of m s (event.Link u) r ≡ Link u (linked_matches m u.0)
+link_lodges m s u (reply.Done q) e = refl
+link_lodges m s u (reply.Pending q) e = refl
+link_lodges m s u _ e = absurd (both_ways false refl e)
 
-pub link_other : (s : ℕ) (u : UnitId) (r : Reply) → is_lodged r ≡ false → is_gone r ≡ false → change_of s (event.Link u) r ≡ Nothing
-link_other s u (reply.Done q) e f = absurd (both_ways true e refl)
-link_other s u (reply.Pending q) e f = absurd (both_ways true e refl)
-link_other s u (reply.Defunct v) e f = absurd (both_ways true f refl)
-link_other s u _ e f = refl
+pub link_other : (m : Plain) (s : ℕ) (u : UnitId) (r : Reply) → is_lodged r ≡ false → is_gone r ≡ false → change_of m s (event.Link u) r ≡ Nothing
+link_other m s u (reply.Done q) e f = absurd (both_ways true e refl)
+link_other m s u (reply.Pending q) e f = absurd (both_ways true e refl)
+link_other m s u (reply.Defunct v) e f = absurd (both_ways true f refl)
+link_other m s u _ e f = refl
 
 -- Definitions
 
@@ -60,42 +61,42 @@ pub defined_is : (r : Reply) → is_defined r ≡ true → (u : UnitId) × (firs
 defined_is (reply.Defined u first count) e = (u, first, count, refl)
 defined_is _ e = absurd (both_ways false refl e)
 
-pub define_makes : (s : ℕ) (d : DylibId) (t : TrackId) (u : Meaning) (r : Reply) → is_defined r ≡ true → change_of s (event.Define d t u) r ≡ Define d.0 t.0 u
-define_makes s d t u (reply.Defined v first count) e = refl
-define_makes s d t u _ e = absurd (both_ways false refl e)
+pub define_makes : (m : Plain) (s : ℕ) (d : DylibId) (t : TrackId) (u : Meaning) (r : Reply) → is_defined r ≡ true → change_of m s (event.Define d t u) r ≡ Define d t u (verdicts m.rows d.0 u.offers)
+define_makes m s d t u (reply.Defined v first count) e = refl
+define_makes m s d t u _ e = absurd (both_ways false refl e)
 
-pub define_other : (s : ℕ) (d : DylibId) (t : TrackId) (u : Meaning) (r : Reply) → is_defined r ≡ false → is_gone r ≡ false → change_of s (event.Define d t u) r ≡ Nothing
-define_other s d t u (reply.Defined v first count) e f = absurd (both_ways true e refl)
-define_other s d t u (reply.Defunct v) e f = absurd (both_ways true f refl)
-define_other s d t u _ e f = refl
+pub define_other : (m : Plain) (s : ℕ) (d : DylibId) (t : TrackId) (u : Meaning) (r : Reply) → is_defined r ≡ false → is_gone r ≡ false → change_of m s (event.Define d t u) r ≡ Nothing
+define_other m s d t u (reply.Defined v first count) e f = absurd (both_ways true e refl)
+define_other m s d t u (reply.Defunct v) e f = absurd (both_ways true f refl)
+define_other m s d t u _ e f = refl
 
 -- Calls on a unit
 
-pub resolve_makes : (s : ℕ) (u : UnitId) (r : Reply) → is_resolved r ≡ true → change_of s (event.Resolve u) r ≡ Resolve u.0
-resolve_makes s u reply.Resolved e = refl
-resolve_makes s u _ e = absurd (both_ways false refl e)
+pub resolve_makes : (m : Plain) (s : ℕ) (u : UnitId) (r : Reply) → is_resolved r ≡ true → change_of m s (event.Resolve u) r ≡ Resolve u
+resolve_makes m s u reply.Resolved e = refl
+resolve_makes m s u _ e = absurd (both_ways false refl e)
 
 pub resolved_is : (r : Reply) → is_resolved r ≡ true → r ≡ reply.Resolved
 resolved_is reply.Resolved e = refl
 resolved_is _ e = absurd (both_ways false refl e)
 
-pub resolve_other : (s : ℕ) (u : UnitId) (r : Reply) → is_resolved r ≡ false → is_gone r ≡ false → change_of s (event.Resolve u) r ≡ Nothing
-resolve_other s u reply.Resolved e f = absurd (both_ways true e refl)
-resolve_other s u (reply.Defunct v) e f = absurd (both_ways true f refl)
-resolve_other s u _ e f = refl
+pub resolve_other : (m : Plain) (s : ℕ) (u : UnitId) (r : Reply) → is_resolved r ≡ false → is_gone r ≡ false → change_of m s (event.Resolve u) r ≡ Nothing
+resolve_other m s u reply.Resolved e f = absurd (both_ways true e refl)
+resolve_other m s u (reply.Defunct v) e f = absurd (both_ways true f refl)
+resolve_other m s u _ e f = refl
 
 pub emitted_is : (r : Reply) → is_emitted r ≡ true → r ≡ reply.Emitted
 emitted_is reply.Emitted e = refl
 emitted_is _ e = absurd (both_ways false refl e)
 
-pub emit_makes : (s : ℕ) (u : UnitId) (groups : List Group) (r : Reply) → is_emitted r ≡ true → change_of s (event.Emit u groups) r ≡ Emit u.0 groups
-emit_makes s u groups reply.Emitted e = refl
-emit_makes s u groups _ e = absurd (both_ways false refl e)
+pub emit_makes : (m : Plain) (s : ℕ) (u : UnitId) (groups : List Group) (r : Reply) → is_emitted r ≡ true → change_of m s (event.Emit u groups) r ≡ Emit u groups
+emit_makes m s u groups reply.Emitted e = refl
+emit_makes m s u groups _ e = absurd (both_ways false refl e)
 
-pub emit_other : (s : ℕ) (u : UnitId) (groups : List Group) (r : Reply) → is_emitted r ≡ false → is_gone r ≡ false → change_of s (event.Emit u groups) r ≡ Nothing
-emit_other s u groups reply.Emitted e f = absurd (both_ways true e refl)
-emit_other s u groups (reply.Defunct v) e f = absurd (both_ways true f refl)
-emit_other s u groups _ e f = refl
+pub emit_other : (m : Plain) (s : ℕ) (u : UnitId) (groups : List Group) (r : Reply) → is_emitted r ≡ false → is_gone r ≡ false → change_of m s (event.Emit u groups) r ≡ Nothing
+emit_other m s u groups reply.Emitted e f = absurd (both_ways true e refl)
+emit_other m s u groups (reply.Defunct v) e f = absurd (both_ways true f refl)
+emit_other m s u groups _ e f = refl
 
 -- what is answered that a unit is gone
 pub gone_is : (r : Reply) → is_gone r ≡ true → (u : UnitId) × (r ≡ reply.Defunct u)

@@ -1,22 +1,26 @@
 -- What code memory has at an address is the session's memory.
-use Rattle.std.proofs.Common.{◌≡◌, ℕ, zero, suc, ◌+◌, ◌-◌, ◌<◌, ◌≤◌, Bool, true, false, ◌&&◌, ◌==◌, cond, nat_lt, nat_le, List, [], ◌∷◌, length, slice_get, ◌⊎◌, inl, inr, subst, sym, refl, ap, ◌∙◌, Option, Some, None, option_map, unwrap_or, arith}
+use Rattle.std.proofs.Common.{◌≡◌, ℕ, zero, suc, ◌+◌, ◌-◌, ◌<◌, ◌≤◌, Bool, true, false, ◌&&◌, ◌==◌, cond, nat_lt, nat_le, List, [], ◌∷◌, length, slice_get, ◌⊎◌, inl, inr, subst, sym, refl, ap, ◌∙◌, Option, Some, None, is_some, option_map, unwrap_or, arith}
 use Rattle.std.specs.Bool.{if◌then◌else◌}
 use Rattle.std.specs.Prelude.{find, option_and_then}
-use Rattle.std.proofs.lemmas.Bool.{cases_Bool, and_parts, eqb-true, eq-eqb, leb-true, le-leb, ltb-false}
+use Rattle.std.proofs.lemmas.Bool.{both_ways, cases_Bool, and_parts, eqb-true, eq-eqb, leb-true, le-leb, ltb-false}
 use Rattle.std.proofs.lemmas.Option.{none-some, same_Some}
 use Rattle.orc_ids.specs.declared.ids.UnitId.{UnitId}
 use Rattle.session_model.specs.Lists.{first_some, or_else}
 use Rattle.session_model.specs.Plain.{Plain, UnitRow}
-use Rattle.session_model.specs.Answer.{unit_shape}
+use Rattle.session_model.specs.Plain.{unit_shape}
 use Rattle.session_model.specs.Memory.{is_done, unit_image, unit_byte, memory}
 use Rattle.session_laws.proofs.Elements.{element_below}
 use Rattle.session_laws.proofs.Settling.{chosen}
 use Rattle.code_memory.proofs.Deposited.{mapped_at}
 use Rattle.code_memory.specs.Mapped.{byte_at}
-use Rattle.code_memory.specs.Places.{Placements, placement_of, is_of, before, deposits, IsWhole, AreWhole, AreDistinct, AreLaidOut}
-use Rattle.code_memory.specs.declared.bounds.TheConstants.{CODE_START}
+use Rattle.code_memory.specs.Places.{placement_of, is_of, before, deposits, IsWhole, AreWhole, AreDistinct, AreLaidOut}
+use Rattle.orc_ids.specs.declared.limits.TheConstants.{CODE_START, CODE_END}
+use Rattle.orc_ids.specs.declared.place.Shape.{Shape}
+use Rattle.session_model.specs.declared.rows.Range.{Range}
+use Rattle.session_model.specs.declared.rows.UnitPhase.{UnitPhase}
+use Rattle.session_model.specs.declared.rows.UnitPhase.TheVariants as stage
 use Rattle.code_memory.specs.declared.placement.Placement.{Placement}
-use Rattle.session_core.specs.Stored.{stored, IsStored}
+use Rattle.session_core.specs.Stored.{stored, is_placed, UnitStored, IsStored}
 
 -- The first element that chooses something
 
@@ -47,7 +51,7 @@ missing_past (x ∷ xs) (suc k) e = omega (arith, missing_past xs k e)
 
 -- A unit's byte
 
--- a finished unit with a base has this byte there
+-- a finished unit that is placed has this byte there
 record Has (x : UnitRow) (address byte : ℕ) : Type 0 where
   base : ℕ
   placed : x.base ≡ Some base
@@ -55,19 +59,38 @@ record Has (x : UnitRow) (address byte : ℕ) : Type 0 where
   reached : base ≤ address
   there : slice_get (unit_image x) (address - base) ≡ Some byte
 
+abbrev byte_in : UnitRow → ℕ → Range → Option ℕ
+byte_in x address range = if is_done x.phase && nat_le range.base address then slice_get (unit_image x) (address - range.base) else None
+
+abbrev range_at : ℕ → Option Shape → Option Range
+range_at base shape = option_map (λ (s : Shape). record { base = base; need = s.need }) shape
+
 has_byte : (x : UnitRow) (address byte : ℕ) → unit_byte address x ≡ Some byte → Has x address byte
-has_byte x address byte e = split x.base refl e
+has_byte x address byte e = split x.base refl (unit_shape x) e
   where
-    split : (o : Option ℕ) → x.base ≡ o → option_and_then (λ base. if is_done x.phase && nat_le base address then slice_get (unit_image x) (address - base) else None) o ≡ Some byte → Has x address byte
-    split None t h = absurd (none-some byte h)
-    split (Some base) t h = chosen (λ o. o ≡ Some byte → Has x address byte) (is_done x.phase && nat_le base address) (slice_get (unit_image x) (address - base)) None
+    split : (o : Option ℕ) → x.base ≡ o → (shape : Option Shape) → option_and_then (byte_in x address) (option_and_then (λ base. range_at base shape) o) ≡ Some byte → Has x address byte
+    split None t shape h = absurd (none-some byte h)
+    split (Some base) t None h = absurd (none-some byte h)
+    split (Some base) t (Some shape) h = chosen (λ o. o ≡ Some byte → Has x address byte) (is_done x.phase && nat_le base address) (slice_get (unit_image x) (address - base)) None
         (λ b g. let c = and_parts (is_done x.phase) (nat_le base address) b in record { base = base; placed = t; finished = c.0; reached = leb-true base address c.1; there = g })
         (λ b g. absurd (none-some byte g)) h
 
-byte_of : (x : UnitRow) (address byte : ℕ) → Has x address byte → unit_byte address x ≡ Some byte
-byte_of x address byte h = ap (option_and_then (λ base. if is_done x.phase && nat_le base address then slice_get (unit_image x) (address - base) else None)) h.placed
-    ∙ (ap (λ b. if b && nat_le h.base address then slice_get (unit_image x) (address - h.base) else None) h.finished
-    ∙ (ap (λ b. if b then slice_get (unit_image x) (address - h.base) else None) (le-leb h.base address h.reached) ∙ h.there))
+-- where it has a shape
+byte_of : (x : UnitRow) (address byte : ℕ) → Has x address byte → is_some (unit_shape x) ≡ true → unit_byte address x ≡ Some byte
+byte_of x address byte h some = ap (λ o. option_and_then (byte_in x address) (option_and_then (λ base. range_at base (unit_shape x)) o)) h.placed ∙ by_shape (unit_shape x) some
+  where
+    by_shape : (shape : Option Shape) → is_some shape ≡ true → option_and_then (byte_in x address) (range_at h.base shape) ≡ Some byte
+    by_shape None e = absurd (both_ways false refl e)
+    by_shape (Some shape) e = ap (λ b. if b && nat_le h.base address then slice_get (unit_image x) (address - h.base) else None) h.finished
+        ∙ (ap (λ b. if b then slice_get (unit_image x) (address - h.base) else None) (le-leb h.base address h.reached) ∙ h.there)
+
+done_placed : (q : UnitPhase) → is_done q ≡ true → is_placed q ≡ true
+done_placed stage.Done e = refl
+done_placed _ e = absurd (both_ways false refl e)
+
+-- a finished unit with a base has a shape
+has_shape : (p : List Placement) (u : ℕ) (x : UnitRow) (address byte : ℕ) → UnitStored p u x → Has x address byte → is_some (unit_shape x) ≡ true
+has_shape p u x address byte s h = sym (s.placed (done_placed x.phase h.finished)) ∙ ap is_some h.placed
 
 -- Its range
 
@@ -131,9 +154,9 @@ deposited (p ∷ ps) address byte a e = split p.bytes refl e (deposited ps addre
 -- Both have the same bytes
 
 -- the byte of a unit is deposited
-byte_deposited : (m : Plain) (p : Placements) → IsStored m p → AreLaidOut p → (u : ℕ) (x : UnitRow) (address byte : ℕ) → slice_get m.units u ≡ Some x → Has x address byte → byte_at (deposits p.placed) address ≡ Some byte
-byte_deposited m p s laid u x address byte t h = ap (byte_at (deposits p.placed)) (let e : address ≡ h.base + (address - h.base) = omega (arith, h.reached) in e)
-    ∙ (mapped_at CODE_START p.placed p.end (record { 0 = u }) range (unit_image x) (address - h.base) laid.apart laid.whole found refl (omega (arith, within, long)) ∙ h.there)
+byte_deposited : (m : Plain) (p : List Placement) → IsStored m p → AreLaidOut p → (u : ℕ) (x : UnitRow) (address byte : ℕ) → slice_get m.units u ≡ Some x → Has x address byte → byte_at (deposits p) address ≡ Some byte
+byte_deposited m p s laid u x address byte t h = ap (byte_at (deposits p)) (let e : address ≡ h.base + (address - h.base) = omega (arith, h.reached) in e)
+    ∙ (mapped_at CODE_START p CODE_END (record { 0 = u }) range (unit_image x) (address - h.base) laid.apart laid.whole found refl (omega (arith, within, long)) ∙ h.there)
   where
     range : Placement
     range = record { unit = record { 0 = u }; base = h.base; shape = unwrap_or (unit_shape x) (record { need = 0; align = 1 }); bytes = Some (unit_image x) }
@@ -142,13 +165,13 @@ byte_deposited m p s laid u x address byte t h = ap (byte_at (deposits p.placed)
     found = (s.each u x t).range ∙ stored_done u x h.base h.placed h.finished
 
     long : length (unit_image x) ≡ range.shape.need
-    long = (found_whole (record { 0 = u }) p.placed range laid.whole found).full
+    long = (found_whole (record { 0 = u }) p range laid.whole found).full
 
     within : address - h.base < length (unit_image x)
     within = element_below (unit_image x) (address - h.base) byte h.there
 
 -- a deposited byte is its unit's
-byte_owned : (m : Plain) (p : Placements) → IsStored m p → (address byte : ℕ) → Deposited p.placed address byte → (u : ℕ) × (x : UnitRow) × (slice_get m.units u ≡ Some x) × Has x address byte
+byte_owned : (m : Plain) (p : List Placement) → IsStored m p → (address byte : ℕ) → Deposited p address byte → (u : ℕ) × (x : UnitRow) × (slice_get m.units u ≡ Some x) × Has x address byte
 byte_owned m p s address byte d = split (slice_get m.units d.range.unit.0) refl
   where
     split : (o : Option UnitRow) → slice_get m.units d.range.unit.0 ≡ o → (u : ℕ) × (x : UnitRow) × (slice_get m.units u ≡ Some x) × Has x address byte
@@ -157,14 +180,14 @@ byte_owned m p s address byte d = split (slice_get m.units d.range.unit.0) refl
         (d.range.unit.0, x, t, record { base = d.range.base; placed = q.0; finished = q.1; reached = d.reached; there = ap (λ bytes. slice_get bytes (address - d.range.base)) q.2 ∙ d.there })
 
 -- the byte that code memory has at an address is the session's
-pub memory_is : (m : Plain) (p : Placements) → IsStored m p → AreLaidOut p → (address : ℕ) → byte_at (deposits p.placed) address ≡ memory m address
+pub memory_is : (m : Plain) (p : List Placement) → IsStored m p → AreLaidOut p → (address : ℕ) → byte_at (deposits p) address ≡ memory m address
 memory_is m p s laid address = split (memory m address) refl
   where
-    split : (o : Option ℕ) → memory m address ≡ o → byte_at (deposits p.placed) address ≡ o
+    split : (o : Option ℕ) → memory m address ≡ o → byte_at (deposits p) address ≡ o
     split (Some byte) e = let x = first_parts (unit_byte address) m.units byte e in byte_deposited m p s laid x.0 x.1 address byte x.2 (has_byte x.1 address byte x.3)
-    split None e = none (byte_at (deposits p.placed) address) refl
+    split None e = none (byte_at (deposits p) address) refl
       where
-        none : (o : Option ℕ) → byte_at (deposits p.placed) address ≡ o → byte_at (deposits p.placed) address ≡ None
+        none : (o : Option ℕ) → byte_at (deposits p) address ≡ o → byte_at (deposits p) address ≡ None
         none None f = f
-        none (Some byte) f = let x = byte_owned m p s address byte (deposited p.placed address byte laid.distinct f) in
-            absurd (none-some byte (sym (first_none (unit_byte address) m.units e x.0 x.1 x.2) ∙ byte_of x.1 address byte x.3))
+        none (Some byte) f = let x = byte_owned m p s address byte (deposited p address byte laid.distinct f) in
+            absurd (none-some byte (sym (first_none (unit_byte address) m.units e x.0 x.1 x.2) ∙ byte_of x.1 address byte x.3 (has_shape p x.0 x.1 address byte (s.each x.0 x.1 x.2) x.3)))

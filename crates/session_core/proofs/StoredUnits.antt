@@ -8,20 +8,20 @@ use Rattle.orc_ids.specs.declared.ids.UnitId.{UnitId}
 use Rattle.orc_ids.specs.declared.place.Shape.{Shape}
 use Rattle.session_model.specs.Lists.{changed_at}
 use Rattle.session_model.specs.Plain.{Plain, UnitRow, is_defunct}
-use Rattle.session_model.specs.Answer.{AnswersCall, is_stage, unit_shape, taken_end, called, Called, Gone, Wrong, Right, is_held}
-use Rattle.session_model.specs.Change.{settled, finish_listed, waits_for}
+use Rattle.session_model.specs.Answer.{AnswersCall, is_stage, called, Called, Gone, Wrong, Right, is_held}
+use Rattle.session_model.specs.Plain.{unit_shape}
+use Rattle.session_model.specs.Change.{settled, finish_listed, linked_unit, waits_for}
 use Rattle.session_model.specs.Memory.{is_done, unit_image}
 use Rattle.session_model.specs.Query.{is_met}
 use Rattle.session_model.specs.declared.entry.Reply.{Reply}
 use Rattle.session_model.specs.declared.rows.Query.{Query}
-use Rattle.session_model.specs.declared.rows.Range.{Range}
 use Rattle.session_model.specs.declared.rows.UnitPhase.{UnitPhase}
 use Rattle.session_model.specs.declared.rows.UnitPhase.TheVariants as stage
 use Rattle.session_laws.proofs.Defining.{waiting_parts}
 use Rattle.session_laws.proofs.Elements.{element_below, changed_cases, changed_length, mapped_parts, same_element}
 use Rattle.session_laws.proofs.Settling.{settling_keeps, chosen}
 use Rattle.session_laws.proofs.Guards.{its_seat}
-use Rattle.code_memory.specs.Places.{Placements, placement_of}
+use Rattle.code_memory.specs.Places.{placement_of}
 use Rattle.code_memory.specs.declared.placement.Placement.{Placement}
 use Rattle.session_core.specs.Stored.{stored, is_early, is_placed, UnitStored, AreStored, IsStored}
 
@@ -42,26 +42,27 @@ pub unbased : (u : ℕ) (x : UnitRow) → x.base ≡ None → stored u x ≡ Non
 unbased u x e = map_none _ x.base e
 
 -- a unit at another phase before it is done
-pub rephased : (p : Placements) (u : ℕ) (x y : UnitRow) → UnitStored p u x → is_done x.phase ≡ false → is_done y.phase ≡ false → y.base ≡ x.base → unit_shape y ≡ unit_shape x →
+pub rephased : (p : List Placement) (u : ℕ) (x y : UnitRow) → UnitStored p u x → is_done x.phase ≡ false → is_done y.phase ≡ false → y.base ≡ x.base → y.meaning.source ≡ x.meaning.source → unit_shape y ≡ unit_shape x →
     (is_early y.phase ≡ true → x.base ≡ None) → (is_placed y.phase ≡ true → is_some x.base ≡ is_some (unit_shape x)) → UnitStored p u y
-rephased p u x y s d e base shape early placed = record {
+rephased p u x y s d e base source shape early placed = record {
   range = s.range ∙ (undone u x d ∙ (ap₂ (bare u) (sym base) (sym shape) ∙ sym (undone u y e)));
   early = λ h. base ∙ early h;
   placed = λ h. ap is_some base ∙ (placed h ∙ ap is_some (sym shape));
+  own = source ∙ s.own;
 }
 
 -- All units
 
-abbrev pub UnitsStored : Placements → List UnitRow → Type 0
+abbrev pub UnitsStored : List Placement → List UnitRow → Type 0
 UnitsStored p units = (u : ℕ) (x : UnitRow) → slice_get units u ≡ Some x → UnitStored p u x
 
-pub each_stored : (p : Placements) (f : UnitRow → UnitRow) (units : List UnitRow) → UnitsStored p units → ((u : ℕ) (x : UnitRow) → UnitStored p u x → UnitStored p u (f x)) → UnitsStored p (map f units)
+pub each_stored : (p : List Placement) (f : UnitRow → UnitRow) (units : List UnitRow) → UnitsStored p units → ((u : ℕ) (x : UnitRow) → UnitStored p u x → UnitStored p u (f x)) → UnitsStored p (map f units)
 each_stored p f units s h u y e = let c = mapped_parts f units u y e in subst (UnitStored p u) (sym c.2) (h u c.0 (s u c.0 c.1))
 
 -- one of them is changed, and with it its range
-pub changed_to : (units : List UnitRow) (taken more : List Range) (p q : Placements) (k : ℕ) (f : UnitRow → UnitRow) (x : UnitRow) → AreStored units taken p → slice_get units k ≡ Some x → UnitStored q k (f x) →
-    ((v : ℕ) → (v ≡ k → ⊥) → placement_of q (record { 0 = v }) ≡ placement_of p (record { 0 = v })) → q.end ≡ taken_end more → AreStored (changed_at k f units) more q
-changed_to units taken more p q k f x s t new stay end = record { each = each; others = λ u b. others u (subst (λ n. n ≤ u) (changed_length k f units) b); end = end }
+pub changed_to : (units : List UnitRow) (p q : List Placement) (k : ℕ) (f : UnitRow → UnitRow) (x : UnitRow) → AreStored units p → slice_get units k ≡ Some x → UnitStored q k (f x) →
+    ((v : ℕ) → (v ≡ k → ⊥) → placement_of q (record { 0 = v }) ≡ placement_of p (record { 0 = v })) → AreStored (changed_at k f units) q
+changed_to units p q k f x s t new stay = record { each = each; others = λ u b. others u (subst (λ n. n ≤ u) (changed_length k f units) b) }
   where
     each : UnitsStored q (changed_at k f units)
     each u y e = split (changed_cases k f units u y e)
@@ -69,14 +70,14 @@ changed_to units taken more p q k f x s t new stay end = record { each = each; o
         split : ((u ≡ k) × ((z : UnitRow) × (slice_get units u ≡ Some z) × (y ≡ f z))) ⊎ ((u ≡ k → ⊥) × (slice_get units u ≡ Some y)) → UnitStored q u y
         split (inl c) = let same = same_element (slice_get units k) x c.1.0 t (ap (slice_get units) (sym c.0) ∙ c.1.1) in
             subst (λ v. UnitStored q v y) (sym c.0) (subst (UnitStored q k) (ap f same ∙ sym c.1.2) new)
-        split (inr c) = let old = s.each u y c.1 in record { range = stay u c.0 ∙ old.range; early = old.early; placed = old.placed }
+        split (inr c) = let old = s.each u y c.1 in record { range = stay u c.0 ∙ old.range; early = old.early; placed = old.placed; own = old.own }
 
     others : (u : ℕ) → length units ≤ u → placement_of q (record { 0 = u }) ≡ None
     others u b = stay u (λ e. absurd (omega (arith, e, b, element_below units k x t))) ∙ s.others u b
 
 -- one of them is changed, with the same range
-pub changed_one : (units : List UnitRow) (taken : List Range) (p : Placements) (k : ℕ) (f : UnitRow → UnitRow) (x : UnitRow) → AreStored units taken p → slice_get units k ≡ Some x → UnitStored p k (f x) → AreStored (changed_at k f units) taken p
-changed_one units taken p k f x s t new = changed_to units taken taken p p k f x s t new (λ v n. refl) s.end
+pub changed_one : (units : List UnitRow) (p : List Placement) (k : ℕ) (f : UnitRow → UnitRow) (x : UnitRow) → AreStored units p → slice_get units k ≡ Some x → UnitStored p k (f x) → AreStored (changed_at k f units) p
+changed_one units p k f x s t new = changed_to units p p k f x s t new (λ v n. refl)
 
 -- Stages
 
@@ -88,19 +89,23 @@ pub placed_stage : (q : UnitPhase) → is_stage stage.Placed q ≡ true → q �
 placed_stage stage.Placed e = refl
 placed_stage _ e = absurd (both_ways false refl e)
 
+pub linking_stage : (q : UnitPhase) → is_stage stage.Linking q ≡ true → q ≡ stage.Linking
+linking_stage stage.Linking e = refl
+linking_stage _ e = absurd (both_ways false refl e)
+
 pub finishing_stage : (q : UnitPhase) → is_stage stage.Finishing q ≡ true → q ≡ stage.Finishing
 finishing_stage stage.Finishing e = refl
 finishing_stage _ e = absurd (both_ways false refl e)
 
 -- Settling
 
-pub stored_settled : (m : Plain) (p : Placements) → IsStored m p → IsStored (settled m) p
+pub stored_settled : (m : Plain) (p : List Placement) → IsStored m p → IsStored (settled m) p
 stored_settled m p s = settling_keeps (λ n. IsStored n p) step 0 m.queries m s
   where
     step : (u k : ℕ) (q : Query) (n : Plain) → IsStored n p → waits_for n u k ≡ true → is_met n.rows q ≡ true → q.unit ≡ Some u → IsStored (finish_listed u n) p
     step u k q n h w met its = let y = waiting_parts n u k w in
-        changed_one n.units n.taken p u (λ x. record x { phase = stage.Linked }) y.0 h y.1
-        (rephased p u y.0 (record (y.0) { phase = stage.Linked }) (h.each u y.0 y.1) (ap is_done y.2) refl refl refl (λ b. absurd (both_ways false refl b)) (λ b. (h.each u y.0 y.1).placed (ap is_placed y.2)))
+        changed_one n.units p u linked_unit y.0 h y.1
+        (rephased p u y.0 (record (y.0) { phase = stage.Linked }) (h.each u y.0 y.1) (ap is_done y.2) refl refl refl refl (λ b. absurd (both_ways false refl b)) (λ b. (h.each u y.0 y.1).placed (ap is_placed y.2)))
 
 -- Calls
 

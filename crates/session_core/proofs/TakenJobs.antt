@@ -13,7 +13,9 @@ use Rattle.session_model.specs.Query.{is_met}
 use Rattle.session_model.specs.declared.rows.UnitPhase.TheVariants as stage
 use Rattle.session_model.specs.declared.rows.Ending.{Ending}
 use Rattle.session_model.specs.State.{state, plain_history, IsEnd}
-use Rattle.session_model.specs.Change.{Change, Finish, bindings_of, change_of, changed, finish_listed, settled, taken_finish, waits_for}
+use Rattle.session_model.specs.Change.{bindings_of, change_of, changed, finish_listed, settled, taken_finish, waits_for}
+use Rattle.session_model.specs.declared.change.Change.{Change}
+use Rattle.session_model.specs.declared.change.Change.TheVariants.{Finish}
 use Rattle.session_model.specs.Answer.{AnswersTake, AnswersFinish, LinkEnded}
 use Rattle.session_model.specs.declared.entry.Entry.{Entry}
 use Rattle.session_model.specs.declared.entry.Event.TheVariants as event
@@ -98,7 +100,7 @@ take_answered past m ends r leads are [] some t = absurd (no_job some.2)
 take_answered past m ends r leads are (job.Start u ∷ js) some t = t
 take_answered past m ends r leads are (job.Finish u ∷ js) some t = subst (λ x. AnswersFinish past m u.0 x) (sym t.1) (finish_answered past m ends u t.0 leads are t.2)
 
-pub take_steps : {U : Type 0} (means : U → Meaning) (s : SeatNo) (r : Reply) (old new : Tables U) → (j : Job) × (js : List Job) × ((meant means old).jobs ≡ j ∷ js) → TakeReply (meant means old) old.ends.items (meant means old).jobs r → Moves means (change_of s.0 event.Take r) old new → Steps means s event.Take r old new
+pub take_steps : {U : Type 0} (means : U → Meaning) (s : SeatNo) (r : Reply) (old new : Tables U) → (j : Job) × (js : List Job) × ((meant means old).jobs ≡ j ∷ js) → TakeReply (meant means old) old.ends.items (meant means old).jobs r → Moves means (change_of (meant means old) s.0 event.Take r) old new → Steps means s event.Take r old new
 take_steps means s r old new some t moves = record { answered = λ jmax past leads ends. take_answered past (meant means old) old.ends.items r leads ends (meant means old).jobs some t; moves = moves }
 
 -- What a take did
@@ -160,7 +162,7 @@ settled_unit m u x t = settling_keeps Stays step 0 m.queries m (x, t, refl)
         split (inr apart) = (p.0, changed_elsewhere v (λ y. record y { phase = stage.Linked }) n.units u apart ∙ p.1, p.2)
 
 -- a change that leaves the rows, and of the unit its meaning, its live names and its base
-pub taken_still : {U : Type 0} (means : U → Meaning) (c : Change) (f : UnitRow → UnitRow) (u : UnitId) (old new : Tables U) (taken : TakenUnit U) → Moves means c old new →
+pub taken_still : {U : Type 0} (means : U → Meaning) (c : Change Meaning) (f : UnitRow → UnitRow) (u : UnitId) (old new : Tables U) (taken : TakenUnit U) → Moves means c old new →
     (changed c (meant means old)).rows ≡ (meant means old).rows → (changed c (meant means old)).units ≡ changed_at u.0 f (meant means old).units →
     ((x : UnitRow) → (f x).meaning ≡ x.meaning) → ((x : UnitRow) → (f x).live ≡ x.live) → ((x : UnitRow) → (f x).base ≡ x.base) → IsUnitOf means (meant means old) u taken → IsUnitOf means (meant means new) u taken
 taken_still means c f u old new taken moves rows units meaning live base k =
@@ -178,10 +180,10 @@ taken_still means c f u old new taken moves rows units meaning live base k =
     }
 
 -- the bindings of a unit that is handed out to be finished
-pub taken_bound : {U : Type 0} (means : U → Meaning) (s : ℕ) (u : UnitId) (how : Finishing) (old new : Tables U) (x : UnitRow) → Moves means (Finish s u.0 how) old new → slice_get (meant means old).units u.0 ≡ Some x →
+pub taken_bound : {U : Type 0} (means : U → Meaning) (s : SeatNo) (u : UnitId) (how : Finishing) (old new : Tables U) (x : UnitRow) → Moves means (Finish s u how) old new → slice_get (meant means old).units u.0 ≡ Some x →
     (y : UnitRow) → slice_get (meant means new).units u.0 ≡ Some y → y.bound ≡ bindings_of how
 taken_bound means s u how old new x moves there y at =
-    let m : Plain = taken_finish s u.0 how (meant means old) in
-    let f : UnitRow → UnitRow = λ z. record z { phase = stage.Finishing; seat = Some s; bound = bindings_of how } in
+    let m : Plain = taken_finish s.0 u.0 how (meant means old) in
+    let f : UnitRow → UnitRow = λ z. record z { phase = stage.Finishing; seat = Some s.0; bound = bindings_of how } in
     let p = settled_unit m u.0 (f x) (changed_some u.0 f (meant means old).units x there) in
     ap (λ (z : UnitRow). z.bound) (same_element (slice_get (meant means new).units u.0) y p.0 at (ap (λ (n : Plain). slice_get n.units u.0) moves.leads ∙ p.1) ∙ p.2)

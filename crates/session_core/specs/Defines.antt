@@ -18,21 +18,21 @@ use Rattle.session_model.specs.Match.{row_of}
 use Rattle.session_model.specs.declared.rows.InstRow.{InstRow}
 use Rattle.session_model.specs.declared.rows.Phase.TheVariants as phase
 
-abbrev pub clash_of : Plain → ℕ → NameId × SymFlags → Option Reply
-clash_of m d offer = clash offer.0 (verdict m d offer)
+abbrev pub clash_of : List InstRow → ℕ → NameId × SymFlags → Option Reply
+clash_of rows d offer = clash offer.0 (verdict rows d offer)
 
-abbrev pub first_clash : Plain → ℕ → Meaning → Option Reply
-first_clash m d u = first_some (clash_of m d) u.offers
+abbrev pub first_clash : List InstRow → ℕ → Meaning → Option Reply
+first_clash rows d u = first_some (clash_of rows d) u.offers
 
-abbrev pub keeps : Plain → ℕ → NameId × SymFlags → Bool
-keeps m d offer = is_kept (verdict m d offer)
+abbrev pub keeps : List InstRow → ℕ → NameId × SymFlags → Bool
+keeps rows d offer = is_kept (verdict rows d offer)
 
 -- what an accepted definition of strong names finds: room within the limits, and no name taken
 pub record IsDefinable (m : Plain) (d : ℕ) (offers : List (NameId × SymFlags)) : Type 0 where
   pub dylib : d < length m.dylibs
   pub units : length m.units < 65536
   pub rows : length m.rows + length offers ≤ 262144
-  pub free : (k : ℕ) (o : NameId × SymFlags) → slice_get offers k ≡ Some o → row_of m d o.0.0 ≡ None
+  pub free : (k : ℕ) (o : NameId × SymFlags) → slice_get offers k ≡ Some o → row_of m.rows d o.0.0 ≡ None
 
 -- each offered name is strong and exported
 abbrev pub AllStrong : List (NameId × SymFlags) → Type 0

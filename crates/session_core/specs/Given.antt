@@ -1,9 +1,9 @@
 -- What a session gives beside its answers.
-use Rattle.std.specs.Prelude.{◌≡◌, ⊤, ℕ, Bool, count_by, length, unwrap_or, slice_get, [], List, Option, Some, None, Result, Ok}
+use Rattle.std.specs.Prelude.{◌≡◌, ◌≤◌, ⊤, ℕ, Bool, count_by, length, unwrap_or, slice_get, [], List, Option, Some, None, Result, Ok}
 use Rattle.orc_ids.specs.declared.lookup.Stop.{Stop}
 use Rattle.session_model.specs.Meaning.{Meaning}
 use Rattle.orc_ids.specs.declared.place.Shape.{Shape}
-use Rattle.session_model.specs.Answer.{aligned, taken_end}
+use Rattle.session_model.specs.Answer.{IsFree}
 use Rattle.session_model.specs.Change.{bindings_of}
 use Rattle.orc_ids.specs.declared.groups.Group.{Group}
 use Rattle.orc_ids.specs.declared.ids.UnitId.{UnitId}
@@ -23,9 +23,9 @@ IsCopied means h (Ok reply.Image) (Some image) = (address : ℕ) → byte_at ima
 IsCopied means h (Ok reply.Image) None = ⊥
 IsCopied means h answer image = image ≡ None
 
--- a unit that is placed is placed at the lowest aligned address behind all ranges that were ever taken
+-- a unit that is placed is placed at the lowest free base
 abbrev pub IsLowest : Plain → Shape → Reply → Type 0
-IsLowest m shape (reply.Placed base) = base ≡ aligned (taken_end m.taken) shape.align
+IsLowest m shape (reply.Placed base) = (other : ℕ) → IsFree m.units shape other → base ≤ other
 IsLowest m shape r = ⊤
 
 -- the unit comes back wherever it isn't defined

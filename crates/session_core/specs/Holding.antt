@@ -7,7 +7,6 @@ use Rattle.orc_ids.specs.declared.ids.UnitId.{UnitId}
 use Rattle.orc_ids.specs.declared.place.Shape.{Shape}
 use Rattle.session_model.specs.Meaning.{Meaning, Bindings}
 use Rattle.session_model.specs.Plain.{Plain, UnitRow, own_rows}
-use Rattle.session_model.specs.Answer.{unit_shape}
 use Rattle.session_core.specs.Given.{IsUnitOf}
 use Rattle.session_core.specs.declared.holding.Finished.{Finished}
 use Rattle.session_core.specs.declared.taken.TakenUnit.{TakenUnit}
@@ -43,7 +42,7 @@ Tells means m u None = slice_get m.units u.0 ≡ None
 
 -- the memory that the unit of this number needs, which may be none
 abbrev pub own_place : Plain → UnitId → Shape
-own_place m u = option_map_or (λ x. unwrap_or (unit_shape x) empty_shape) (slice_get m.units u.0) empty_shape
+own_place m u = option_map_or (λ x. unwrap_or (x.meaning.shape x.live) empty_shape) (slice_get m.units u.0) empty_shape
 
 -- the unit's groups with these bindings
 abbrev pub bound_groups : Plain → UnitId → UnitRow → Bindings → List Group

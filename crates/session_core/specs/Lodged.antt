@@ -48,7 +48,6 @@ pub record IsLodged {U : Type 0} (means : U → Meaning) (found : List (Option I
   pub entries : new.entries ≡ old.entries + 1
   pub dylibs : new.dylibs ≡ old.dylibs
   pub trackers : new.trackers ≡ old.trackers
-  pub taken : new.taken ≡ old.taken
   pub held : new.held ≡ old.held
   pub search : new.search ≡ old.search
   pub claims : all_claimed found (meant means old) ≡ with_parts new.rows.items (map (unit_row means) new.units.items) new.jobs.items (meant means old)

@@ -23,5 +23,4 @@ meant means t = record {
   generators = [];
   queries = t.queries.items;
   jobs = t.jobs.items;
-  taken = t.taken.items;
 }

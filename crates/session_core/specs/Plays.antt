@@ -1,7 +1,8 @@
 -- What a list of calls does, one after the other.
-use Rattle.std.specs.Prelude.{◌≡◌, ⊤, ℕ, List, [], ◌∷◌, Option, Some, None, Result}
+use Rattle.std.specs.Prelude.{◌≡◌, ◌≤◌, ⊤, ℕ, List, [], ◌∷◌, length, Option, Some, None, Result}
 use Rattle.orc_ids.specs.declared.ids.SeatNo.{SeatNo}
 use Rattle.orc_ids.specs.declared.lookup.Stop.{Stop}
+use Rattle.orc_ids.specs.declared.limits.TheConstants.{ORDER_LIMIT, WANTED_LIMIT}
 use Rattle.session_model.specs.Meaning.{Meaning}
 use Rattle.session_model.specs.declared.entry.Entry.{Entry}
 use Rattle.session_model.specs.declared.entry.Event.TheVariants as event
@@ -13,9 +14,10 @@ use Rattle.session_core.specs.declared.playing.Call.{Call}
 use Rattle.session_core.specs.declared.playing.Command.{Command}
 use Rattle.session_core.specs.declared.playing.Command.TheVariants as command
 
--- a definition is of strong and exported names
+-- a definition is of strong and exported names and no alias, and a lookup within its limits
 abbrev pub IsStrongCall : {U : Type 0} → (U → Meaning) → Command U → Type 0
-IsStrongCall means (command.Define d t unit) = AreStrong (means unit).offers
+IsStrongCall means (command.Define d t unit) = AreStrong (means unit).offers × ((means unit).source ≡ None)
+IsStrongCall means (command.Ask order wanted level _) = (length order ≤ ORDER_LIMIT) × (length wanted ≤ WANTED_LIMIT)
 IsStrongCall means c = ⊤
 
 -- what the seat's call did, which was answered so: a unit is placed in the memory that it needs, and

@@ -1,5 +1,5 @@
 -- The replies that the definitions determine, as functions.
-use Rattle.std.specs.Prelude.{◌≡◌, ℕ, Bool, ◌&&◌, ◌||◌, List, [], ◌∷◌, slice_get, Option, Some, None, is_some, is_none}
+use Rattle.std.specs.Prelude.{◌≡◌, ℕ, Bool, List, [], ◌∷◌, slice_get, Option, Some, None}
 use Rattle.std.specs.Option.{option_map_or}
 use Rattle.orc_ids.specs.declared.ids.QueryId.{QueryId}
 use Rattle.orc_ids.specs.declared.ids.UnitId.{UnitId}
@@ -9,14 +9,13 @@ use Rattle.session_model.specs.Plain.{Plain, UnitRow, kept}
 use Rattle.session_model.specs.declared.rows.Ending.{Ending}
 use Rattle.session_model.specs.declared.rows.Ending.TheVariants.{Found, Lost}
 use Rattle.session_model.specs.Change.{link_order}
-use Rattle.session_model.specs.Answer.{Called, Gone, Wrong, Right, called, is_stage, unit_shape, first_reply, bad_dep, answer_lookup}
+use Rattle.session_model.specs.Answer.{Called, Gone, Wrong, Right, called, can_place, can_resolve, can_link, can_emit, first_reply, bad_dep, answer_lookup}
 use Rattle.session_model.specs.declared.entry.Finishing.{Finishing}
 use Rattle.session_model.specs.declared.entry.Finishing.TheVariants as finishing
 use Rattle.session_model.specs.declared.entry.Reply.{Reply}
 use Rattle.session_model.specs.declared.entry.Reply.TheVariants as reply
 use Rattle.session_model.specs.declared.rows.Job.{Job}
 use Rattle.session_model.specs.declared.rows.Job.TheVariants as job
-use Rattle.session_model.specs.declared.rows.UnitPhase.TheVariants as stage
 use Rattle.session_core.specs.declared.tables.QueryEnd.{QueryEnd}
 
 -- what a call on a unit is answered, where it is answered so once the call is right
@@ -26,16 +25,16 @@ reply_to Wrong u right = reply.WrongPhase u
 reply_to (Right x) u right = right x
 
 abbrev pub may_place : UnitRow → Bool
-may_place x = is_stage stage.Started x.phase && is_some (unit_shape x)
+may_place x = can_place x
 
 abbrev pub may_resolve : UnitRow → Bool
-may_resolve x = is_stage stage.Placed x.phase || is_stage stage.Started x.phase && is_none (unit_shape x)
+may_resolve x = can_resolve x
 
 abbrev pub may_link : UnitRow → Bool
-may_link x = is_stage stage.Linking x.phase
+may_link x = can_link x
 
 abbrev pub may_emit : UnitRow → Bool
-may_emit x = is_stage stage.Finishing x.phase && is_some x.bound
+may_emit x = can_emit x
 
 abbrev pub resolve_reply : Plain → ℕ → UnitId → Reply
 resolve_reply m s u = reply_to (called m s u may_resolve) u (λ x. reply.Resolved)

@@ -16,4 +16,4 @@ use Rattle.session_core.specs.Moves.{Moves}
 -- the reply is a right one after any history that led to the tables, and they went on by its change
 pub record Steps {U : Type 0} (means : U → Meaning) (s : SeatNo) (e : Event Meaning) (r : Reply) (old new : Tables U) : Type 0 where
   pub answered : (jmax : ℕ) (past : List (Entry Meaning)) → state past ≡ meant means old → AreEnds past old.ends.items → Answers jmax past (meant means old) s.0 e r
-  pub moves : Moves means (change_of s.0 e r) old new
+  pub moves : Moves means (change_of (meant means old) s.0 e r) old new

@@ -56,6 +56,8 @@ pub record IsTied {U : Type 0} (means : U → Meaning) (t : Tables U) : Type 0 w
   pub sized : IsSized t
   -- a unit has a flag for each name that it offers, and its instances stand together
   pub lives : (u : ℕ) (x : TableUnit U) → slice_get t.units.items u ≡ Some x → length x.live ≡ length (means x.unit).offers
+  -- no unit is an alias
+  pub own : (u : ℕ) (x : TableUnit U) → slice_get t.units.items u ≡ Some x → (means x.unit).source ≡ None
   pub spans : (u : ℕ) (x : TableUnit U) → slice_get t.units.items u ≡ Some x → IsSpan t.rows.items u x.first x.count
   -- and it has an instance for each live name
   pub owned : (u : ℕ) (x : TableUnit U) → slice_get t.units.items u ≡ Some x → length (own_rows u 0 t.rows.items) ≡ count_by (λ (b : Bool). b) x.live

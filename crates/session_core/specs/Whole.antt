@@ -10,7 +10,7 @@ use Rattle.session_core.specs.Ends.{AreEnds}
 use Rattle.session_core.specs.Tied.{IsTied}
 use Rattle.session_core.specs.Performs.{state_of}
 use Rattle.session_core.specs.Stored.{IsStored}
-use Rattle.code_memory.specs.Places.{Placements}
+use Rattle.code_memory.specs.declared.placement.Placement.{Placement}
 
 -- The journal is legal and had its places; the tables stand for the session that it leads to, and
 -- keep the ends of its queries.
@@ -23,7 +23,7 @@ pub record AreOne {U : Type 0} (means : U → Meaning) (jmax : ℕ) (t : Tables 
   pub tied : IsTied means t
 
 -- and the journal has its places, and code memory holds what the session's memory is
-pub record IsWhole {U : Type 0} (means : U → Meaning) (jmax : ℕ) (t : Tables U) (h : List (Entry U)) (capacity : ℕ) (p : Placements) : Type 0 where
+pub record IsWhole {U : Type 0} (means : U → Meaning) (jmax : ℕ) (t : Tables U) (h : List (Entry U)) (capacity : ℕ) (p : List Placement) : Type 0 where
   pub one : AreOne means jmax t h
   pub room : jmax ≤ capacity
   pub stored : IsStored (meant means t) p

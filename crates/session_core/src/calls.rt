@@ -1,4 +1,4 @@
-ghost use Rattle.std.specs.Prelude.{◌≡◌, ◌&&◌, map, length, slice_get, IfNone, IfSome, unwrap_or};
+ghost use Rattle.std.specs.Prelude.{◌≡◌, ◌&&◌, map, length, slice_get, None, IfNone, IfSome, unwrap_or};
 ghost use Rattle.session_model.specs.Plain.{UnitRow};
 ghost use Rattle.session_model.specs.Lists.{first_some};
 ghost use Rattle.session_model.specs.Answer.{called, Right, is_held, bad_dep};
@@ -40,7 +40,8 @@ pub fn turn_away<U: UnitKind>(
 }
 
 fn placeable<U: UnitKind>(x: &TableUnit<U>) -> bool
-    requires { length x.now.live ≡ length (U.meaning x.now.unit).offers }
+    requires live { length x.now.live ≡ length (U.meaning x.now.unit).offers }
+    requires own { (U.meaning x.now.unit).source ≡ None }
     ensures { result ≡ may_place (unit_row U.meaning x.now) }
 {
     match x.phase {
@@ -50,7 +51,8 @@ fn placeable<U: UnitKind>(x: &TableUnit<U>) -> bool
 }
 
 fn resolvable<U: UnitKind>(x: &TableUnit<U>) -> bool
-    requires { length x.now.live ≡ length (U.meaning x.now.unit).offers }
+    requires live { length x.now.live ≡ length (U.meaning x.now.unit).offers }
+    requires own { (U.meaning x.now.unit).source ≡ None }
     ensures { result ≡ may_resolve (unit_row U.meaning x.now) }
 {
     match x.phase {
@@ -61,6 +63,7 @@ fn resolvable<U: UnitKind>(x: &TableUnit<U>) -> bool
 }
 
 fn emittable<U: UnitKind>(x: &TableUnit<U>) -> bool
+    requires { (U.meaning x.now.unit).source ≡ None }
     ensures { result ≡ may_emit (unit_row U.meaning x.now) }
 {
     match x.phase {
@@ -135,6 +138,7 @@ impl<U: UnitKind> Tables<U> {
     }
 
     fn wrong_emit(&self, seat: SeatNo, u: UnitId) -> Option<Reply>
+        requires { IsTied U.meaning self.now }
         ensures { result ≡ wrong_call seat.0 u may_emit (slice_get (meant U.meaning self.now).units u.0) }
     {
         match self.units.get(u.0 as usize) {

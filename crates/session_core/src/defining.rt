@@ -3,21 +3,21 @@
 ghost use Rattle.std.specs.Prelude.{◌≡◌, ◌<◌, ◌≤◌, ◌+◌, ◌&&◌, ◌==◌, not, ◌∷◌, [], Bool, length, map, slice_get, option_map, option_and_then, count_by, Some, false};
 ghost use Rattle.std.specs.Option.{option_map_or};
 ghost use Rattle.session_model.specs.Plain.{unsearched_at};
-ghost use Rattle.session_model.specs.Change.{is_strong, verdict, verdict_on, kept_names};
+ghost use Rattle.session_model.specs.Change.{is_strong, verdict, verdict_on};
 ghost use Rattle.session_model.specs.Answer.{answer_unit, answer_define};
 ghost use Rattle.session_core.specs.Defines.{clash_of, first_clash, keeps};
 ghost use Rattle.session_core.specs.Meant.{meant};
 ghost use Rattle.session_core.specs.Tied.{IsTied};
 
 use crate::tables::Tables;
-use orc_ids::{DylibId, InstId, NameId, SymFlags, TrackId, UnitId};
+use orc_ids::{DylibId, INSTANCE_LIMIT, InstId, NameId, SymFlags, TrackId, UNIT_LIMIT, UnitId};
 use session_model::{InstRow, Phase, Reply, Row, Track, UnitKind, Verdict};
 
 /// How many units a session has at most.
-const MAX_UNITS: usize = 65_536;
+const MAX_UNITS: usize = UNIT_LIMIT;
 
 /// How many instances a session has at most.
-const MAX_INSTANCES: usize = 262_144;
+const MAX_INSTANCES: usize = INSTANCE_LIMIT;
 
 /// Whether no lookup has asked for the instance.
 fn not_searched(rows: &[InstRow], i: InstId) -> bool
@@ -36,7 +36,7 @@ fn strong(flags: SymFlags) -> bool
 }
 
 fn judged_on<U: UnitKind>(t: &Tables<U>, flags: SymFlags, old: Row) -> Verdict
-    ensures { result ≡ verdict_on (meant U.meaning t.now) flags old }
+    ensures { result ≡ verdict_on t.now.rows.items flags old }
 {
     if !strong(flags) {
         Verdict::Discarded
@@ -50,7 +50,7 @@ fn judged_on<U: UnitKind>(t: &Tables<U>, flags: SymFlags, old: Row) -> Verdict
 /// What becomes of a name that is offered in a dylib.
 fn judged<U: UnitKind>(t: &Tables<U>, d: DylibId, name: NameId, flags: SymFlags) -> Verdict
     requires { IsTied U.meaning t.now }
-    ensures { result ≡ verdict (meant U.meaning t.now) d.0 (name, flags) }
+    ensures { result ≡ verdict t.now.rows.items d.0 (name, flags) }
 {
     match t.row(d, name) {
         Some(old) => judged_on(t, flags, old),
@@ -62,7 +62,7 @@ fn judged<U: UnitKind>(t: &Tables<U>, d: DylibId, name: NameId, flags: SymFlags)
 fn clash_at<U: UnitKind>(t: &Tables<U>, d: DylibId, unit: &U, k: u32) -> Option<Reply>
     requires tied { IsTied U.meaning t.now }
     requires offered { k < length (U.meaning unit.now).offers }
-    ensures { result ≡ option_and_then (clash_of (meant U.meaning t.now) d.0) (slice_get (U.meaning unit.now).offers k) }
+    ensures { result ≡ option_and_then (clash_of t.now.rows.items d.0) (slice_get (U.meaning unit.now).offers k) }
 {
     let (name, flags) = unit.offer(k);
     match judged(t, d, name, flags) {
@@ -75,7 +75,7 @@ fn clash_at<U: UnitKind>(t: &Tables<U>, d: DylibId, unit: &U, k: u32) -> Option<
 #[tactic(auto, using(crate::proofs::RestLemmas::first_rest))]
 fn clash_reply<U: UnitKind>(t: &Tables<U>, d: DylibId, unit: &U) -> Option<Reply>
     requires { IsTied U.meaning t.now }
-    ensures { result ≡ first_clash (meant U.meaning t.now) d.0 (U.meaning unit.now) }
+    ensures { result ≡ first_clash t.now.rows.items d.0 (U.meaning unit.now) }
 {
     for k in 0..unit.count() {
         let clash = clash_at(t, d, unit, k);
@@ -89,7 +89,7 @@ fn clash_reply<U: UnitKind>(t: &Tables<U>, d: DylibId, unit: &U) -> Option<Reply
 fn kept_at<U: UnitKind>(t: &Tables<U>, d: DylibId, unit: &U, k: u32) -> bool
     requires tied { IsTied U.meaning t.now }
     requires offered { k < length (U.meaning unit.now).offers }
-    ensures { Some result ≡ option_map (keeps (meant U.meaning t.now) d.0) (slice_get (U.meaning unit.now).offers k) }
+    ensures { Some result ≡ option_map (keeps t.now.rows.items d.0) (slice_get (U.meaning unit.now).offers k) }
 {
     let (name, flags) = unit.offer(k);
     matches!(
@@ -109,7 +109,7 @@ fn counted(count: u32, kept: bool) -> u32
 /// How many of the offered names the unit keeps.
 fn kept_count<U: UnitKind>(t: &Tables<U>, d: DylibId, unit: &U) -> u32
     requires { IsTied U.meaning t.now }
-    ensures { result ≡ count_by (λ (b : Bool). b) (kept_names (meant U.meaning t.now) d.0 (U.meaning unit.now)) }
+    ensures { result ≡ count_by (λ (b : Bool). b) (map (keeps t.now.rows.items d.0) (U.meaning unit.now).offers) }
 {
     let mut count = 0;
     for k in 0..unit.count() {
@@ -129,6 +129,7 @@ fn tracker_fits(trackers: &[Track], d: DylibId, t: TrackId) -> bool
 }
 
 /// What defining a unit in a dylib is answered.
+#[tactic(auto, using(crate::proofs::DefineLemmas::kept_same))]
 fn unit_reply<U: UnitKind>(t: &Tables<U>, d: DylibId, unit: &U) -> Reply
     requires { IsTied U.meaning t.now }
     ensures { result ≡ answer_unit (meant U.meaning t.now) d.0 (U.meaning unit.now) }

@@ -2,7 +2,7 @@ ghost use Rattle.std.specs.Prelude.{◌≡◌, ℕ, ◌+◌, ◌<◌, ◌^◌, n
 ghost use Rattle.std.specs.HashMap.{get};
 ghost use Rattle.orc_ids.specs.declared.ids.DylibId.{DylibId};
 ghost use Rattle.orc_ids.specs.declared.ids.TrackId.{TrackId};
-ghost use Rattle.session_model.specs.Change.{MakeDylib, MakeTracker};
+ghost use Rattle.session_model.specs.declared.change.Change.TheVariants.{MakeDylib, MakeTracker};
 ghost use Rattle.session_model.specs.Answer.{answer_dylib, answer_tracker};
 ghost use Rattle.session_model.specs.declared.entry.Reply.TheVariants as reply;
 ghost use Rattle.session_core.specs.Meant.{meant, dylib_row};
@@ -11,16 +11,16 @@ ghost use Rattle.session_core.specs.Moves.{IsReached, Moves, IsSame};
 ghost use Rattle.session_core.specs.Dylibs.{fresh_dylib};
 
 use crate::tables::{TableDylib, Tables};
-use orc_ids::{DylibId, Items, NameId, OrderItem, Scope, TrackId};
+use orc_ids::{DYLIB_LIMIT, DylibId, Items, NameId, OrderItem, Scope, TRACKER_LIMIT, TrackId};
 use session_model::{Reply, Track, UnitKind};
 use std::alloc::{AllocError, Global};
 use std::collections::HashMap;
 
 /// How many dylibs a session has at most.
-const MAX_DYLIBS: usize = 64;
+const MAX_DYLIBS: usize = DYLIB_LIMIT;
 
 /// How many trackers a session has at most.
-const MAX_TRACKERS: usize = 65_536;
+const MAX_TRACKERS: usize = TRACKER_LIMIT;
 
 /// A dylib of this name, which searches itself alone.
 fn new_dylib(alloc: Global, d: DylibId, name: NameId) -> Result<TableDylib, AllocError>
@@ -74,7 +74,7 @@ impl<U: UnitKind> Tables<U> {
         requires reached { IsReached (meant U.meaning self.old) }
         requires numbered { self.old.entries + 1 < 2 ^ 32 }
         requires answer { (d : DylibId) × (answer_dylib (meant U.meaning self.old) name ≡ reply.Made d) }
-        ensures moves { OnOk result (Moves U.meaning (MakeDylib name.0) self.old self.new) }
+        ensures moves { OnOk result (Moves U.meaning (MakeDylib name) self.old self.new) }
         ensures err { OnErr result (IsSame U.meaning self.old self.new) }
     {
         let dylib = new_dylib(
@@ -93,7 +93,7 @@ impl<U: UnitKind> Tables<U> {
         requires reached { IsReached (meant U.meaning self.old) }
         requires numbered { self.old.entries + 1 < 2 ^ 32 }
         requires answer { (t : TrackId) × (answer_tracker (meant U.meaning self.old) d ≡ reply.Tracker t) }
-        ensures moves { OnOk result (Moves U.meaning (MakeTracker d.0) self.old self.new) }
+        ensures moves { OnOk result (Moves U.meaning (MakeTracker d) self.old self.new) }
         ensures err { OnErr result (IsSame U.meaning self.old self.new) }
     {
         self.trackers.push(Track {

@@ -4,7 +4,7 @@ ghost use Rattle.orc_ids.specs.declared.ids.InstId.{InstId};
 ghost use Rattle.orc_ids.specs.declared.groups.Group.{Group};
 ghost use Rattle.session_model.specs.Lists.{numbered, only_if, or_else};
 ghost use Rattle.session_model.specs.Plain.{phase_address};
-ghost use Rattle.session_model.specs.Change.{Emit};
+ghost use Rattle.session_model.specs.declared.change.Change.TheVariants.{Emit};
 ghost use Rattle.session_model.specs.declared.entry.Reply.TheVariants as reply;
 ghost use Rattle.session_core.specs.Meant.{meant};
 ghost use Rattle.session_core.specs.Tied.{IsTied, IsSpan};
@@ -148,7 +148,7 @@ impl<U: UnitKind> Tables<U> {
         requires reached { IsReached (meant U.meaning self.old) }
         requires numbered { self.old.entries + 1 < 2 ^ 32 }
         requires answer { emit_reply (meant U.meaning self.old) seat.0 u groups.now ≡ reply.Emitted }
-        ensures moves { OnOk result (Moves U.meaning (Emit u.0 groups.now) self.old self.new) }
+        ensures moves { OnOk result (Moves U.meaning (Emit u groups.now) self.old self.new) }
         ensures err { OnErr result (IsSame U.meaning self.old self.new) }
     {
         let x = &self.units[u.0 as usize];

@@ -1,6 +1,6 @@
 //! A definition of strong names is entered: the unit, its instances and their names.
 
-ghost use Rattle.std.specs.Prelude.{◌≡◌, ◌<◌, ◌≤◌, ◌+◌, ◌++◌, ◌^◌, ℕ, length, map, true, IfOk, OnOk, OnErr, IfErr};
+ghost use Rattle.std.specs.Prelude.{◌≡◌, ◌<◌, ◌≤◌, ◌+◌, ◌++◌, ◌^◌, ℕ, length, map, None, true, IfOk, OnOk, OnErr, IfErr};
 ghost use Rattle.std.specs.Vec.{vec_len, vec_capacity};
 ghost use Rattle.session_core.specs.Defines.{offered_row, offered_rows, AllStrong, HasRoom, IsDefinable};
 ghost use Rattle.session_core.specs.Meant.{meant};
@@ -11,7 +11,8 @@ ghost use Rattle.orc_ids.specs.declared.ids.UnitId.{UnitId};
 ghost use Rattle.session_core.specs.Moves.{IsReached, IsSame, Moves};
 ghost use Rattle.session_core.specs.Tied.{IsTied};
 ghost use Rattle.session_model.specs.Answer.{answer_define};
-ghost use Rattle.session_model.specs.Change.{Define};
+ghost use Rattle.session_model.specs.Change.{verdicts};
+ghost use Rattle.session_model.specs.declared.change.Change.TheVariants.{Define};
 
 use crate::tables::{TableUnit, Tables};
 use orc_ids::{DylibId, Items, NameId, SymFlags, TrackId, UnitId};
@@ -81,10 +82,11 @@ fn enter<U: UnitKind>(t: &mut Tables<U>, d: DylibId, track: TrackId, unit: U, li
     requires reached { IsReached (meant U.meaning t.old) }
     requires numbered { t.old.entries + 1 < 2 ^ 32 }
     requires strong { AllStrong (U.meaning unit).offers }
+    requires own { (U.meaning unit).source ≡ None }
     requires fits { IsDefinable (meant U.meaning t.old) d.0 (U.meaning unit).offers }
     requires room { HasRoom d.0 (length (U.meaning unit).offers) t.old }
     requires live { live.items ≡ map (λ o. true) (U.meaning unit).offers }
-    ensures { Moves U.meaning (Define d.0 track.0 (U.meaning unit)) t.old t.new }
+    ensures { Moves U.meaning (Define d track (U.meaning unit) (verdicts t.old.rows.items d.0 (U.meaning unit).offers)) t.old t.new }
 {
     unit.known();
     let u = UnitId(t.units.as_slice().len() as u32);
@@ -114,8 +116,9 @@ impl<U: UnitKind> Tables<U> {
         requires reached { IsReached (meant U.meaning self.old) }
         requires numbered { self.old.entries + 1 < 2 ^ 32 }
         requires strong { AreStrong (U.meaning unit).offers }
+        requires own { (U.meaning unit).source ≡ None }
         requires answer { (v : UnitId) × (first : InstId) × (count : ℕ) × (answer_define (meant U.meaning self.old) d t (U.meaning unit) ≡ reply.Defined v first count) }
-        ensures moves { OnOk result (Moves U.meaning (Define d.0 t.0 (U.meaning unit)) self.old self.new) }
+        ensures moves { OnOk result (Moves U.meaning (Define d t (U.meaning unit) (verdicts self.old.rows.items d.0 (U.meaning unit).offers)) self.old self.new) }
         ensures err { OnErr result (IsSame U.meaning self.old self.new) }
         ensures back { IfErr result (λ back. U.meaning back ≡ U.meaning unit) }
     {

@@ -1,7 +1,8 @@
 ghost use Rattle.std.specs.Prelude.{◌≡◌, ℕ, ◌+◌, ◌<◌, ◌≤◌, ◌^◌, cond, List, [], ◌∷◌, length, slice_get, Some};
 ghost use Rattle.session_model.specs.Plain.{UnitRow};
 ghost use Rattle.session_model.specs.declared.rows.UnitPhase.TheVariants as stage;
-ghost use Rattle.session_model.specs.Change.{Nothing, Start, Finish, LetGo, bindings_of};
+ghost use Rattle.session_model.specs.Change.{bindings_of};
+ghost use Rattle.session_model.specs.declared.change.Change.TheVariants.{Nothing, Start, Finish, LetGo};
 ghost use Rattle.session_model.specs.declared.entry.Finishing.{Finishing};
 ghost use Rattle.session_model.specs.declared.rows.Job.{Job};
 ghost use Rattle.session_model.specs.declared.rows.Job.TheVariants as job;
@@ -38,7 +39,7 @@ impl<U: UnitKind> Tables<U> {
         requires numbered { self.old.entries + 1 < 2 ^ 32 }
         requires reached { IsReached (meant U.meaning self.old) }
         requires first { (js : List Job) × ((meant U.meaning self.old).jobs ≡ job.Start u ∷ js) }
-        ensures moves { Moves U.meaning (Start seat.0 u.0) self.old self.new }
+        ensures moves { Moves U.meaning (Start seat u) self.old self.new }
     {
         let _job = self.jobs.pop_front();
         start_in(&mut self.units, u, seat);
@@ -53,7 +54,7 @@ impl<U: UnitKind> Tables<U> {
         requires numbered { self.old.entries + 1 < 2 ^ 32 }
         requires reached { IsReached (meant U.meaning self.old) }
         requires first { (js : List Job) × ((meant U.meaning self.old).jobs ≡ job.Finish u ∷ js) }
-        ensures moves { (how : Finishing) → bindings_of how ≡ bound → Moves U.meaning (Finish seat.0 u.0 how) self.old self.new }
+        ensures moves { (how : Finishing) → bindings_of how ≡ bound → Moves U.meaning (Finish seat u how) self.old self.new }
     {
         let _job = self.jobs.pop_front();
         finish_in(&mut self.units, u, seat, bound);
@@ -67,7 +68,7 @@ impl<U: UnitKind> Tables<U> {
         requires numbered { self.old.entries + 1 < 2 ^ 32 }
         requires reached { IsReached (meant U.meaning self.old) }
         requires gone { (x : UnitRow) × (slice_get (meant U.meaning self.old).units u.0 ≡ Some x) × (x.phase ≡ stage.Defunct) }
-        ensures moves { Moves U.meaning (LetGo seat.0 u.0) self.old self.new }
+        ensures moves { Moves U.meaning (LetGo seat u) self.old self.new }
     {
         let held = release_in(&mut self.units, u, seat);
         self.held = less_if(self.held, held);

@@ -7,9 +7,9 @@ ghost use Rattle.std.specs.VecDeque.{deque_len, deque_capacity};
 ghost use Rattle.orc_ids.specs.declared.lookup.Level.TheVariants as level;
 ghost use Rattle.session_model.specs.Lists.{changed_at};
 ghost use Rattle.session_model.specs.Plain.{UnitRow};
-ghost use Rattle.session_model.specs.Answer.{is_stage};
-ghost use Rattle.session_model.specs.declared.rows.UnitPhase.TheVariants as stage;
-ghost use Rattle.session_model.specs.Change.{Link, link_order, matched};
+ghost use Rattle.session_model.specs.Answer.{can_link};
+ghost use Rattle.session_model.specs.Change.{link_order, linked_matches, matched};
+ghost use Rattle.session_model.specs.declared.change.Change.TheVariants.{Link};
 ghost use Rattle.session_core.specs.Kinds.{is_lodged};
 ghost use Rattle.session_core.specs.Links.{link_unit_reply, linked_units, finish_jobs, IsHeldUnit};
 ghost use Rattle.session_model.specs.declared.entry.Reply.TheVariants as reply;
@@ -33,10 +33,11 @@ use session_model::{Ending, Job, Reply, UnitKind, UnitPhase};
 use std::alloc::{AllocError, Global};
 use std::collections::VecDeque;
 
-fn is_linking(phase: UnitPhase) -> bool
-    ensures { result ≡ is_stage stage.Linking phase }
+fn is_linking<U: UnitKind>(x: &TableUnit<U>) -> bool
+    requires { (U.meaning x.now.unit).source ≡ None }
+    ensures { result ≡ can_link (unit_row U.meaning x.now) }
 {
-    matches!(phase, UnitPhase::Linking)
+    matches!(x.phase, UnitPhase::Linking)
 }
 
 /// The order of the dylib of this number.
@@ -51,6 +52,7 @@ fn order_at(alloc: Global, dylibs: &[TableDylib], d: u32) -> Result<Vec<OrderIte
 
 /// The order of the dylib of a unit's tracker.
 fn order_of<U: UnitKind>(t: &Tables<U>, x: &TableUnit<U>) -> Result<Vec<OrderItem>, AllocError>
+    requires { (U.meaning x.now.unit).source ≡ None }
     ensures { IfOk result (λ order. order.items ≡ link_order (meant U.meaning t.now) (unit_row U.meaning x.now)) }
 {
     match t.trackers.get(x.tracker as usize) {
@@ -79,6 +81,7 @@ fn externals_of<U: UnitKind>(
 fn external_reply<U: UnitKind>(t: &Tables<U>, x: &TableUnit<U>) -> Result<Reply, AllocError>
     requires tied { IsTied U.meaning t.now }
     requires live { length x.now.live ≡ length (U.meaning x.now.unit).offers }
+    requires own { (U.meaning x.now.unit).source ≡ None }
     ensures { IfOk result (λ reply. reply ≡ link_answer (meant U.meaning t.now) (unit_row U.meaning x.now)) }
 {
     let order = order_of(t, x)?;
@@ -98,9 +101,10 @@ fn unit_reply<U: UnitKind>(
 ) -> Result<Reply, AllocError>
     requires tied { IsTied U.meaning t.now }
     requires live { length x.now.live ≡ length (U.meaning x.now.unit).offers }
+    requires own { (U.meaning x.now.unit).source ≡ None }
     ensures { IfOk result (λ reply. reply ≡ link_unit_reply (meant U.meaning t.now) seat.0 u (unit_row U.meaning x.now)) }
 {
-    match turn_away(x, seat, u, is_linking(x.phase)) {
+    match turn_away(x, seat, u, is_linking(x)) {
         Some(reply) => Ok(reply),
         None => external_reply(t, x),
     }
@@ -113,6 +117,7 @@ fn match_externals<U: UnitKind>(
 ) -> Result<Vec<Option<InstId>>, AllocError>
     requires tied { IsTied U.meaning t.now }
     requires live { length x.now.live ≡ length (U.meaning x.now.unit).offers }
+    requires own { (U.meaning x.now.unit).source ≡ None }
     ensures { IfOk result (λ found. found.items ≡ matched (meant U.meaning t.now) (link_order (meant U.meaning t.now) (unit_row U.meaning x.now)) ((U.meaning x.now.unit).externals x.now.live)) }
 {
     let order = order_of(t, x)?;
@@ -176,7 +181,7 @@ fn lodge_link<U: UnitKind>(
     requires unit { IsHeldUnit (meant U.meaning t.old) u.0 }
     requires found { (x : UnitRow) → slice_get (meant U.meaning t.old).units u.0 ≡ Some x → (found.items ≡ matched (meant U.meaning t.old) (link_order (meant U.meaning t.old) x) (x.meaning.externals x.live)) × (is_lodged (link_answer (meant U.meaning t.old) x) ≡ true) }
     requires end { end ≡ fresh_end t.old.rows.items level.Resolved found.items }
-    ensures { Moves U.meaning (Link u.0) t.old t.new }
+    ensures { Moves U.meaning (Link u found.items) t.old t.new }
 {
     let q = t.queries.as_slice().len() as u32;
     let met = end.is_some();
@@ -204,7 +209,7 @@ impl<U: UnitKind> Tables<U> {
         requires reached { IsReached (meant U.meaning self.old) }
         requires numbered { self.old.entries + 1 < 2 ^ 32 }
         requires answer { (q : QueryId) × ((link_reply (meant U.meaning self.old) seat.0 u ≡ reply.Done q) ⊎ (link_reply (meant U.meaning self.old) seat.0 u ≡ reply.Pending q)) }
-        ensures moves { OnOk result (Moves U.meaning (Link u.0) self.old self.new) }
+        ensures moves { OnOk result (Moves U.meaning (Link u (linked_matches (meant U.meaning self.old) u.0)) self.old self.new) }
         ensures err { OnErr result (IsSame U.meaning self.old self.new) }
     {
         let found = match_externals(self, &self.units[u.0 as usize])?;

@@ -3,7 +3,8 @@
 ghost use Rattle.std.specs.Prelude.{◌≡◌, ℕ, ◌<◌, ◌≤◌, ◌+◌, ◌++◌, ◌∷◌, ◌^◌, ◌⊎◌, [], Option, Some, None, length, IfOk, OnOk, OnErr};
 ghost use Rattle.std.specs.Vec.{vec_len, vec_capacity};
 ghost use Rattle.session_model.specs.Query.{addresses, all_at};
-ghost use Rattle.session_model.specs.Change.{Ask};
+ghost use Rattle.session_model.specs.Change.{matched};
+ghost use Rattle.session_model.specs.declared.change.Change.TheVariants.{Ask};
 ghost use Rattle.session_model.specs.Answer.{answer_ask};
 ghost use Rattle.session_core.specs.Lodged.{fresh_end, end_at, still_open, CanLodge, IsLodged};
 ghost use Rattle.session_core.specs.Meant.{meant};
@@ -138,7 +139,7 @@ impl<U: UnitKind> Tables<U> {
         requires reached { IsReached (meant U.meaning self.old) }
         requires numbered { self.old.entries + 1 < 2 ^ 32 }
         requires answer { (q : QueryId) × ((answer_ask (meant U.meaning self.old) order.now wanted.now level ≡ reply.Done q) ⊎ (answer_ask (meant U.meaning self.old) order.now wanted.now level ≡ reply.Pending q)) }
-        ensures moves { OnOk result (Moves U.meaning (Ask order.now wanted.now level note) self.old self.new) }
+        ensures moves { OnOk result (Moves U.meaning (Ask (matched (meant U.meaning self.old) order.now wanted.now) level note) self.old self.new) }
         ensures err { OnErr result (IsSame U.meaning self.old self.new) }
     {
         let found = match_all(self, order, wanted)?;

@@ -48,7 +48,7 @@ impl<U: UnitKind> Tables<U> {
     #[tactic(auto, using(crate::proofs::NameLemmas::absent_row))]
     pub fn row(&self, d: DylibId, name: NameId) -> Option<Row>
         requires tied { IsTied U.meaning self.now }
-        ensures { result ≡ row_of (meant U.meaning self.now) d.0 name.0 }
+        ensures { result ≡ row_of self.now.rows.items d.0 name.0 }
     {
         match self.number_of(d, name) {
             Some(i) => row_seen(&self.rows, i),

@@ -54,7 +54,8 @@ fn define_share<U: UnitKind, const JMAX: usize>(
     t: TrackId,
     unit: &U,
 ) -> Result<Reply, Stop>
-    requires { AreStrong (U.meaning unit.now).offers }
+    requires strong { AreStrong (U.meaning unit.now).offers }
+    requires own { (U.meaning unit.now).source ≡ None }
     ensures { (share : U) × (U.meaning share ≡ U.meaning unit.now) × Performs U.meaning JMAX session.old session.new s (event.Define d t share) result }
 {
     let Ok(share) = unit.share(alloc) else {

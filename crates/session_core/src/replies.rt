@@ -66,6 +66,7 @@ pub fn copy_reply(alloc: Global, r: &Reply) -> Result<Reply, AllocError>
         Reply::Offer(g) => Ok(Reply::Offer(*g)),
         Reply::InError(i) => Ok(Reply::InError(*i)),
         Reply::Missing(name) => Ok(Reply::Missing(*name)),
+        Reply::AliasCycle(i) => Ok(Reply::AliasCycle(*i)),
         Reply::Done(q) => Ok(Reply::Done(*q)),
         Reply::Pending(q) => Ok(Reply::Pending(*q)),
         Reply::Unknown(q) => Ok(Reply::Unknown(*q)),

@@ -1,5 +1,5 @@
 ghost use Rattle.std.specs.Prelude.{◌≡◌, ◌<◌, ◌+◌, ◌^◌, ℕ, map, length, slice_get, unwrap_or, Some};
-ghost use Rattle.session_model.specs.Change.{Resolve};
+ghost use Rattle.session_model.specs.declared.change.Change.TheVariants.{Resolve};
 ghost use Rattle.session_model.specs.declared.entry.Reply.TheVariants as reply;
 ghost use Rattle.session_model.specs.declared.rows.InstRow.{InstRow};
 ghost use Rattle.session_core.specs.Meant.{meant};
@@ -42,7 +42,7 @@ impl<U: UnitKind> Tables<U> {
         requires reached { IsReached (meant U.meaning self.old) }
         requires numbered { self.old.entries + 1 < 2 ^ 32 }
         requires answer { resolve_reply (meant U.meaning self.old) seat.0 u ≡ reply.Resolved }
-        ensures moves { Moves U.meaning (Resolve u.0) self.old self.new }
+        ensures moves { Moves U.meaning (Resolve u) self.old self.new }
     {
         resolve_rows(&mut self.rows, u, &self.units[u.0 as usize]);
         resolve_in(&mut self.units, u);

@@ -5,7 +5,8 @@ ghost use Rattle.session_model.specs.State.{plain_history};
 ghost use Rattle.session_model.specs.History.{IsLegal, HasPlaces};
 ghost use Rattle.session_model.specs.declared.entry.Event.TheVariants as event;
 ghost use Rattle.session_model.specs.Plain.{UnitRow};
-ghost use Rattle.session_model.specs.Answer.{called, Right, unit_shape};
+ghost use Rattle.session_model.specs.Answer.{called, Right};
+ghost use Rattle.session_model.specs.Plain.{unit_shape};
 ghost use Rattle.session_model.specs.declared.entry.Reply.TheVariants as reply;
 ghost use Rattle.session_core.specs.Performs.{state_of, lacks_places, Performs, Collects, Takes};
 ghost use Rattle.session_core.specs.Replies.{may_place, may_emit};
@@ -20,15 +21,15 @@ use crate::tables::Tables;
 use crate::taken::{TakenUnit, Told};
 use code_memory::{Image, Space};
 use orc_ids::{
-    Bytes, DylibId, Groups, Items, Level, NameId, OrderItem, QueryId, SeatNo, Shape, Stop, TrackId,
-    UnitId, Wanted,
+    Bytes, DylibId, ENTRY_LIMIT, Groups, Items, Level, NameId, ORDER_LIMIT, OrderItem, QueryId,
+    SeatNo, Shape, Stop, TrackId, UnitId, WANTED_LIMIT, Wanted,
 };
 use session_model::{Entry, Event, Reply, UnitKind};
 use std::alloc::{AllocError, Global};
 use std::marker::Model;
 
 /// The most entries that a journal can have.
-pub const JOURNAL_LIMIT: usize = 1_048_576;
+pub const JOURNAL_LIMIT: usize = ENTRY_LIMIT;
 
 /// A session, with a journal of at most `JMAX` entries. Contracts see the journal.
 #[derive(Drop)]
@@ -208,6 +209,8 @@ impl<U: UnitKind, const JMAX: usize> Session<U, JMAX> {
         level: Level,
         note: Option<u32>,
     ) -> Result<Reply, Stop>
+        requires order { length order.now ≤ ORDER_LIMIT }
+        requires wanted { length wanted.now ≤ WANTED_LIMIT }
         ensures { Performs U.meaning JMAX self.old self.new s (event.Ask order.now wanted.now level note) result }
     {
         self.check_places(1)?;
@@ -243,9 +246,10 @@ impl<U: UnitKind, const JMAX: usize> Session<U, JMAX> {
     }
 
     /// Defines the unit's symbols in the dylib (ORC: `JITDylib::define`). Each of them is strong and
-    /// exported.
+    /// exported, and the unit is no alias.
     pub fn define(&mut self, s: SeatNo, d: DylibId, t: TrackId, unit: U) -> Offered<U>
-        requires { AreStrong (U.meaning unit).offers }
+        requires strong { AreStrong (U.meaning unit).offers }
+        requires own { (U.meaning unit).source ≡ None }
         ensures performs { (share : U) × (U.meaning share ≡ U.meaning unit) × Performs U.meaning JMAX self.old self.new s (event.Define d t share) result.answer }
         ensures back { HandsBack U.meaning unit result.answer result.back }
     {
@@ -360,7 +364,7 @@ impl<U: UnitKind, const JMAX: usize> Session<U, JMAX> {
         }
     }
 
-    /// Places the unit at the lowest aligned address behind all ranges that were ever given.
+    /// Places the unit at the lowest free base.
     pub fn place(&mut self, s: SeatNo, u: UnitId, shape: Shape) -> Result<Reply, Stop>
         requires { (x : UnitRow) → called (state_of U.meaning self.old) s.0 u may_place ≡ Right x → unit_shape x ≡ Some shape }
         ensures performs { Performs U.meaning JMAX self.old self.new s (event.Place u shape) result }

@@ -1,4 +1,4 @@
-ghost use Rattle.std.specs.Prelude.{◌≡◌, ◌+◌, ◌<◌, ◌^◌, true, false, ◌∷◌, List, slice_get, Some, Ok, IfOk, OnErr, IfErr};
+ghost use Rattle.std.specs.Prelude.{◌≡◌, ◌+◌, ◌<◌, ◌≤◌, ◌^◌, true, false, ◌∷◌, List, length, slice_get, Some, None, Ok, IfOk, OnErr, IfErr};
 ghost use Rattle.session_model.specs.declared.entry.Event.TheVariants as event;
 ghost use Rattle.session_core.specs.Given.{BindsUnit, GivesUnit, HandsBack};
 ghost use Rattle.session_core.specs.Ends.{AreEnds};
@@ -15,7 +15,7 @@ ghost use Rattle.session_model.specs.Meaning.{IsLawful, Meaning};
 ghost use Rattle.session_model.specs.Answer.{called};
 ghost use Rattle.session_model.specs.declared.entry.Reply.{Reply};
 ghost use Rattle.session_model.specs.Plain.{UnitRow};
-ghost use Rattle.session_model.specs.Change.{LetGo, Nothing};
+ghost use Rattle.session_model.specs.declared.change.Change.TheVariants.{LetGo, Nothing};
 ghost use Rattle.session_model.specs.declared.rows.UnitPhase.TheVariants as stage;
 ghost use Rattle.session_core.specs.Steps.{Steps};
 ghost use Rattle.session_core.specs.Stored.{keeps_memory};
@@ -24,7 +24,10 @@ use crate::kinds::{is_defined, is_gone, is_lodged, is_resolved};
 use crate::replies::copy_reply;
 use crate::tables::Tables;
 use crate::taken::TakenUnit;
-use orc_ids::{DylibId, Level, NameId, OrderItem, QueryId, SeatNo, Shape, TrackId, UnitId, Wanted};
+use orc_ids::{
+    DylibId, Level, NameId, ORDER_LIMIT, OrderItem, QueryId, SeatNo, Shape, TrackId, UnitId,
+    WANTED_LIMIT, Wanted,
+};
 use session_model::{Reply, UnitKind};
 use std::alloc::AllocError;
 
@@ -67,7 +70,7 @@ impl<U: UnitKind> Tables<U> {
         requires reached { IsReached (meant U.meaning self.old) }
         requires numbered { self.old.entries + 1 < 2 ^ 32 }
         requires gone { is_gone reply.now ≡ true → (x : UnitRow) × (slice_get (meant U.meaning self.old).units u.0 ≡ Some x) × (x.phase ≡ stage.Defunct) }
-        ensures gone { is_gone reply.now ≡ true → Moves U.meaning (LetGo s.0 u.0) self.old self.new }
+        ensures gone { is_gone reply.now ≡ true → Moves U.meaning (LetGo s u) self.old self.new }
         ensures stays { is_gone reply.now ≡ false → Moves U.meaning Nothing self.old self.new }
     {
         if is_gone(reply) {
@@ -125,6 +128,8 @@ impl<U: UnitKind> Tables<U> {
         requires tied { IsTied U.meaning self.old }
         requires reached { IsReached (meant U.meaning self.old) }
         requires numbered { self.old.entries + 1 < 2 ^ 32 }
+        requires order { length order.now ≤ ORDER_LIMIT }
+        requires wanted { length wanted.now ≤ WANTED_LIMIT }
         ensures steps { IfOk result (λ said. Steps U.meaning s (event.Ask order.now wanted.now level note) said.reply self.old self.new) }
         ensures entry { IfOk result (λ said. said.entry ≡ said.reply) }
         ensures err { OnErr result (IsSame U.meaning self.old self.new) }
@@ -236,6 +241,7 @@ impl<U: UnitKind> Tables<U> {
         requires reached { IsReached (meant U.meaning self.old) }
         requires numbered { self.old.entries + 1 < 2 ^ 32 }
         requires strong { AreStrong (U.meaning unit).offers }
+        requires own { (U.meaning unit).source ≡ None }
         ensures steps { IfOk result (λ x. Steps U.meaning s (event.Define d t (U.meaning unit)) x.said.reply self.old self.new) }
         ensures entry { IfOk result (λ x. x.said.entry ≡ x.said.reply) }
         ensures share { IfOk result (λ x. U.meaning x.share ≡ U.meaning unit) }

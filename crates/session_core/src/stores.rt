@@ -1,14 +1,14 @@
 //! The events that place a unit in code memory and fill its range.
 ghost use Rattle.std.specs.Prelude.{◌≡◌, ℕ, List, ◌+◌, ◌<◌, ◌^◌, length, true, false, Some, IfOk, OnErr, IsSomeAnd};
 ghost use Rattle.code_memory.specs.Places.{placement_of, with_bytes};
-ghost use Rattle.std.specs.Vec.{vec_capacity};
 ghost use Rattle.session_model.specs.Meaning.{Meaning};
 ghost use Rattle.session_model.specs.Plain.{UnitRow};
 ghost use Rattle.session_model.specs.State.{state};
 ghost use Rattle.session_model.specs.History.{IsLegal};
 ghost use Rattle.session_model.specs.declared.entry.Entry.{Entry};
 ghost use Rattle.session_core.specs.Ends.{AreEnds};
-ghost use Rattle.session_model.specs.Answer.{called, Right, unit_shape};
+ghost use Rattle.session_model.specs.Answer.{called, Right};
+ghost use Rattle.session_model.specs.Plain.{unit_shape};
 ghost use Rattle.session_model.specs.declared.entry.Event.TheVariants as event;
 ghost use Rattle.session_core.specs.Given.{IsFinish, IsLowest};
 ghost use Rattle.session_core.specs.Meant.{meant};
@@ -48,10 +48,7 @@ pub fn step_place<U: UnitKind>(
 {
     match t.reply_place(s, u) {
         Some(reply) => Ok(t.step_turned_away(s, u, shape, reply)?),
-        None => {
-            t.room_to_place()?;
-            Ok(place_unit(t, space, s, u, shape)?)
-        }
+        None => place_unit(t, space, s, u, shape),
     }
 }
 
@@ -67,7 +64,6 @@ fn place_unit<U: UnitKind>(
     requires reached { IsReached (meant U.meaning t.old) }
     requires numbered { t.old.entries + 1 < 2 ^ 32 }
     requires stored { IsStored (meant U.meaning t.old) space.old }
-    requires room { length t.old.taken.items < vec_capacity t.old.taken }
     requires right { (x : UnitRow) × (called (meant U.meaning t.old) _s.0 u may_place ≡ Right x) × (unit_shape x ≡ Some shape) }
     ensures steps { IfOk result (λ said. Steps U.meaning _s (event.Place u shape) said.reply t.old t.new) }
     ensures entry { IfOk result (λ said. said.entry ≡ said.reply) }
@@ -78,7 +74,7 @@ fn place_unit<U: UnitKind>(
     t.know(u);
     match space.place(u, shape) {
         Ok(base) => {
-            t.place(u, shape, base);
+            t.place(u, base);
             Ok(Said {
                 reply: Reply::Placed(base),
                 entry: Reply::Placed(base),

@@ -7,7 +7,7 @@ use crate::dylib_table::DylibTable;
 use crate::ready::Search;
 use orc_ids::{InstId, Items};
 use session_model::{
-    Dylib, Ending, InstRow, Job, Matches, Order, Query, Range, Track, UnitKind, UnitPhase,
+    Dylib, Ending, InstRow, Job, Matches, Order, Query, Track, UnitKind, UnitPhase,
 };
 use std::alloc::Global;
 use std::collections::{HashMap, VecDeque};
@@ -67,7 +67,6 @@ pub struct Tables<U> {
     pub unsettled: Vec<OpenQuery>,
     /// Oldest first.
     pub jobs: VecDeque<Job>,
-    pub taken: Vec<Range>,
     /// How many units are held.
     pub held: u32,
     /// The memory of every search, with room for all instances.
@@ -91,7 +90,6 @@ impl<U: UnitKind> Tables<U> {
             ends: Vec::new(alloc),
             unsettled: Vec::new(alloc),
             jobs: VecDeque::new(alloc),
-            taken: Vec::new(alloc),
             held: 0,
             search: Search::new(alloc),
         }

@@ -27,6 +27,7 @@ impl UnitKind for Main {
       offers = (record { 0 = 0 }, record { weak = false; common = false; exported = true; callable = true }) ∷ [];
       shape = λ live. Some (record { need = 48; align = 16 });
       address = λ k base. base;
+      source = None;
       externals = λ live. cond (unwrap_or (slice_get live 0) true) [] (record { name = record { 0 = 0 }; weak = false } ∷ []);
       image = λ live base bound. replicate 48 7;
       groups = λ live base bound own. record { members = own; deps = [] } ∷ [];
@@ -47,6 +48,10 @@ impl UnitKind for Main {
             callable: true,
         };
         (NameId(0), flags)
+    }
+
+    fn source(&self) -> Option<DylibId> {
+        None
     }
 
     fn share(&self, _alloc: Global) -> Result<Main, AllocError> {

@@ -1,26 +1,23 @@
 -- A unit that is linked has the end of its link query, so a take always has an answer.
-use Rattle.std.proofs.Common.{◌≡◌, ℕ, suc, ◌+◌, true, false, ◌&&◌, ◌==◌, nat_eq, map, List, [], ◌∷◌, ◌++◌, length, slice_get, ◌⊎◌, inl, inr, subst, sym, refl, ap, ◌∙◌, Option, Some, None, unwrap_or}
+use Rattle.session_laws.proofs.Resting.{change_before}
+use Rattle.session_model.specs.Change.{linked_unit}
+use Rattle.std.proofs.Common.{◌≡◌, ℕ, suc, ◌+◌, true, ◌&&◌, List, [], ◌∷◌, ◌++◌, length, slice_get, ◌⊎◌, inl, inr, subst, sym, refl, ap, ◌∙◌, Option, Some, None}
 use Rattle.std.specs.Bool.{if◌then◌else◌}
 use Rattle.std.specs.Option.{option_map_or}
 use Rattle.std.proofs.lemmas.Bool.{both_ways, and_parts}
 use Rattle.std.proofs.lemmas.Option.{none-some}
-use Rattle.orc_ids.specs.declared.ids.InstId.{InstId}
-use Rattle.session_model.specs.Lists.{changed_at, numbered}
-use Rattle.session_model.specs.Plain.{Plain, UnitRow, GenRow, is_unsearched, is_owned}
+use Rattle.session_model.specs.Plain.{Plain, UnitRow}
 use Rattle.session_model.specs.declared.entry.Reply.TheVariants as reply
-use Rattle.session_model.specs.declared.rows.InstRow.{InstRow}
 use Rattle.session_model.specs.declared.rows.Job.TheVariants as job
-use Rattle.session_model.specs.declared.rows.Phase.TheVariants as phase
 use Rattle.session_model.specs.declared.rows.UnitPhase.TheVariants as stage
 use Rattle.std.proofs.Common.{arith, append_assoc, append-nil}
-use Rattle.session_model.specs.Change.{bindings_of, settled, finish_listed, waits_for, claimed}
-use Rattle.session_laws.proofs.Elements.{changed_cases, same_element, numbered_parts, mapped_parts}
+use Rattle.session_model.specs.Change.{settled, finish_listed, waits_for}
+use Rattle.session_laws.proofs.Elements.{changed_cases, same_element}
 use Rattle.session_laws.proofs.Settling.{chosen}
 use Rattle.session_model.specs.Meaning.{Meaning}
 use Rattle.session_model.specs.Query.{is_met}
-use Rattle.session_model.specs.Change.{kept_names, without_replaced, defined, all_claimed, claimed_for, matched, settled_from}
-use Rattle.session_laws.proofs.Elements.{pushed_cases}
-use Rattle.session_model.specs.Change.{Change, Nothing, MakeDylib, MakeTracker, SetOrder, Attach, Define, Generate, Spend, Ask, Start, Finish, Place, Resolve, Link, Emit, Fail, Move, Remove, LetGo, change_of, changed, link_order}
+use Rattle.session_model.specs.Change.{settled_from}
+use Rattle.session_model.specs.Change.{change_of, changed}
 use Rattle.session_model.specs.Answer.{Answers, AnswersTake, AnswersFinish}
 use Rattle.session_model.specs.declared.entry.Entry.{Entry}
 use Rattle.session_model.specs.declared.entry.Event.TheVariants as event
@@ -28,9 +25,8 @@ use Rattle.session_model.specs.declared.entry.Finishing.TheVariants as finishing
 use Rattle.session_model.specs.declared.entry.Reply.{Reply}
 use Rattle.session_model.specs.Plain.{empty}
 use Rattle.session_model.specs.State.{after, state}
-use Rattle.session_model.specs.Change.{removed, spent}
 use Rattle.session_laws.proofs.Along.{state_from_push}
-use Rattle.session_laws.proofs.Invariant.{legal_is_sound, link_unit}
+use Rattle.session_laws.proofs.Invariant.{legal_is_sound}
 use Rattle.session_laws.proofs.Settling.{settled_rows, settled_queries}
 use Rattle.std.proofs.Common.{take, le_refl}
 use Rattle.std.proofs.lemmas.List.{take_all}
@@ -70,106 +66,6 @@ settling_keeps_at P all step j (q ∷ qs) at m p = settling_keeps_at P all step 
         split (Some u) e = chosen P (is_met m.rows q && waits_for m u j) (finish_listed u m) m
             (λ b. let parts = and_parts (is_met m.rows q) (waits_for m u j) b in step u j q m t p parts.1 parts.0 e) (λ b. p)
 
--- Which units are linked
-
--- a linked unit was so before, with the same query
-abbrev pub LinkedBefore : List UnitRow → List UnitRow → Type 0
-LinkedBefore units new = (u : ℕ) (y : UnitRow) → slice_get new u ≡ Some y → y.phase ≡ stage.Linked → (x : UnitRow) × (slice_get units u ≡ Some x) × (x.phase ≡ stage.Linked) × (x.query ≡ y.query)
-
-before_same : (units : List UnitRow) → LinkedBefore units units
-before_same units u y t e = (y, t, e, refl)
-
-before_again : (units new newer : List UnitRow) → LinkedBefore units new → LinkedBefore new newer → LinkedBefore units newer
-before_again units new newer f g u y t e = let p = g u y t e in let q = f u p.0 p.1 p.2 in (q.0, q.1, q.2, q.3 ∙ p.3)
-
-before_at : (units : List UnitRow) (v : ℕ) (f : UnitRow → UnitRow) → ((x : UnitRow) → (f x).phase ≡ stage.Linked → ⊥) → LinkedBefore units (changed_at v f units)
-before_at units v f none u y t e = split (changed_cases v f units u y t)
-  where
-    split : ((u ≡ v) × ((x : UnitRow) × (slice_get units u ≡ Some x) × (y ≡ f x))) ⊎ ((u ≡ v → ⊥) × (slice_get units u ≡ Some y)) → (x : UnitRow) × (slice_get units u ≡ Some x) × (x.phase ≡ stage.Linked) × (x.query ≡ y.query)
-    split (inl p) = absurd (none p.1.0 (ap (λ (z : UnitRow). z.phase) (sym p.1.2) ∙ e))
-    split (inr p) = (y, p.1, e, refl)
-
--- where phase and query stay
-before_kept : (units new : List UnitRow) (f : ℕ → UnitRow → UnitRow) → ((u : ℕ) (y : UnitRow) → slice_get new u ≡ Some y → y.phase ≡ stage.Linked → (x : UnitRow) × (slice_get units u ≡ Some x) × (y ≡ f u x)) →
-    ((u : ℕ) (x : UnitRow) → (f u x).phase ≡ stage.Linked → (x.phase ≡ stage.Linked) × (x.query ≡ (f u x).query)) → LinkedBefore units new
-before_kept units new f from same u y t e = let p = from u y t e in let q = same u p.0 (ap (λ (z : UnitRow). z.phase) (sym p.2) ∙ e) in
-    (p.0, p.1, q.0, q.1 ∙ ap (λ (z : UnitRow). z.query) (sym p.2))
-
-defined_before : (m : Plain) (d t : ℕ) (v : Meaning) → LinkedBefore m.units (defined m d t v).units
-defined_before m d t v = before_kept m.units (defined m d t v).units (without_replaced m d v) from (λ u x e. (e, refl))
-  where
-    new : UnitRow
-    new = record { meaning = v; tracker = t; live = kept_names m d v; phase = stage.Unclaimed; seat = None; base = None; query = None; bound = None }
-
-    from : (u : ℕ) (y : UnitRow) → slice_get (defined m d t v).units u ≡ Some y → y.phase ≡ stage.Linked → (x : UnitRow) × (slice_get m.units u ≡ Some x) × (y ≡ without_replaced m d v u x)
-    from u y k e = split (pushed_cases (numbered (without_replaced m d v) 0 m.units) new u y k)
-      where
-        split : (slice_get (numbered (without_replaced m d v) 0 m.units) u ≡ Some y) ⊎ ((u ≡ length (numbered (without_replaced m d v) 0 m.units)) × (y ≡ new)) → (x : UnitRow) × (slice_get m.units u ≡ Some x) × (y ≡ without_replaced m d v u x)
-        split (inl a) = numbered_parts (without_replaced m d v) m.units u y a
-        split (inr a) = absurd (let c : stage.Unclaimed ≡ stage.Linked = ap (λ (z : UnitRow). z.phase) (sym a.1) ∙ e in cc)
-
-claim_before : (i : InstId) (m : Plain) → LinkedBefore m.units (claimed_for i m).units
-claim_before i m = split (slice_get m.rows i.0)
-  where
-    split : (o : Option InstRow) → LinkedBefore m.units (option_map_or (λ (r : InstRow). if is_unsearched r.phase then claimed r.unit.0 m else m) o m).units
-    split None = before_same m.units
-    split (Some r) = chosen (λ n. LinkedBefore m.units n.units) (is_unsearched r.phase) (claimed r.unit.0 m) m (λ b. before_at m.units r.unit.0 (λ y. record y { phase = stage.Listed }) (λ x e. cc)) (λ b. before_same m.units)
-
-claims_before : (os : List (Option InstId)) (m : Plain) → LinkedBefore m.units (all_claimed os m).units
-claims_before [] m = before_same m.units
-claims_before (None ∷ os) m = claims_before os m
-claims_before (Some i ∷ os) m = before_again m.units (claimed_for i m).units (all_claimed os (claimed_for i m)).units (claim_before i m) (claims_before os (claimed_for i m))
-
-change_before : (c : Change) (m : Plain) → LinkedBefore m.units (changed c m).units
-change_before Nothing m = before_same m.units
-change_before (MakeDylib name) m = before_same m.units
-change_before (MakeTracker d) m = before_same m.units
-change_before (SetOrder d order) m = before_same m.units
-change_before (Attach d t u) m = before_same m.units
-change_before (Define d t u) m = defined_before m d t u
-change_before (Generate k) m = split (slice_get m.generators k)
-  where
-    split : (o : Option GenRow) → LinkedBefore m.units (option_map_or (λ x. spent k (defined m x.dylib x.tracker x.meaning)) o m).units
-    split None = before_same m.units
-    split (Some x) = defined_before m x.dylib x.tracker x.meaning
-change_before (Spend k) m = before_same m.units
-change_before (Ask order wanted lev w) m = claims_before (matched m order wanted) m
-change_before (Start t u) m = before_at m.units u (λ x. record x { phase = stage.Started; seat = Some t }) (λ x e. cc)
-change_before (Finish t u how) m = before_at m.units u (λ x. record x { phase = stage.Finishing; seat = Some t; bound = bindings_of how }) (λ x e. cc)
-change_before (Place u shape base) m = before_at m.units u (λ x. record x { phase = stage.Placed; base = Some base }) (λ x e. cc)
-change_before (Resolve u) m = split (slice_get m.units u)
-  where
-    split : (o : Option UnitRow) → LinkedBefore m.units (option_map_or (λ (x : UnitRow). record m {
-      rows = map (λ (r : InstRow). record r { phase = if is_owned u r then phase.Resolved (x.meaning.address r.offer (unwrap_or x.base 0)) else r.phase }) m.rows;
-      units = changed_at u (λ y. record y { phase = stage.Linking }) m.units;
-    }) o m).units
-    split None = before_same m.units
-    split (Some x) = before_at m.units u (λ y. record y { phase = stage.Linking }) (λ y e. cc)
-change_before (Link u) m = split (slice_get m.units u)
-  where
-    split : (o : Option UnitRow) → LinkedBefore m.units (option_map_or (link_unit m u) o m).units
-    split None = before_same m.units
-    split (Some x) = before_again m.units (all_claimed (matched m (link_order m x) (x.meaning.externals x.live)) m).units (link_unit m u x).units (claims_before (matched m (link_order m x) (x.meaning.externals x.live)) m)
-        (before_at (all_claimed (matched m (link_order m x) (x.meaning.externals x.live)) m).units u (λ y. record y { phase = stage.Waiting; seat = None; query = Some (length m.queries) }) (λ y e. cc))
-change_before (Emit u groups) m = before_at m.units u (λ x. record x { phase = stage.Done; seat = None }) (λ x e. cc)
-change_before (Fail u) m = before_at m.units u (λ x. record x { phase = stage.Failed; seat = None; base = None }) (λ x e. cc)
-change_before (Move t to) m = chosen (λ k. LinkedBefore m.units k.units) (t == to) m (record m {
-  units = map (λ (x : UnitRow). record x { tracker = if x.tracker == t then to else x.tracker }) m.units;
-  generators = map (λ (x : GenRow). record x { tracker = if x.tracker == t then to else x.tracker }) m.generators;
-  trackers = changed_at t (λ x. record x { gone = true }) m.trackers;
-})
-    (λ b. before_same m.units)
-    (λ b. before_kept m.units (map (λ (x : UnitRow). record x { tracker = if x.tracker == t then to else x.tracker }) m.units) (λ u x. record x { tracker = if x.tracker == t then to else x.tracker })
-    (λ u y k e. mapped_parts (λ (x : UnitRow). record x { tracker = if x.tracker == t then to else x.tracker }) m.units u y k) (λ u x e. (e, refl)))
-change_before (Remove t) m = before_kept m.units (removed t m).units (λ u x. record x { phase = if x.tracker == t then stage.Defunct else x.phase; base = if x.tracker == t then None else x.base })
-    (λ u y k e. mapped_parts (λ (x : UnitRow). record x { phase = if x.tracker == t then stage.Defunct else x.phase; base = if x.tracker == t then None else x.base }) m.units u y k)
-    (λ u x. chosen (λ p. p ≡ stage.Linked → (x.phase ≡ stage.Linked) × (x.query ≡ x.query)) (x.tracker == t) stage.Defunct x.phase (λ b e. absurd (cc)) (λ b e. (e, refl)))
-change_before (LetGo t u) m = λ v y k e. split v y e (changed_cases u (λ x. record x { seat = if option_map_or (nat_eq t) x.seat false then None else x.seat }) m.units v y k)
-  where
-    split : (v : ℕ) (y : UnitRow) → y.phase ≡ stage.Linked → ((v ≡ u) × ((x : UnitRow) × (slice_get m.units v ≡ Some x) × (y ≡ record x { seat = if option_map_or (nat_eq t) x.seat false then None else x.seat }))) ⊎ ((v ≡ u → ⊥) × (slice_get m.units v ≡ Some y)) → (x : UnitRow) × (slice_get m.units v ≡ Some x) × (x.phase ≡ stage.Linked) × (x.query ≡ y.query)
-    split v y e (inl p) = (p.1.0, p.1.1, ap (λ (z : UnitRow). z.phase) (sym p.1.2) ∙ e, ap (λ (z : UnitRow). z.query) (sym p.1.2))
-    split v y e (inr p) = (y, p.1, e, refl)
-
 -- a linked unit's query is met now, or the unit was linked before
 abbrev pub LinkedBy : Plain → List UnitRow → Type 0
 LinkedBy m units = (u : ℕ) (y : UnitRow) → slice_get units u ≡ Some y → y.phase ≡ stage.Linked →
@@ -185,9 +81,9 @@ settled_by m = (settling_keeps_at (λ n. (n.rows ≡ m.rows) × LinkedBy m n.uni
         same i = omega arith
 
     step : (v k : ℕ) (q : Query) (n : Plain) → slice_get m.queries k ≡ Some q → (n.rows ≡ m.rows) × LinkedBy m n.units → waits_for n v k ≡ true → is_met n.rows q ≡ true → q.unit ≡ Some v → (n.rows ≡ m.rows) × LinkedBy m (finish_listed v n).units
-    step v k q n t p w met e = (p.0, λ u y a b. split u y b (changed_cases v (λ z. record z { phase = stage.Linked }) n.units u y a))
+    step v k q n t p w met e = (p.0, λ u y a b. split u y b (changed_cases v linked_unit n.units u y a))
       where
-        split : (u : ℕ) (y : UnitRow) → y.phase ≡ stage.Linked → ((u ≡ v) × ((x : UnitRow) × (slice_get n.units u ≡ Some x) × (y ≡ record x { phase = stage.Linked }))) ⊎ ((u ≡ v → ⊥) × (slice_get n.units u ≡ Some y)) →
+        split : (u : ℕ) (y : UnitRow) → y.phase ≡ stage.Linked → ((u ≡ v) × ((x : UnitRow) × (slice_get n.units u ≡ Some x) × (y ≡ linked_unit x))) ⊎ ((u ≡ v → ⊥) × (slice_get n.units u ≡ Some y)) →
             ((x : UnitRow) × (slice_get m.units u ≡ Some x) × (x.phase ≡ stage.Linked) × (x.query ≡ y.query)) ⊎ ((k : ℕ) × (q : Query) × (y.query ≡ Some k) × (slice_get m.queries k ≡ Some q) × (is_met m.rows q ≡ true))
         split u y b (inl c) = let z = waiting_parts n v k w in
             let same = same_element (slice_get n.units v) z.0 c.1.0 z.1 (ap (slice_get n.units) (sym c.0) ∙ c.1.1) in
@@ -203,7 +99,7 @@ one_more_ends : (h : List (Entry Meaning)) (e : Entry Meaning) → LinkedEnds h 
 one_more_ends h e old u y t is = split (settled_by now u y (ap (λ m. slice_get m.units u) (sym leads) ∙ t) is)
   where
     now : Plain
-    now = changed (change_of e.seat.0 e.event e.reply) (state h)
+    now = changed (change_of (state h) e.seat.0 e.event e.reply) (state h)
 
     leads : state (h ++ e ∷ []) ≡ after (state h) e
     leads = state_from_push empty h e
@@ -225,7 +121,7 @@ one_more_ends h e old u y t is = split (settled_by now u y (ap (λ m. slice_get 
         finished (inr x) = (p.0, p.2, x.0, x.1, x.2)
 
     split : ((x : UnitRow) × (slice_get now.units u ≡ Some x) × (x.phase ≡ stage.Linked) × (x.query ≡ y.query)) ⊎ ((k : ℕ) × (q : Query) × (y.query ≡ Some k) × (slice_get now.queries k ≡ Some q) × (is_met now.rows q ≡ true)) → (k : ℕ) × (y.query ≡ Some k) × (n : ℕ) × (end : Ending) × IsEnd (h ++ e ∷ []) k n end
-    split (inl p) = let b = change_before (change_of e.seat.0 e.event e.reply) (state h) u p.0 p.1 p.2 in kept (b.0, b.1, b.2, b.3 ∙ p.3)
+    split (inl p) = let b = change_before stage.Linked refl (change_of (state h) e.seat.0 e.event e.reply) (inr (λ w. cc)) (state h) u p.0 p.1 p.2 in kept (b.unit, b.there, b.phase_is, b.query ∙ p.3)
     split (inr p) = met_now p
 
 all_ends : (past h : List (Entry Meaning)) → LinkedEnds past → LinkedEnds (past ++ h)

@@ -1,17 +1,15 @@
 -- An event has at most one right reply, but for the base of a place.
-use Rattle.std.proofs.Common.{◌≡◌, ℕ, ◌≤◌, true, false, ◌&&◌, ◌||◌, List, [], ◌∷◌, slice_get, length, subst, sym, refl, ap, ap₂, ◌∙◌, Some, is_some, is_none, arith}
+use Rattle.std.proofs.Common.{◌≡◌, ℕ, ◌≤◌, true, false, List, [], ◌∷◌, slice_get, length, subst, sym, refl, ap, ap₂, ◌∙◌, Some, arith}
 use Rattle.std.proofs.lemmas.Bool.{both_ways}
 use Rattle.std.proofs.lemmas.Option.{same_Some}
 use Rattle.orc_ids.specs.declared.ids.InstId.{InstId}
 use Rattle.orc_ids.specs.declared.ids.QueryId.{QueryId}
 use Rattle.orc_ids.specs.declared.ids.UnitId.{UnitId}
-use Rattle.orc_ids.specs.declared.lookup.Level.TheVariants as level
 use Rattle.orc_ids.specs.declared.place.Shape.{Shape}
 use Rattle.session_model.specs.Meaning.{Meaning, Bindings}
-use Rattle.session_model.specs.Plain.{Plain, UnitRow}
-use Rattle.session_model.specs.Change.{link_order}
+use Rattle.session_model.specs.Plain.{Plain, UnitRow, unit_shape}
 use Rattle.session_model.specs.State.{state, IsEnd}
-use Rattle.session_model.specs.Answer.{AnswersCall, AnswersTake, AnswersFinish, AnswersCollect, AnswersPlace, AnswersEmit, HasCause, LinkEnded, called, Called, Gone, Wrong, Right, is_stage, unit_shape, answer_lookup}
+use Rattle.session_model.specs.Answer.{AnswersCall, AnswersTake, AnswersFinish, AnswersCollect, AnswersPlace, AnswersEmit, HasCause, LinkEnded, called, Called, Gone, Wrong, Right, answer_link, can_place, can_resolve, can_link, can_emit}
 use Rattle.session_model.specs.declared.entry.Entry.{Entry}
 use Rattle.session_model.specs.declared.entry.Event.TheVariants as event
 use Rattle.session_model.specs.declared.entry.Finishing.TheVariants as finishing
@@ -19,7 +17,6 @@ use Rattle.session_model.specs.declared.entry.Reply.{Reply}
 use Rattle.session_model.specs.declared.entry.Reply.TheVariants as reply
 use Rattle.session_model.specs.declared.rows.Job.{Job}
 use Rattle.session_model.specs.declared.rows.Job.TheVariants as job
-use Rattle.session_model.specs.declared.rows.UnitPhase.TheVariants as stage
 use Rattle.session_laws.proofs.Elements.{same_element, element_below}
 use Rattle.session_laws.proofs.Ending.{end_is_unique}
 use Rattle.session_laws.specs.Replies.{is_placed, ReplyIsDetermined}
@@ -111,21 +108,18 @@ no_room m shape _ n x = absurd x
 
 pub reply_is_determined : ReplyIsDetermined
 reply_is_determined jmax h s (event.Dylib name) a b x y p q = x ∙ sym y
-reply_is_determined jmax h s (event.SetOrder d order) a b x y p q = x ∙ sym y
-reply_is_determined jmax h s (event.Attach d t u) a b x y p q = x ∙ sym y
-reply_is_determined jmax h s (event.Define d t u) a b x y p q = x ∙ sym y
+reply_is_determined jmax h s (event.SetOrder d order) a b x y p q = x.1 ∙ sym y.1
+reply_is_determined jmax h s (event.Attach d t u) a b x y p q = x.1 ∙ sym y.1
+reply_is_determined jmax h s (event.Define d t u) a b x y p q = x.1 ∙ sym y.1
 reply_is_determined jmax h s (event.Generate g) a b x y p q = x ∙ sym y
-reply_is_determined jmax h s (event.Ask order wanted lev n) a b x y p q = x ∙ sym y
+reply_is_determined jmax h s (event.Ask order wanted lev n) a b x y p q = x.2 ∙ sym y.2
 reply_is_determined jmax h s (event.Collect k) a b x y p q = collect_one h k.0 a b x y
 reply_is_determined jmax h s event.Take a b x y p q = take_one h (state h) (state h).jobs a b x y
-reply_is_determined jmax h s (event.Place u shape) a b x y p q = call_one (called (state h) s u (λ r. is_stage stage.Started r.phase && is_some (unit_shape r))) u
+reply_is_determined jmax h s (event.Place u shape) a b x y p q = call_one (called (state h) s u can_place) u
     (λ r c. (unit_shape r ≡ Some shape) × AnswersPlace (state h) shape c) a b (λ r k l. no_room (state h) shape a p k.1 ∙ sym (no_room (state h) shape b q l.1)) x y
-reply_is_determined jmax h s (event.Resolve u) a b x y p q = call_one (called (state h) s u (λ r. is_stage stage.Placed r.phase || is_stage stage.Started r.phase && is_none (unit_shape r))) u
-    (λ r c. c ≡ reply.Resolved) a b (λ r k l. k ∙ sym l) x y
-reply_is_determined jmax h s (event.Link u) a b x y p q = call_one (called (state h) s u (λ r. is_stage stage.Linking r.phase)) u
-    (λ r c. c ≡ answer_lookup (state h) (link_order (state h) r) (r.meaning.externals r.live) level.Resolved) a b (λ r k l. k ∙ sym l) x y
-reply_is_determined jmax h s (event.Emit u groups) a b x y p q = call_one (called (state h) s u (λ r. is_stage stage.Finishing r.phase && is_some r.bound)) u
-    (λ r c. AnswersEmit (state h) u.0 groups r c) a b (λ r k l. k.2 ∙ sym l.2) x y
+reply_is_determined jmax h s (event.Resolve u) a b x y p q = call_one (called (state h) s u can_resolve) u (λ r c. c ≡ reply.Resolved) a b (λ r k l. k ∙ sym l) x y
+reply_is_determined jmax h s (event.Link u) a b x y p q = call_one (called (state h) s u can_link) u (λ r c. c ≡ answer_link (state h) u.0 r) a b (λ r k l. k ∙ sym l) x y
+reply_is_determined jmax h s (event.Emit u groups) a b x y p q = call_one (called (state h) s u can_emit) u (λ r c. AnswersEmit (state h) u.0 groups r c) a b (λ r k l. k.2 ∙ sym l.2) x y
 reply_is_determined jmax h s (event.Fail u cause) a b x y p q = call_one (called (state h) s u (λ r. true)) u
     (λ r c. HasCause jmax h (state h) u.0 r cause × (c ≡ reply.Failed)) a b (λ r k l. k.1 ∙ sym l.1) x y
 reply_is_determined jmax h s (event.Tracker d) a b x y p q = x ∙ sym y

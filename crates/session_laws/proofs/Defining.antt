@@ -1,7 +1,6 @@
 -- Defining a unit, claiming, lodging a query, moving a tracker and settling keep the invariant.
 use Rattle.std.proofs.Common.{◌≡◌, ℕ, zero, suc, ◌+◌, Bool, true, false, not, ◌&&◌, ◌||◌, nat_eq, map, List, [], ◌∷◌, ◌++◌, length, slice_get, Contains, ◌⊎◌, inl, inr, subst, sym, refl, ap, ◌∙◌, Option, Some, None, option_map}
 use Rattle.std.specs.Bool.{if◌then◌else◌}
-use Rattle.std.specs.List.{list_any}
 use Rattle.std.specs.Option.{option_map_or}
 use Rattle.std.proofs.lemmas.Bool.{both_ways, eqb-true, and_parts, and_from, or_cases, not-false, not_from_false}
 use Rattle.std.proofs.lemmas.Option.{none-some, same_Some}
@@ -26,35 +25,35 @@ use Rattle.orc_ids.specs.declared.flags.SymFlags.{SymFlags}
 use Rattle.session_model.specs.Meaning.{Meaning}
 use Rattle.session_model.specs.declared.rows.Row.{Row}
 use Rattle.session_model.specs.Match.{row_of}
-use Rattle.session_model.specs.Change.{verdict, verdict_on, is_kept, replaced_by, is_replaced, is_strong, kept_names, new_rows, without_replaced, defined, all_claimed, claimed_for}
+use Rattle.session_model.specs.Change.{verdict, verdicts, verdict_on, is_kept, replaced_by, is_replaced, is_strong, unreplaced_row, new_row, new_rows, new_unit, without_replaced, defined, all_claimed, claimed_for, claimed_row}
 use Rattle.session_laws.proofs.Changes.{sound_claimed, sound_linked}
 use Rattle.session_laws.proofs.Elements.{appended_cases, pushed_cases, pushed_last, front_some, numbered_length, numbered_some}
 use Rattle.session_laws.proofs.Settling.{settling_keeps}
 use Rattle.session_model.specs.declared.rows.Query.{Query}
+use Rattle.session_model.specs.declared.rows.Verdict.{Verdict}
+use Rattle.session_laws.specs.Sound.{row_stage, fits}
+use Rattle.session_laws.proofs.RowStages.{row_is, unclaimed_row}
 use Rattle.session_model.specs.declared.rows.Verdict.TheVariants.{Kept, Replaces, Discarded, Clashes}
 
 -- Defining
 
 -- only unsearched instances are replaced
-pub replaced_unsearched : (m : Plain) (d : ℕ) (v : Meaning) (i : ℕ) → is_replaced m d v i ≡ true → unsearched_at m.rows i ≡ true
-replaced_unsearched m d v i e = any_offer v.offers e
+pub replaced_unsearched : (rows : List InstRow) (d : ℕ) (offers : List (NameId × SymFlags)) (i : ℕ) → is_replaced (verdicts rows d offers) i ≡ true → unsearched_at rows i ≡ true
+replaced_unsearched rows d [] i h = absurd (both_ways false refl h)
+replaced_unsearched rows d (offer ∷ offers) i h = split (or_cases (option_map_or (nat_eq i) (replaced_by (verdict rows d offer)) false) (is_replaced (verdicts rows d offers) i) h) (replaced_unsearched rows d offers i)
   where
-    by_verdict : (flags : SymFlags) (o : Option Row) → option_map_or (nat_eq i) (replaced_by (option_map_or (verdict_on m flags) o Kept)) false ≡ true → unsearched_at m.rows i ≡ true
+    by_verdict : (flags : SymFlags) (o : Option Row) → option_map_or (nat_eq i) (replaced_by (option_map_or (verdict_on rows flags) o Kept)) false ≡ true → unsearched_at rows i ≡ true
     by_verdict flags None h = absurd (both_ways false refl h)
-    by_verdict flags (Some old) h = chosen (λ w. option_map_or (nat_eq i) (replaced_by w) false ≡ true → unsearched_at m.rows i ≡ true) (not (is_strong flags)) Discarded
-        (if is_strong old.flags || not (unsearched_at m.rows old.inst.0) then Clashes old.inst else Replaces old.inst)
+    by_verdict flags (Some old) h = chosen (λ w. option_map_or (nat_eq i) (replaced_by w) false ≡ true → unsearched_at rows i ≡ true) (not (is_strong flags)) Discarded
+        (if is_strong old.flags || not (unsearched_at rows old.inst.0) then Clashes old.inst else Replaces old.inst)
         (λ b h. absurd (both_ways false refl h))
-        (λ b. chosen (λ w. option_map_or (nat_eq i) (replaced_by w) false ≡ true → unsearched_at m.rows i ≡ true) (is_strong old.flags || not (unsearched_at m.rows old.inst.0)) (Clashes old.inst) (Replaces old.inst)
+        (λ b. chosen (λ w. option_map_or (nat_eq i) (replaced_by w) false ≡ true → unsearched_at rows i ≡ true) (is_strong old.flags || not (unsearched_at rows old.inst.0)) (Clashes old.inst) (Replaces old.inst)
         (λ c h. absurd (both_ways false refl h))
-        (λ c h. subst (λ k. unsearched_at m.rows k ≡ true) (sym (eqb-true i old.inst.0 h)) (not-false (unsearched_at m.rows old.inst.0) (or_parts (is_strong old.flags) (not (unsearched_at m.rows old.inst.0)) c).1))) h
+        (λ c h. subst (λ k. unsearched_at rows k ≡ true) (sym (eqb-true i old.inst.0 h)) (not-false (unsearched_at rows old.inst.0) (or_parts (is_strong old.flags) (not (unsearched_at rows old.inst.0)) c).1))) h
 
-    any_offer : (offers : List (NameId × SymFlags)) → list_any (λ (offer : NameId × SymFlags). option_map_or (nat_eq i) (replaced_by (verdict m d offer)) false) offers ≡ true → unsearched_at m.rows i ≡ true
-    any_offer [] h = absurd (both_ways false refl h)
-    any_offer (offer ∷ offers) h = split (or_cases (option_map_or (nat_eq i) (replaced_by (verdict m d offer)) false) (list_any (λ (o : NameId × SymFlags). option_map_or (nat_eq i) (replaced_by (verdict m d o)) false) offers) h) (any_offer offers)
-      where
-        split : (option_map_or (nat_eq i) (replaced_by (verdict m d offer)) false ≡ true) ⊎ (list_any (λ (o : NameId × SymFlags). option_map_or (nat_eq i) (replaced_by (verdict m d o)) false) offers ≡ true) → (list_any (λ (o : NameId × SymFlags). option_map_or (nat_eq i) (replaced_by (verdict m d o)) false) offers ≡ true → unsearched_at m.rows i ≡ true) → unsearched_at m.rows i ≡ true
-        split (inl a) rest = by_verdict offer.1 (row_of m d offer.0.0) a
-        split (inr b) rest = rest b
+    split : (option_map_or (nat_eq i) (replaced_by (verdict rows d offer)) false ≡ true) ⊎ (is_replaced (verdicts rows d offers) i ≡ true) → (is_replaced (verdicts rows d offers) i ≡ true → unsearched_at rows i ≡ true) → unsearched_at rows i ≡ true
+    split (inl a) rest = by_verdict offer.1 (row_of rows d offer.0.0) a
+    split (inr b) rest = rest b
 
 -- a new row is the unit's, present and unsearched
 record IsNew (u : ℕ) (r : InstRow) : Type 0 where
@@ -62,69 +61,67 @@ record IsNew (u : ℕ) (r : InstRow) : Type 0 where
   phase_is : r.phase ≡ phase.Unsearched
   present : r.present ≡ true
 
-new_rows_new : (m : Plain) (d u k : ℕ) (offers : List (NameId × SymFlags)) (n : ℕ) (r : InstRow) → slice_get (new_rows m d u k offers) n ≡ Some r → IsNew u r
-new_rows_new m d u k [] n r e = absurd (none-some r e)
-new_rows_new m d u k (offer ∷ offers) n r e = chosen (λ rs. slice_get rs n ≡ Some r → IsNew u r) (is_kept (verdict m d offer))
-    (record { dylib = record { 0 = d }; name = offer.0; flags = offer.1; unit = record { 0 = u }; offer = k; present = true; phase = phase.Unsearched } ∷ new_rows m d u (k + 1) offers)
-    (new_rows m d u (k + 1) offers)
-    (λ b. with_one n (new_rows_new m d u (k + 1) offers))
-    (λ b. new_rows_new m d u (k + 1) offers n r) e
+new_rows_new : (d u k : ℕ) (offers : List (NameId × SymFlags)) (found : List Verdict) (n : ℕ) (r : InstRow) → slice_get (new_rows d u k offers found) n ≡ Some r → IsNew u r
+new_rows_new d u k [] found n r e = absurd (none-some r e)
+new_rows_new d u k (offer ∷ offers) [] n r e = absurd (none-some r e)
+new_rows_new d u k (offer ∷ offers) (v ∷ vs) n r e = chosen (λ rs. slice_get rs n ≡ Some r → IsNew u r) (is_kept v) (new_row d u k offer ∷ new_rows d u (k + 1) offers vs) (new_rows d u (k + 1) offers vs)
+    (λ b. with_one n (new_rows_new d u (k + 1) offers vs))
+    (λ b. new_rows_new d u (k + 1) offers vs n r) e
   where
-    with_one : (n : ℕ) → ((j : ℕ) (s : InstRow) → slice_get (new_rows m d u (k + 1) offers) j ≡ Some s → IsNew u s) →
-        slice_get (record { dylib = record { 0 = d }; name = offer.0; flags = offer.1; unit = record { 0 = u }; offer = k; present = true; phase = phase.Unsearched } ∷ new_rows m d u (k + 1) offers) n ≡ Some r → IsNew u r
-    with_one zero rest e = subst (IsNew u) (same_Some (record { dylib = record { 0 = d }; name = offer.0; flags = offer.1; unit = record { 0 = u }; offer = k; present = true; phase = phase.Unsearched }) r e) (record { unit = refl; phase_is = refl; present = refl })
+    with_one : (n : ℕ) → ((j : ℕ) (s : InstRow) → slice_get (new_rows d u (k + 1) offers vs) j ≡ Some s → IsNew u s) →
+        slice_get (new_row d u k offer ∷ new_rows d u (k + 1) offers vs) n ≡ Some r → IsNew u r
+    with_one zero rest e = subst (IsNew u) (same_Some (new_row d u k offer) r e) (record { unit = refl; phase_is = refl; present = refl })
     with_one (suc j) rest e = rest j r e
 
-pub new_rows_phase : (m : Plain) (d u k : ℕ) (offers : List (NameId × SymFlags)) (n : ℕ) (r : InstRow) → slice_get (new_rows m d u k offers) n ≡ Some r → r.phase ≡ phase.Unsearched
-new_rows_phase m d u k offers n r e = (new_rows_new m d u k offers n r e).phase_is
+pub new_rows_phase : (d u k : ℕ) (offers : List (NameId × SymFlags)) (found : List Verdict) (n : ℕ) (r : InstRow) → slice_get (new_rows d u k offers found) n ≡ Some r → r.phase ≡ phase.Unsearched
+new_rows_phase d u k offers found n r e = (new_rows_new d u k offers found n r e).phase_is
 
-pub new_rows_unit : (m : Plain) (d u k : ℕ) (offers : List (NameId × SymFlags)) (n : ℕ) (r : InstRow) → slice_get (new_rows m d u k offers) n ≡ Some r → r.unit.0 ≡ u
-new_rows_unit m d u k offers n r e = (new_rows_new m d u k offers n r e).unit
+pub new_rows_unit : (d u k : ℕ) (offers : List (NameId × SymFlags)) (found : List Verdict) (n : ℕ) (r : InstRow) → slice_get (new_rows d u k offers found) n ≡ Some r → r.unit.0 ≡ u
+new_rows_unit d u k offers found n r e = (new_rows_new d u k offers found n r e).unit
 
-pub new_unit : Plain → ℕ → ℕ → Meaning → UnitRow
-new_unit m d t u = record { meaning = u; tracker = t; live = kept_names m d u; phase = stage.Unclaimed; seat = None; base = None; query = None; bound = None }
-
-pub sound_defined : (m : Plain) (d t : ℕ) (v : Meaning) → IsSound m → IsSound (defined m d t v)
-unfolding new_unit
+pub sound_defined : (m : Plain) (d t : ℕ) (v : Meaning) → IsSound m → IsSound (defined d t v (verdicts m.rows d v.offers) m)
 sound_defined m d t v s = record { rows_fit = rows_fit; deps = deps; units_fit = units_fit; jobs_due = λ u. jobs_due u (slice_get m.units u) refl; searched = λ k q e. matched_more (λ i. searched_at m.rows i ≡ true) (λ i. searched_at rows i ≡ true) searched q.matched (s.searched k q e) }
   where
+    vs : List Verdict
+    vs = verdicts m.rows d v.offers
+
     g : ℕ → InstRow → InstRow
-    g i r = record r { present = r.present && not (is_replaced m d v i) }
+    g = unreplaced_row vs
 
     h : ℕ → UnitRow → UnitRow
-    h = without_replaced m d v
+    h = without_replaced m.rows vs
 
     fresh : List InstRow
-    fresh = new_rows m d (length m.units) 0 v.offers
+    fresh = new_rows d (length m.units) 0 v.offers vs
 
     rows : List InstRow
     rows = numbered g 0 m.rows ++ fresh
 
     units : List UnitRow
-    units = numbered h 0 m.units ++ new_unit m d t v ∷ []
+    units = numbered h 0 m.units ++ new_unit t v vs ∷ []
 
     old_row : (i : ℕ) (r : InstRow) → slice_get m.rows i ≡ Some r → slice_get rows i ≡ Some (g i r)
     old_row i r e = front_some (numbered g 0 m.rows) fresh i (g i r) (numbered_some g m.rows i r e)
 
     old_unit : (u : ℕ) (x : UnitRow) → slice_get m.units u ≡ Some x → slice_get units u ≡ Some (h u x)
-    old_unit u x e = front_some (numbered h 0 m.units) (new_unit m d t v ∷ []) u (h u x) (numbered_some h m.units u x e)
+    old_unit u x e = front_some (numbered h 0 m.units) (new_unit t v vs ∷ []) u (h u x) (numbered_some h m.units u x e)
 
     searched : (i : ℕ) → searched_at m.rows i ≡ true → searched_at rows i ≡ true
     searched i e = let p = test_parts (λ (r : InstRow). not (is_unsearched r.phase)) m.rows i e in test_from (λ (r : InstRow). not (is_unsearched r.phase)) rows i (g i p.0) (old_row i p.0 p.1) p.2
 
     old_fits : (i : ℕ) (r : InstRow) → slice_get m.rows i ≡ Some r → RowFits units (g i r)
-    old_fits i r e = record { here = λ p. let x = (s.rows_fit i r e).here (and_parts r.present (not (is_replaced m d v i)) p).0 in (h r.unit.0 x.0, old_unit r.unit.0 x.0 x.1, x.2); gone = λ n. gone (and_cases r.present (not (is_replaced m d v i)) n) }
+    old_fits i r e = record { here = λ p. let x = (s.rows_fit i r e).here (and_parts r.present (not (is_replaced vs i)) p).0 in (h r.unit.0 x.0, old_unit r.unit.0 x.0 x.1, x.2); gone = λ n. gone (and_cases r.present (not (is_replaced vs i)) n) }
       where
-        gone : (r.present ≡ false) ⊎ (not (is_replaced m d v i) ≡ false) → is_underway r.phase ≡ false
+        gone : (r.present ≡ false) ⊎ (not (is_replaced vs i) ≡ false) → is_underway r.phase ≡ false
         gone (inl n) = (s.rows_fit i r e).gone n
-        gone (inr n) = unsearched_settled r.phase (sym (test_is (λ (y : InstRow). is_unsearched y.phase) m.rows i r e) ∙ replaced_unsearched m d v i (not-false (is_replaced m d v i) n))
+        gone (inr n) = unsearched_settled r.phase (sym (test_is (λ (y : InstRow). is_unsearched y.phase) m.rows i r e) ∙ replaced_unsearched m.rows d v.offers i (not-false (is_replaced vs i) n))
 
     new_fits : (r : InstRow) → IsNew (length m.units) r → RowFits units r
     new_fits r p = record {
       here = λ e. (
-        new_unit m d t v,
-        ap (slice_get units) (p.unit ∙ sym (numbered_length h 0 m.units)) ∙ pushed_last (numbered h 0 m.units) (new_unit m d t v),
-        ap is_unsearched p.phase_is,
+        new_unit t v vs,
+        ap (slice_get units) (p.unit ∙ sym (numbered_length h 0 m.units)) ∙ pushed_last (numbered h 0 m.units) (new_unit t v vs),
+        subst (λ q. fits q r.phase ≡ true) (sym (row_is (new_unit t v vs) stage.Unclaimed refl refl)) (ap is_unsearched p.phase_is),
       );
       gone = λ n. absurd (both_ways r.present n p.present);
     }
@@ -134,7 +131,7 @@ sound_defined m d t v s = record { rows_fit = rows_fit; deps = deps; units_fit =
       where
         split : (slice_get (numbered g 0 m.rows) i ≡ Some r) ⊎ ((k : ℕ) × (i ≡ length (numbered g 0 m.rows) + k) × (slice_get fresh k ≡ Some r)) → RowFits units r
         split (inl a) = let p = numbered_parts g m.rows i r a in subst (RowFits units) (sym p.2) (old_fits i p.0 p.1)
-        split (inr b) = new_fits r (new_rows_new m d (length m.units) 0 v.offers b.0 r b.2)
+        split (inr b) = new_fits r (new_rows_new d (length m.units) 0 v.offers vs b.0 r b.2)
 
     deps : (i j : ℕ) → Contains (deps_at rows i) j → sure_at rows j ≡ true
     deps i j c = found (deps_parts rows i j c)
@@ -147,17 +144,17 @@ sound_defined m d t v s = record { rows_fit = rows_fit; deps = deps; units_fit =
           where
             split : (slice_get (numbered g 0 m.rows) i ≡ Some p.0) ⊎ ((k : ℕ) × (i ≡ length (numbered g 0 m.rows) + k) × (slice_get fresh k ≡ Some p.0)) → sure_at rows j ≡ true
             split (inl a) = let q = numbered_parts g m.rows i p.0 a in stays (s.deps i j (deps_from m.rows i j q.0 q.1 (subst (λ (y : InstRow). Contains (phase_deps y.phase) j) q.2 p.2)))
-            split (inr b) = absurd (no_dep j (subst (λ f. Contains (phase_deps f) j) (new_rows_new m d (length m.units) 0 v.offers b.0 p.0 b.2).phase_is p.2))
+            split (inr b) = absurd (no_dep j (subst (λ f. Contains (phase_deps f) j) (new_rows_new d (length m.units) 0 v.offers vs b.0 p.0 b.2).phase_is p.2))
 
     old_unit_fits : (u : ℕ) (x : UnitRow) → slice_get m.units u ≡ Some x → UnitFits m.queries u (h u x)
-    old_unit_fits u x e = record { seat = (s.units_fit u x e).seat; waits = λ w. let l = (s.units_fit u x e).waits w in record { number = l.number; query = l.query; its = l.its; there = l.there; links = l.links; level = l.level } }
+    old_unit_fits u x e = record { seat = (s.units_fit u x e).seat; waits = λ w. let l = (s.units_fit u x e).waits w in record { number = l.number; query = l.query; its = l.its; there = l.there; links = l.links; level = l.level }; early = (s.units_fit u x e).early }
 
     units_fit : (u : ℕ) (y : UnitRow) → slice_get units u ≡ Some y → UnitFits m.queries u y
-    units_fit u y e = split (pushed_cases (numbered h 0 m.units) (new_unit m d t v) u y e)
+    units_fit u y e = split (pushed_cases (numbered h 0 m.units) (new_unit t v vs) u y e)
       where
-        split : (slice_get (numbered h 0 m.units) u ≡ Some y) ⊎ ((u ≡ length (numbered h 0 m.units)) × (y ≡ new_unit m d t v)) → UnitFits m.queries u y
+        split : (slice_get (numbered h 0 m.units) u ≡ Some y) ⊎ ((u ≡ length (numbered h 0 m.units)) × (y ≡ new_unit t v vs)) → UnitFits m.queries u y
         split (inl a) = let p = numbered_parts h m.units u y a in subst (UnitFits m.queries u) (sym p.2) (old_unit_fits u p.0 p.1)
-        split (inr b) = subst (UnitFits m.queries u) (sym b.1) (record { seat = λ n. refl; waits = λ w. absurd (cc) })
+        split (inr b) = subst (UnitFits m.queries u) (sym b.1) (record { seat = λ n. refl; waits = λ w. absurd (cc); early = λ e. refl })
 
     jobs_due : (u : ℕ) (o : Option UnitRow) → slice_get m.units u ≡ o → its_jobs u m.jobs ≡ due u units
     jobs_due u (Some x) e = s.jobs_due u ∙ (due_some u m.units x e ∙ sym (due_some u units (h u x) (old_unit u x e)))
@@ -165,9 +162,9 @@ sound_defined m d t v s = record { rows_fit = rows_fit; deps = deps; units_fit =
       where
         none : (o : Option UnitRow) → slice_get units u ≡ o → due u units ≡ []
         none None f = due_none u units f
-        none (Some y) f = due_some u units y f ∙ split (pushed_cases (numbered h 0 m.units) (new_unit m d t v) u y f)
+        none (Some y) f = due_some u units y f ∙ split (pushed_cases (numbered h 0 m.units) (new_unit t v vs) u y f)
           where
-            split : (slice_get (numbered h 0 m.units) u ≡ Some y) ⊎ ((u ≡ length (numbered h 0 m.units)) × (y ≡ new_unit m d t v)) → due_at u y.phase ≡ []
+            split : (slice_get (numbered h 0 m.units) u ≡ Some y) ⊎ ((u ≡ length (numbered h 0 m.units)) × (y ≡ new_unit t v vs)) → due_at u y.phase ≡ []
             split (inl a) = let p = numbered_parts h m.units u y a in none_there (slice_get m.units u) p.0 e p.1
             split (inr b) = ap (λ (z : UnitRow). due_at u z.phase) b.1
 
@@ -178,7 +175,7 @@ sound_lodged rows units queries jobs q s a = record {
   rows_fit = s.rows_fit;
   deps = s.deps;
   jobs_due = s.jobs_due;
-  units_fit = λ u x e. record { seat = (s.units_fit u x e).seat; waits = λ w. let l = (s.units_fit u x e).waits w in record { number = l.number; query = l.query; its = l.its; there = front_some queries (q ∷ []) l.number l.query l.there; links = l.links; level = l.level } };
+  units_fit = λ u x e. record { seat = (s.units_fit u x e).seat; waits = λ w. let l = (s.units_fit u x e).waits w in record { number = l.number; query = l.query; its = l.its; there = front_some queries (q ∷ []) l.number l.query l.there; links = l.links; level = l.level }; early = (s.units_fit u x e).early };
   searched = λ k p e. split k p (pushed_cases queries q k p e);
 }
   where
@@ -202,7 +199,7 @@ sound_moved rows units queries jobs f s = record {
     h x = record x { tracker = f x }
 
     unit_at : (u : ℕ) (x : UnitRow) → slice_get units u ≡ Some x → UnitFits queries u (h x)
-    unit_at u x e = record { seat = (s.units_fit u x e).seat; waits = λ w. let l = (s.units_fit u x e).waits w in record { number = l.number; query = l.query; its = l.its; there = l.there; links = l.links; level = l.level } }
+    unit_at u x e = record { seat = (s.units_fit u x e).seat; waits = λ w. let l = (s.units_fit u x e).waits w in record { number = l.number; query = l.query; its = l.its; there = l.there; links = l.links; level = l.level }; early = (s.units_fit u x e).early }
 
     same : (u : ℕ) (o : Option UnitRow) → option_map_or (λ (y : UnitRow). due_at u y.phase) o [] ≡ option_map_or (λ (y : UnitRow). due_at u y.phase) (option_map h o) []
     same u None = refl
@@ -214,11 +211,7 @@ sound_moved rows units queries jobs f s = record {
 abbrev pub IsHere : List InstRow → ℕ → Type 0
 IsHere rows i = present_at rows i ≡ true
 
-claimed_row : ℕ → InstRow → InstRow
-claimed_row u r = record r { phase = if is_owned u r && is_unsearched r.phase then phase.Claimed else r.phase }
-
 claimed_here : (u : ℕ) (m : Plain) (i : ℕ) → IsHere m.rows i → IsHere (claimed u m).rows i
-unfolding claimed_row
 claimed_here u m i e = let p = test_parts (λ (r : InstRow). r.present) m.rows i e in
     test_from (λ (r : InstRow). r.present) (claimed u m).rows i (claimed_row u p.0) (mapped_some (claimed_row u) m.rows i p.0 p.1) p.2
 
@@ -241,18 +234,16 @@ claims_keep P step (Some i ∷ os) m a p = claims_keep P step os (claimed_for i 
 
 pub claim_sound : (i : ℕ) (r : InstRow) (m : Plain) → IsSound m → slice_get m.rows i ≡ Some r → r.present ≡ true → is_unsearched r.phase ≡ true → IsSound (claimed r.unit.0 m)
 claim_sound i r m s e present unsearched = let x = (s.rows_fit i r e).here present in
-    sound_claimed m.rows m.units m.queries m.jobs r.unit.0 x.0 s x.1 (unsearched_unclaimed x.0.phase r.phase x.2 unsearched)
+    sound_claimed m.rows m.units m.queries m.jobs r.unit.0 x.0 s x.1 (unclaimed_row x.0 (unsearched_unclaimed (row_stage x.0) r.phase x.2 unsearched))
 
 -- what was searched stays so
 claim_searched : (u : ℕ) (m : Plain) (i : ℕ) → searched_at m.rows i ≡ true → searched_at (claimed u m).rows i ≡ true
-unfolding claimed_row
 claim_searched u m i e = let p = test_parts (λ (r : InstRow). not (is_unsearched r.phase)) m.rows i e in
     test_from (λ (r : InstRow). not (is_unsearched r.phase)) (claimed u m).rows i (claimed_row u p.0) (mapped_some (claimed_row u) m.rows i p.0 p.1)
     (chosen (λ f. not (is_unsearched f) ≡ true) (is_owned u p.0 && is_unsearched p.0.phase) phase.Claimed p.0.phase (λ b. refl) (λ b. p.2))
 
 -- an instance that is claimed for was searched
 claimed_searched : (i : InstId) (m : Plain) → IsHere m.rows i.0 → searched_at (claimed_for i m).rows i.0 ≡ true
-unfolding claimed_row
 claimed_searched i m here = split (slice_get m.rows i.0) refl
   where
     split : (o : Option InstRow) → slice_get m.rows i.0 ≡ o → searched_at (option_map_or (λ (r : InstRow). if is_unsearched r.phase then claimed r.unit.0 m else m) o m).rows i.0 ≡ true

@@ -1,29 +1,28 @@
 -- Queries along a history, and what each change does to their ends.
-use Rattle.std.proofs.Common.{◌≡◌, ℕ, zero, suc, ◌+◌, Bool, true, false, ◌==◌, map, List, [], ◌∷◌, ◌++◌, length, drop, slice_get, ◌⊎◌, inl, inr, subst, sym, refl, ap, ◌∙◌, Option, Some, None, unwrap_or}
+use Rattle.session_model.specs.Change.{resolved_unit, resolved_row, moved_unit, moved_generator, gone_tracker}
+use Rattle.std.proofs.Common.{◌≡◌, ℕ, zero, suc, ◌+◌, Bool, true, false, ◌==◌, map, List, [], ◌∷◌, ◌++◌, length, drop, slice_get, ◌⊎◌, inl, inr, subst, sym, refl, ap, ◌∙◌, Option, Some, None}
 use Rattle.std.specs.Bool.{if◌then◌else◌}
 use Rattle.std.specs.Option.{option_map_or}
 use Rattle.std.proofs.lemmas.Bool.{both_ways, cases_Bool}
 use Rattle.std.proofs.lemmas.Option.{none-some}
 use Rattle.orc_ids.specs.declared.ids.InstId.{InstId}
 use Rattle.session_model.specs.Lists.{changed_at}
-use Rattle.session_model.specs.Plain.{Plain, UnitRow, GenRow, is_unsearched, is_owned}
+use Rattle.session_model.specs.Plain.{Plain, UnitRow, GenRow, is_unsearched}
 use Rattle.session_model.specs.declared.rows.InstRow.{InstRow}
-use Rattle.session_model.specs.declared.rows.Phase.TheVariants as phase
-use Rattle.session_model.specs.declared.rows.UnitPhase.TheVariants as stage
 use Rattle.orc_ids.specs.declared.lookup.Level.TheVariants as level
 use Rattle.std.proofs.Common.{arith, ◌<◌, not-suc-le-zero, le_of_suc-le-suc}
 use Rattle.session_model.specs.Change.{claimed}
 use Rattle.session_laws.proofs.Elements.{same_element}
 use Rattle.session_laws.proofs.Settling.{chosen}
 use Rattle.std.proofs.lemmas.Bool.{cases_lt}
-use Rattle.orc_ids.specs.declared.lookup.OrderItem.{OrderItem}
-use Rattle.orc_ids.specs.declared.lookup.Wanted.{Wanted}
 use Rattle.orc_ids.specs.declared.lookup.Level.{Level}
 use Rattle.session_model.specs.Meaning.{Meaning}
 use Rattle.session_model.specs.Query.{is_met}
-use Rattle.session_model.specs.Change.{defined, all_claimed, claimed_for, lodged, matched}
+use Rattle.session_model.specs.Change.{defined, all_claimed, claimed_for, lodged}
 use Rattle.session_laws.proofs.Elements.{pushed_cases, front_some}
-use Rattle.session_model.specs.Change.{Change, Nothing, MakeDylib, MakeTracker, SetOrder, Attach, Define, Generate, Spend, Ask, Start, Finish, Place, Resolve, Link, Emit, Fail, Move, Remove, LetGo, change_of, changed, link_order}
+use Rattle.session_model.specs.Change.{change_of, changed}
+use Rattle.session_model.specs.declared.change.Change.{Change}
+use Rattle.session_model.specs.declared.change.Change.TheVariants.{Nothing, MakeDylib, MakeTracker, SetOrder, Attach, Define, Generate, Spend, Ask, Start, Finish, Place, Resolve, Link, Emit, Fail, Move, Remove, LetGo}
 use Rattle.session_model.specs.Answer.{Answers}
 use Rattle.session_model.specs.declared.entry.Entry.{Entry}
 use Rattle.session_model.specs.Plain.{empty}
@@ -31,7 +30,6 @@ use Rattle.session_model.specs.State.{after, state, state_from}
 use Rattle.session_model.specs.History.{IsLegal}
 use Rattle.session_model.specs.Change.{spent}
 use Rattle.session_laws.proofs.Along.{state_from_push, prefixes_legal, one_more_legal}
-use Rattle.session_laws.proofs.Invariant.{link_unit}
 use Rattle.session_laws.proofs.Settling.{settled_queries}
 use Rattle.std.proofs.Common.{take, ◌≤◌, le_refl}
 use Rattle.std.proofs.lemmas.Bool.{cases_order}
@@ -68,54 +66,43 @@ all_claimed_queries (Some i ∷ os) m = all_claimed_queries os (claimed_for i m)
 abbrev pub NewQuery : Plain → List Query → Type 0
 NewQuery m qs = (qs ≡ m.queries) ⊎ ((q : Query) × (qs ≡ m.queries ++ q ∷ []) × (q.asked ≡ m.entries + 1))
 
-lodged_query : (m : Plain) (order : List OrderItem) (wanted : List Wanted) (lev : Level) (unit n : Option ℕ) → NewQuery m (lodged order wanted lev unit n m).queries
-lodged_query m order wanted lev unit n = inr (record { asked = m.entries + 1; matched = matched m order wanted; level = lev; unit = unit; note = n }, ap (λ qs. qs ++ record { asked = m.entries + 1; matched = matched m order wanted; level = lev; unit = unit; note = n } ∷ []) (all_claimed_queries (matched m order wanted) m), refl)
+lodged_query : (m : Plain) (found : List (Option InstId)) (lev : Level) (unit n : Option ℕ) → NewQuery m (lodged found lev unit n m).queries
+lodged_query m found lev unit n = inr (record { asked = m.entries + 1; matched = found; level = lev; unit = unit; note = n }, ap (λ qs. qs ++ record { asked = m.entries + 1; matched = found; level = lev; unit = unit; note = n } ∷ []) (all_claimed_queries found m), refl)
 
-pub new_query : (c : Change) (m : Plain) → NewQuery m (changed c m).queries
+pub new_query : (c : Change Meaning) (m : Plain) → NewQuery m (changed c m).queries
 new_query Nothing m = inl refl
 new_query (MakeDylib name) m = inl refl
 new_query (MakeTracker d) m = inl refl
 new_query (SetOrder d order) m = inl refl
 new_query (Attach d t u) m = inl refl
-new_query (Define d t u) m = inl refl
-new_query (Generate k) m = split (slice_get m.generators k)
+new_query (Define d t u found) m = inl refl
+new_query (Generate k found) m = split (slice_get m.generators k.0)
   where
-    split : (o : Option GenRow) → NewQuery m (option_map_or (λ x. spent k (defined m x.dylib x.tracker x.meaning)) o m).queries
+    split : (o : Option GenRow) → NewQuery m (option_map_or (λ x. spent k.0 (defined x.dylib x.tracker x.meaning found m)) o m).queries
     split None = inl refl
     split (Some x) = inl refl
 new_query (Spend k) m = inl refl
-new_query (Ask order wanted lev n) m = lodged_query m order wanted lev None n
+new_query (Ask found lev n) m = lodged_query m found lev None n
 new_query (Start t u) m = inl refl
 new_query (Finish t u how) m = inl refl
-new_query (Place u shape base) m = inl refl
-new_query (Resolve u) m = split (slice_get m.units u)
+new_query (Place u base) m = inl refl
+new_query (Resolve u) m = split (slice_get m.units u.0)
   where
-    split : (o : Option UnitRow) → NewQuery m (option_map_or (λ (x : UnitRow). record m {
-      rows = map (λ (r : InstRow). record r { phase = if is_owned u r then phase.Resolved (x.meaning.address r.offer (unwrap_or x.base 0)) else r.phase }) m.rows;
-      units = changed_at u (λ y. record y { phase = stage.Linking }) m.units;
-    }) o m).queries
+    split : (o : Option UnitRow) → NewQuery m (option_map_or (λ (x : UnitRow). record m { rows = map (resolved_row u.0 (resolved_unit x)) m.rows; units = changed_at u.0 resolved_unit m.units }) o m).queries
     split None = inl refl
     split (Some x) = inl refl
-new_query (Link u) m = split (slice_get m.units u)
-  where
-    split : (o : Option UnitRow) → NewQuery m (option_map_or (link_unit m u) o m).queries
-    split None = inl refl
-    split (Some x) = lodged_query m (link_order m x) (x.meaning.externals x.live) level.Resolved (Some u) None
+new_query (Link u found) m = lodged_query m found level.Resolved (Some u.0) None
 new_query (Emit u groups) m = inl refl
 new_query (Fail u) m = inl refl
-new_query (Move t to) m = chosen (λ n. NewQuery m n.queries) (t == to) m (record m {
-  units = map (λ (x : UnitRow). record x { tracker = if x.tracker == t then to else x.tracker }) m.units;
-  generators = map (λ (x : GenRow). record x { tracker = if x.tracker == t then to else x.tracker }) m.generators;
-  trackers = changed_at t (λ x. record x { gone = true }) m.trackers;
-}) (λ b. inl refl) (λ b. inl refl)
+new_query (Move t to) m = chosen (λ n. NewQuery m n.queries) (t.0 == to.0) m (record m { units = map (moved_unit t.0 to.0) m.units; generators = map (moved_generator t.0 to.0) m.generators; trackers = changed_at t.0 gone_tracker m.trackers }) (λ b. inl refl) (λ b. inl refl)
 new_query (Remove t) m = inl refl
 new_query (LetGo t u) m = inl refl
 
 pub after_query : (m : Plain) (e : Entry Meaning) → NewQuery m (after m e).queries
-after_query m e = subst (NewQuery m) (sym (settled_queries (changed (change_of e.seat.0 e.event e.reply) m))) (new_query (change_of e.seat.0 e.event e.reply) m)
+after_query m e = subst (NewQuery m) (sym (settled_queries (changed (change_of m e.seat.0 e.event e.reply) m))) (new_query (change_of m e.seat.0 e.event e.reply) m)
 
 -- a query stays
-query_kept : (m : Plain) (qs : List Query) (k : ℕ) (q : Query) → NewQuery m qs → slice_get m.queries k ≡ Some q → slice_get qs k ≡ Some q
+pub query_kept : (m : Plain) (qs : List Query) (k : ℕ) (q : Query) → NewQuery m qs → slice_get m.queries k ≡ Some q → slice_get qs k ≡ Some q
 query_kept m qs k q (inl e) t = ap (λ l. slice_get l k) e ∙ t
 query_kept m qs k q (inr p) t = ap (λ l. slice_get l k) p.1 ∙ front_some m.queries (p.0 ∷ []) k q t
 

@@ -5,8 +5,9 @@ use Rattle.std.specs.Option.{option_map_or}
 use Rattle.std.proofs.lemmas.Bool.{both_ways, cases_Bool, cases_eq, eq-eqb, ne_eqb}
 use Rattle.orc_ids.specs.declared.ids.InstId.{InstId}
 use Rattle.orc_ids.specs.declared.ids.UnitId.{UnitId}
-use Rattle.session_model.specs.Plain.{UnitRow, is_unsearched, is_emitted, row_test, emitted_at, phase_deps}
-use Rattle.session_model.specs.Reach.{IsPath, IsReady, is_hit, deps_at}
+use Rattle.session_model.specs.Plain.{UnitRow, is_defunct, is_unsearched, is_emitted, row_test, emitted_at, phase_deps}
+use Rattle.graph_walks.specs.Walks.{IsPath}
+use Rattle.session_model.specs.Reach.{IsReady, is_hit, deps_at}
 use Rattle.session_model.specs.Change.{job_unit}
 use Rattle.session_model.specs.declared.rows.InstRow.{InstRow}
 use Rattle.session_model.specs.declared.rows.Job.{Job}
@@ -138,7 +139,7 @@ unsearched_unclaimed s phase.Failed f e = absurd (both_ways false refl e)
 pub hit_emitted : (rows : List InstRow) (roots : ℕ → Bool) (i : ℕ) → is_hit rows roots i ≡ true → roots i ≡ false → emitted_at rows i ≡ true
 hit_emitted rows roots i e n = let h = hit_from_test rows roots i e in by_path h.root h.reaches.path h.reaches.leads h.chosen
   where
-    by_path : (j : ℕ) (p : List ℕ) → IsPath rows i p j → roots j ≡ true → emitted_at rows i ≡ true
+    by_path : (j : ℕ) (p : List ℕ) → IsPath (deps_at rows) i p j → roots j ≡ true → emitted_at rows i ≡ true
     by_path j [] l c = absurd (both_ways (roots i) n (subst (λ k. roots k ≡ true) (sym l) c))
     by_path j (k ∷ ks) l c = let d = deps_parts rows i k l.0 in test_from (λ r. is_emitted r.phase) rows i d.0 d.1 (dep_emitted d.0.phase k d.2)
 
@@ -247,3 +248,17 @@ held_due u stage.Waiting h = refl
 held_due u stage.Done h = refl
 held_due u stage.Failed h = refl
 held_due u stage.Defunct h = refl
+
+-- what is held isn't gone
+pub held_alive : (s : UnitPhase) → is_held_phase s ≡ true → is_defunct s ≡ false
+held_alive stage.Defunct h = absurd (both_ways false refl h)
+held_alive stage.Listed h = refl
+held_alive stage.Linked h = refl
+held_alive stage.Started h = refl
+held_alive stage.Placed h = refl
+held_alive stage.Linking h = refl
+held_alive stage.Finishing h = refl
+held_alive stage.Unclaimed h = refl
+held_alive stage.Waiting h = refl
+held_alive stage.Done h = refl
+held_alive stage.Failed h = refl

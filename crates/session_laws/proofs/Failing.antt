@@ -4,8 +4,10 @@ use Rattle.std.specs.Bool.{if◌then◌else◌}
 use Rattle.std.specs.Option.{option_map_or}
 use Rattle.std.proofs.lemmas.Bool.{both_ways, and_parts}
 use Rattle.session_model.specs.Plain.{Plain, failed_at, is_failed, is_owned, phase_deps}
-use Rattle.session_model.specs.Reach.{IsPath, IsHit, is_hit, is_ready, deps_at}
-use Rattle.session_model.specs.Change.{hits_failed, unit_roots, tracker_roots, is_unit_of, failed, removed}
+use Rattle.graph_walks.specs.Walks.{IsPath}
+use Rattle.session_model.specs.Reach.{IsHit, is_hit, is_ready, deps_at}
+use Rattle.session_model.specs.Change.{hits_failed, tracker_roots, is_unit_of, failed, removed}
+use Rattle.session_model.specs.Plain.{is_owned_at}
 use Rattle.session_model.specs.declared.rows.InstRow.{InstRow}
 use Rattle.session_model.specs.declared.rows.Phase.TheVariants as phase
 use Rattle.session_laws.proofs.Elements.{numbered_at, mapped_at}
@@ -14,7 +16,7 @@ use Rattle.session_laws.proofs.Settling.{settled_rows, chosen}
 use Rattle.session_laws.specs.Failures.{FailFailsHits, RemoveFailsHits}
 
 -- an instance that isn't there reaches itself alone
-pub absent_reaches : (rows : List InstRow) (i j : ℕ) (p : List ℕ) → slice_get rows i ≡ None → IsPath rows i p j → i ≡ j
+pub absent_reaches : (rows : List InstRow) (i j : ℕ) (p : List ℕ) → slice_get rows i ≡ None → IsPath (deps_at rows) i p j → i ≡ j
 absent_reaches rows i j [] e l = l
 absent_reaches rows i j (k ∷ ks) e l = absurd (empty (deps_at rows i) (ap (λ o. option_map_or (λ r. phase_deps r.phase) o []) e) l.0)
   where
@@ -46,7 +48,7 @@ hits_are_failed rows roots there i = subst (λ o. (option_map_or (λ r. is_faile
         made (inl f) = chosen (λ p. is_failed p ≡ true) (is_hit rows roots i) phase.Failed r.phase (λ h. refl) (λ h. subst (λ o. option_map_or (λ (r : InstRow). is_failed r.phase) o false ≡ true) e f)
         made (inr h) = chosen (λ p. is_failed p ≡ true) (is_hit rows roots i) phase.Failed r.phase (λ t. refl) (λ f. absurd (both_ways (is_hit rows roots i) f (test_from_hit rows roots i h)))
 
-pub unit_roots_there : (u : ℕ) (rows : List InstRow) (j : ℕ) → slice_get rows j ≡ None → unit_roots u rows j ≡ true → ⊥
+pub unit_roots_there : (u : ℕ) (rows : List InstRow) (j : ℕ) → slice_get rows j ≡ None → is_owned_at u rows j ≡ true → ⊥
 unit_roots_there u rows j e r = both_ways false refl (subst (λ o. option_map_or (is_owned u) o false ≡ true) e r)
 
 pub tracker_roots_there : (m : Plain) (t j : ℕ) → slice_get m.rows j ≡ None → tracker_roots m t j ≡ true → ⊥
@@ -61,8 +63,8 @@ gone_failed f rows i = ap (λ o. option_map_or (λ (r : InstRow). is_failed r.ph
     same (Some r) = refl
 
 pub fail_fails_hits : FailFailsHits
-fail_fails_hits m s u cause i = subst (λ rows. (failed_at rows i ≡ true) ↔ (failed_at m.rows i ≡ true) ⊎ IsHit m.rows (unit_roots u.0 m.rows) i) (sym (settled_rows (failed u.0 m)))
-    (hits_are_failed m.rows (unit_roots u.0 m.rows) (unit_roots_there u.0 m.rows) i)
+fail_fails_hits m s u cause i = subst (λ rows. (failed_at rows i ≡ true) ↔ (failed_at m.rows i ≡ true) ⊎ IsHit m.rows (is_owned_at u.0 m.rows) i) (sym (settled_rows (failed u.0 m)))
+    (hits_are_failed m.rows (is_owned_at u.0 m.rows) (unit_roots_there u.0 m.rows) i)
 
 pub remove_fails_hits : RemoveFailsHits
 remove_fails_hits m s t i = subst (λ rows. (failed_at rows i ≡ true) ↔ (failed_at m.rows i ≡ true) ⊎ IsHit m.rows (tracker_roots m t.0) i) (sym (settled_rows (removed t.0 m)))

@@ -2,7 +2,7 @@
 use Rattle.std.proofs.Common.{◌≡◌, ℕ, zero, suc, ◌+◌, ◌-◌, ◌<◌, ◌≤◌, false, [], ◌∷◌, take, Some, None, arith, refl, subst, sym}
 use Rattle.orc_ids.specs.declared.lookup.Level.TheVariants.{Resolved, Ready}
 use Rattle.session_model.specs.Query.{is_met}
-use Rattle.session_model.specs.Reach.{within}
+use Rattle.graph_walks.specs.Walks.{within}
 use Rattle.session_model.specs.State.{state, IsEnd}
 use Rattle.session_laws.specs.Hello.{hello_history, HelloIsLegal}
 use Rattle.session_model.specs.declared.rows.Ending.TheVariants.{Found}
@@ -64,6 +64,6 @@ link_ended = record {
 pub hello_is_legal : HelloIsLegal
 unfolding within
 hello_is_legal = (
-  (refl, (refl, (refl, (refl, (refl, (refl, (refl, ((refl, record { unit = _; there = refl; query = 1; its = refl; at = 7; ended = link_ended }), ((refl, refl, refl), (lookup_ended, tt)))))))))),
+  (refl, (refl, ((tt, refl), ((omega arith, omega arith, refl), (refl, (refl, (refl, ((refl, record { unit = _; there = refl; query = 1; its = refl; at = 7; ended = link_ended }), ((refl, refl, refl), (lookup_ended, tt)))))))))),
   (refl, (refl, (refl, (refl, (refl, (refl, (refl, (refl, (refl, (refl, tt)))))))))),
 )

@@ -1,13 +1,18 @@
 -- Other seats leave a held unit as it is, but for a removal.
-use Rattle.std.proofs.Common.{◌≡◌, ℕ, suc, ◌+◌, Bool, true, false, not, ◌&&◌, ◌||◌, ◌==◌, nat_eq, map, List, [], ◌∷◌, ◌++◌, length, slice_get, ◌⊎◌, inl, inr, subst, sym, refl, ap, ◌∙◌, Option, Some, None, option_map, is_some, unwrap_or}
+use Rattle.session_laws.proofs.Living.{and_kept, unreplaced_at, live_kept}
+use Rattle.session_model.specs.Change.{verdicts, unreplaced_row, new_unit, linked, claimed_row, listed_unit, started_unit, finishing_unit, placed_unit, resolved_unit, resolved_row, waiting_unit, emitted_row, done_unit, failed_unit, removed_unit, moved_unit, moved_generator, gone_tracker, let_go_unit, linked_unit}
+use Rattle.session_model.specs.declared.rows.Verdict.{Verdict}
+use Rattle.session_laws.specs.Sound.{row_stage}
+use Rattle.session_laws.proofs.RowStages.{held_row, unclaimed_row, linkable_held, resolvable_held}
+use Rattle.session_laws.proofs.Facts.{held_alive}
+use Rattle.std.proofs.Common.{◌≡◌, ℕ, suc, ◌+◌, Bool, true, false, not, ◌&&◌, ◌==◌, nat_eq, map, List, [], ◌∷◌, ◌++◌, length, slice_get, ◌⊎◌, inl, inr, subst, sym, refl, ap, ◌∙◌, Option, Some, None, option_map, is_some, unwrap_or}
 use Rattle.std.specs.Bool.{if◌then◌else◌}
-use Rattle.std.specs.List.{list_any}
 use Rattle.std.specs.Option.{option_map_or}
-use Rattle.std.proofs.lemmas.Bool.{both_ways, cases_Bool, cases_eq, ne_eqb, eqb-true, and_parts, and_left, and_right, or_cases, false_from_ne_true}
+use Rattle.std.proofs.lemmas.Bool.{both_ways, cases_Bool, cases_eq, ne_eqb, and_parts, and_left, and_right, false_from_ne_true}
 use Rattle.std.proofs.lemmas.Option.{same_Some}
 use Rattle.orc_ids.specs.declared.ids.InstId.{InstId}
 use Rattle.session_model.specs.Lists.{changed_at, numbered}
-use Rattle.session_model.specs.Plain.{Plain, UnitRow, GenRow, is_unsearched, is_emitted, is_defunct, is_owned, unsearched_at}
+use Rattle.session_model.specs.Plain.{Plain, UnitRow, GenRow, is_unsearched, is_emitted, is_defunct, is_owned}
 use Rattle.session_model.specs.Reach.{is_hit, is_ready}
 use Rattle.session_model.specs.declared.rows.InstRow.{InstRow}
 use Rattle.session_model.specs.declared.rows.Phase.{Phase}
@@ -15,22 +20,21 @@ use Rattle.session_model.specs.declared.rows.Phase.TheVariants as phase
 use Rattle.session_model.specs.declared.rows.UnitPhase.TheVariants as stage
 use Rattle.std.proofs.Common.{arith}
 use Rattle.session_model.specs.Plain.{phase_address}
-use Rattle.session_model.specs.Change.{deps_in, hits_failed, unit_roots, tracker_roots, is_unit_of, bindings_of, settled, finish_listed, waits_for, claimed}
+use Rattle.session_model.specs.Change.{deps_in, hits_failed, tracker_roots, is_unit_of, settled, finish_listed, waits_for, claimed}
+use Rattle.session_model.specs.Plain.{is_owned_at}
 use Rattle.session_laws.proofs.Elements.{map_parts, changed_some, changed_elsewhere, same_element, numbered_at, mapped_at, numbered_parts, mapped_some}
 use Rattle.session_laws.proofs.Facts.{test_is, held_unemitted, unsearched_unclaimed, hit_emitted}
 use Rattle.session_laws.proofs.Settling.{chosen}
-use Rattle.session_laws.specs.Sound.{IsSound, fits, is_held_phase, AllMatched}
-use Rattle.orc_ids.specs.declared.ids.NameId.{NameId}
-use Rattle.orc_ids.specs.declared.flags.SymFlags.{SymFlags}
+use Rattle.session_laws.specs.Sound.{row_stage, IsSound, fits, is_held_phase, AllMatched}
 use Rattle.session_model.specs.Meaning.{Meaning}
-use Rattle.session_model.specs.declared.rows.Row.{Row}
-use Rattle.session_model.specs.Match.{row_of}
 use Rattle.session_model.specs.Query.{is_met}
-use Rattle.session_model.specs.Change.{verdict, verdict_on, replaced_by, is_replaced, is_strong, kept_names, new_rows, without_replaced, loses_name, defined, all_claimed, matched}
+use Rattle.session_model.specs.Change.{is_replaced, new_rows, without_replaced, defined, all_claimed}
 use Rattle.session_laws.proofs.Changes.{sound_linked}
 use Rattle.session_laws.proofs.Elements.{appended_cases, front_some, numbered_some}
 use Rattle.session_laws.proofs.Settling.{settling_keeps}
-use Rattle.session_model.specs.Change.{Change, Nothing, MakeDylib, MakeTracker, SetOrder, Attach, Define, Generate, Spend, Ask, Start, Finish, Place, Resolve, Link, Emit, Fail, Move, Remove, LetGo, change_of, changed, link_order}
+use Rattle.session_model.specs.Change.{change_of, changed}
+use Rattle.session_model.specs.declared.change.Change.{Change}
+use Rattle.session_model.specs.declared.change.Change.TheVariants.{Nothing, MakeDylib, MakeTracker, SetOrder, Attach, Define, Generate, Spend, Ask, Start, Finish, Place, Resolve, Link, Emit, Fail, Move, Remove, LetGo}
 use Rattle.session_model.specs.Answer.{Answers}
 use Rattle.session_model.specs.declared.entry.Entry.{Entry}
 use Rattle.session_laws.proofs.Defining.{IsHere}
@@ -42,59 +46,21 @@ use Rattle.session_model.specs.Change.{emitted, removed, spent}
 use Rattle.session_laws.proofs.Guards.{guard_of}
 use Rattle.session_laws.proofs.Defining.{claims_keep, claim_sound}
 use Rattle.session_laws.proofs.Along.{prefixes_legal}
-use Rattle.session_laws.proofs.Invariant.{sound_after, legal_is_sound, link_unit, good_here}
+use Rattle.session_laws.proofs.Invariant.{sound_after, legal_is_sound, good_here}
 use Rattle.session_laws.proofs.Settling.{settled_rows}
 use Rattle.session_laws.proofs.Elements.{numbered_some}
-use Rattle.session_laws.proofs.Defining.{replaced_unsearched}
 use Rattle.session_model.specs.Plain.{phase_address}
 use Rattle.session_laws.proofs.Readying.{state_from_joined, legal_rest}
 use Rattle.session_laws.proofs.Defining.{waiting_parts}
 use Rattle.session_laws.proofs.Invariant.{claims_leave, sound_changed}
-use Rattle.std.proofs.Common.{ap₂}
 use Rattle.session_laws.proofs.Defining.{new_rows_unit}
 use Rattle.session_laws.proofs.Elements.{element_below}
-use Rattle.session_laws.proofs.Replies.{row_here}
 use Rattle.session_laws.proofs.Rising.{start_listed, finish_linked}
 use Rattle.session_laws.proofs.Losing.{unit_of_is}
 use Rattle.session_laws.specs.Holding.{OwnSame, IsKept, AllOthers, HeldStays, GoneStaysHeld}
 use Rattle.session_model.specs.declared.rows.Query.{Query}
-use Rattle.session_model.specs.declared.rows.Verdict.TheVariants.{Kept, Replaces, Discarded, Clashes}
 
 -- A definition
-
--- only present instances are replaced
-replaced_here : (m : Plain) (d : ℕ) (v : Meaning) (i : ℕ) → is_replaced m d v i ≡ true → IsHere m.rows i
-replaced_here m d v i e = any_offer v.offers e
-  where
-    by_verdict : (flags : SymFlags) (name : ℕ) (o : Option Row) → row_of m d name ≡ o → option_map_or (nat_eq i) (replaced_by (option_map_or (verdict_on m flags) o Kept)) false ≡ true → IsHere m.rows i
-    by_verdict flags name None is h = absurd (both_ways false refl h)
-    by_verdict flags name (Some old) is h = chosen (λ w. option_map_or (nat_eq i) (replaced_by w) false ≡ true → IsHere m.rows i) (not (is_strong flags)) Discarded
-        (if is_strong old.flags || not (unsearched_at m.rows old.inst.0) then Clashes old.inst else Replaces old.inst)
-        (λ b h. absurd (both_ways false refl h))
-        (λ b. chosen (λ w. option_map_or (nat_eq i) (replaced_by w) false ≡ true → IsHere m.rows i) (is_strong old.flags || not (unsearched_at m.rows old.inst.0)) (Clashes old.inst) (Replaces old.inst)
-        (λ c h. absurd (both_ways false refl h))
-        (λ c h. subst (IsHere m.rows) (sym (eqb-true i old.inst.0 h)) (row_here m d name old is))) h
-
-    any_offer : (offers : List (NameId × SymFlags)) → list_any (λ (offer : NameId × SymFlags). option_map_or (nat_eq i) (replaced_by (verdict m d offer)) false) offers ≡ true → IsHere m.rows i
-    any_offer [] h = absurd (both_ways false refl h)
-    any_offer (offer ∷ offers) h = split (or_cases (option_map_or (nat_eq i) (replaced_by (verdict m d offer)) false) (list_any (λ (o : NameId × SymFlags). option_map_or (nat_eq i) (replaced_by (verdict m d o)) false) offers) h) (any_offer offers)
-      where
-        split : (option_map_or (nat_eq i) (replaced_by (verdict m d offer)) false ≡ true) ⊎ (list_any (λ (o : NameId × SymFlags). option_map_or (nat_eq i) (replaced_by (verdict m d o)) false) offers ≡ true) → (list_any (λ (o : NameId × SymFlags). option_map_or (nat_eq i) (replaced_by (verdict m d o)) false) offers ≡ true → IsHere m.rows i) → IsHere m.rows i
-        split (inl a) rest = by_verdict offer.1 offer.0.0 (row_of m d offer.0.0) refl a
-        split (inr b) rest = rest b
-
-any_flag : (bs : List Bool) → list_any (λ (b : Bool). b) bs ≡ true → (i : ℕ) × (slice_get bs i ≡ Some true)
-any_flag [] e = absurd (both_ways false refl e)
-any_flag (true ∷ bs) e = (0, refl)
-any_flag (false ∷ bs) e = let p = any_flag bs e in (suc p.0, p.1)
-
-numbered_same : {X : Type 0} (f : ℕ → X → X) → ((k : ℕ) (x : X) → f k x ≡ x) → (k : ℕ) (xs : List X) → numbered f k xs ≡ xs
-numbered_same f h k [] = refl
-numbered_same f h k (x ∷ xs) = ap₂ (λ y ys. y ∷ ys) (h k x) (numbered_same f h (k + 1) xs)
-
-and_kept : (b c : Bool) → c ≡ false → (b && not c) ≡ b
-and_kept true c e = ap not e
-and_kept false c e = refl
 
 -- The instances of a held unit
 
@@ -108,16 +74,12 @@ pub record IsBusy (m : Plain) (t u : ℕ) (x : UnitRow) : Type 0 where
 busy_phase : (m : Plain) (t u : ℕ) (x : UnitRow) → IsBusy m t u x → is_held_phase x.phase ≡ true
 busy_phase m t u x b = sym ((b.sound.units_fit u x b.there).seat b.alive) ∙ ap is_some b.seat
 
-busy_fits : (m : Plain) (t u : ℕ) (x : UnitRow) (i : ℕ) (r : InstRow) → IsBusy m t u x → slice_get m.rows i ≡ Some r → r.present ≡ true → r.unit.0 ≡ u → fits x.phase r.phase ≡ true
+busy_fits : (m : Plain) (t u : ℕ) (x : UnitRow) (i : ℕ) (r : InstRow) → IsBusy m t u x → slice_get m.rows i ≡ Some r → r.present ≡ true → r.unit.0 ≡ u → fits (row_stage x) r.phase ≡ true
 busy_fits m t u x i r b e p is = let y = (b.sound.rows_fit i r e).here p in
-    subst (λ (z : UnitRow). fits z.phase r.phase ≡ true) (same_element (slice_get m.units u) y.0 x (sym (ap (slice_get m.units) is) ∙ y.1) b.there) y.2
+    subst (λ (z : UnitRow). fits (row_stage z) r.phase ≡ true) (same_element (slice_get m.units u) y.0 x (sym (ap (slice_get m.units) is) ∙ y.1) b.there) y.2
 
 busy_unemitted : (m : Plain) (t u : ℕ) (x : UnitRow) (i : ℕ) (r : InstRow) → IsBusy m t u x → slice_get m.rows i ≡ Some r → r.present ≡ true → r.unit.0 ≡ u → is_emitted r.phase ≡ false
-busy_unemitted m t u x i r b e p is = held_unemitted x.phase r.phase (busy_phase m t u x b) (busy_fits m t u x i r b e p is)
-
-busy_searched : (m : Plain) (t u : ℕ) (x : UnitRow) (i : ℕ) (r : InstRow) → IsBusy m t u x → slice_get m.rows i ≡ Some r → r.present ≡ true → r.unit.0 ≡ u → is_unsearched r.phase ≡ false
-busy_searched m t u x i r b e p is = false_from_ne_true (is_unsearched r.phase) (λ n.
-    both_ways (is_held_phase x.phase) (ap is_held_phase (unsearched_unclaimed x.phase r.phase (busy_fits m t u x i r b e p is) n)) (busy_phase m t u x b))
+busy_unemitted m t u x i r b e p is = held_unemitted (row_stage x) r.phase (held_row x (busy_phase m t u x b)) (busy_fits m t u x i r b e p is)
 
 -- another unit is changed
 busy_apart : (m : Plain) (t u : ℕ) (x : UnitRow) (v : ℕ) (y : UnitRow) → IsBusy m t u x → slice_get m.units v ≡ Some y → (y.seat ≡ Some t → is_defunct y.phase ≡ false → ⊥) → u ≡ v → ⊥
@@ -164,65 +126,52 @@ kept_same m n u x t own = record { unit = x; there = t; seat = refl; how = inr (
 
 -- The changes
 
-defined_kept : (m : Plain) (d k : ℕ) (v : Meaning) (t u : ℕ) (x : UnitRow) → IsBusy m t u x → IsKept m (defined m d k v) u x
+defined_kept : (m : Plain) (d k : ℕ) (v : Meaning) (t u : ℕ) (x : UnitRow) → IsBusy m t u x → IsKept m (defined d k v (verdicts m.rows d v.offers) m) u x
 defined_kept m d k v t u x b = record {
-  unit = without_replaced m d v u x;
-  there = front_some (numbered (without_replaced m d v) 0 m.units) (new ∷ []) u (without_replaced m d v u x) (numbered_some (without_replaced m d v) m.units u x b.there);
+  unit = without_replaced m.rows (verdicts m.rows d v.offers) u x;
+  there = front_some (numbered (without_replaced m.rows (verdicts m.rows d v.offers)) 0 m.units) (new_unit k v (verdicts m.rows d v.offers) ∷ []) u (without_replaced m.rows (verdicts m.rows d v.offers) u x) (numbered_some (without_replaced m.rows (verdicts m.rows d v.offers)) m.units u x b.there);
   seat = refl;
-  how = inr (ap (λ l. record x { live = l }) live, own);
+  how = inr (live_kept m d v.offers u x b.sound b.there asked, own);
 }
   where
-    new : UnitRow
-    new = record { meaning = v; tracker = k; live = kept_names m d v; phase = stage.Unclaimed; seat = None; base = None; query = None; bound = None }
+    vs : List Verdict
+    vs = verdicts m.rows d v.offers
 
     g : ℕ → InstRow → InstRow
-    g i r = record r { present = r.present && not (is_replaced m d v i) }
+    g = unreplaced_row (verdicts m.rows d v.offers)
 
-    unreplaced : (i : ℕ) (r : InstRow) → slice_get m.rows i ≡ Some r → r.unit.0 ≡ u → is_replaced m d v i ≡ false
-    unreplaced i r e is = false_from_ne_true (is_replaced m d v i) (λ h.
-        both_ways (is_unsearched r.phase) (busy_searched m t u x i r b e (sym (test_is (λ (y : InstRow). y.present) m.rows i r e) ∙ replaced_here m d v i h) is)
-        (sym (test_is (λ (y : InstRow). is_unsearched y.phase) m.rows i r e) ∙ replaced_unsearched m d v i h))
+    asked : x.phase ≡ stage.Unclaimed → ⊥
+    asked e = both_ways (is_held_phase x.phase) (ap is_held_phase e) (busy_phase m t u x b)
 
-    loses : (j : ℕ) → loses_name m d v u j ≡ false
-    loses j = false_from_ne_true (loses_name m d v u j) (λ h. clash (any_flag (numbered (λ i (r : InstRow). is_replaced m d v i && r.unit.0 == u && r.offer == j) 0 m.rows) h))
-      where
-        clash : (i : ℕ) × (slice_get (numbered (λ i (r : InstRow). is_replaced m d v i && r.unit.0 == u && r.offer == j) 0 m.rows) i ≡ Some true) → ⊥
-        clash p = let q = numbered_parts (λ i (r : InstRow). is_replaced m d v i && r.unit.0 == u && r.offer == j) m.rows p.0 true p.1 in
-            let a = and_parts (is_replaced m d v p.0) (q.0.unit.0 == u) (and_parts (is_replaced m d v p.0 && q.0.unit.0 == u) (q.0.offer == j) (sym q.2)).0 in
-            both_ways (is_replaced m d v p.0) (unreplaced p.0 q.0 q.1 (eqb-true q.0.unit.0 u a.1)) a.0
-
-    live : numbered (λ j (flag : Bool). flag && not (loses_name m d v u j)) 0 x.live ≡ x.live
-    live = numbered_same (λ j (flag : Bool). flag && not (loses_name m d v u j)) (λ j flag. and_kept flag (loses_name m d v u j) (loses j)) 0 x.live
-
-    own : OwnSame m.rows (defined m d k v).rows u
+    own : OwnSame m.rows (defined d k v vs m).rows u
     own i r p is = (to, from)
       where
         same : (q : InstRow) → slice_get m.rows i ≡ Some q → q.unit.0 ≡ u → g i q ≡ q
-        same q e w = ap (λ c. record q { present = c }) (and_kept q.present (is_replaced m d v i) (unreplaced i q e w))
+        same q e w = ap (λ c. record q { present = c }) (and_kept q.present (is_replaced vs i) (unreplaced_at m d v.offers u x i q b.sound b.there asked e w))
 
-        to : slice_get m.rows i ≡ Some r → slice_get (defined m d k v).rows i ≡ Some r
-        to e = front_some (numbered g 0 m.rows) (new_rows m d (length m.units) 0 v.offers) i r (numbered_some g m.rows i r e ∙ ap Some (same r e is))
+        to : slice_get m.rows i ≡ Some r → slice_get (defined d k v vs m).rows i ≡ Some r
+        to e = front_some (numbered g 0 m.rows) (new_rows d (length m.units) 0 v.offers vs) i r (numbered_some g m.rows i r e ∙ ap Some (same r e is))
 
-        from : slice_get (defined m d k v).rows i ≡ Some r → slice_get m.rows i ≡ Some r
-        from e = split (appended_cases (numbered g 0 m.rows) (new_rows m d (length m.units) 0 v.offers) i r e)
+        from : slice_get (defined d k v vs m).rows i ≡ Some r → slice_get m.rows i ≡ Some r
+        from e = split (appended_cases (numbered g 0 m.rows) (new_rows d (length m.units) 0 v.offers vs) i r e)
           where
-            split : (slice_get (numbered g 0 m.rows) i ≡ Some r) ⊎ ((j : ℕ) × (i ≡ length (numbered g 0 m.rows) + j) × (slice_get (new_rows m d (length m.units) 0 v.offers) j ≡ Some r)) → slice_get m.rows i ≡ Some r
+            split : (slice_get (numbered g 0 m.rows) i ≡ Some r) ⊎ ((j : ℕ) × (i ≡ length (numbered g 0 m.rows) + j) × (slice_get (new_rows d (length m.units) 0 v.offers vs) j ≡ Some r)) → slice_get m.rows i ≡ Some r
             split (inl a) = let q = numbered_parts g m.rows i r a in q.1 ∙ ap Some (sym (q.2 ∙ same q.0 q.1 (ap (λ (y : InstRow). y.unit.0) (sym q.2) ∙ is)))
-            split (inr a) = absurd (omega (arith, element_below m.units u x b.there, is, new_rows_unit m d (length m.units) 0 v.offers a.0 r a.2))
+            split (inr a) = absurd (omega (arith, element_below m.units u x b.there, is, new_rows_unit d (length m.units) 0 v.offers vs a.0 r a.2))
 
 claim_kept : (i : ℕ) (r : InstRow) (n : Plain) (t u : ℕ) (x : UnitRow) → IsBusy n t u x → slice_get n.rows i ≡ Some r → r.present ≡ true → is_unsearched r.phase ≡ true → (slice_get (claimed r.unit.0 n).units u ≡ Some x) × OwnSame n.rows (claimed r.unit.0 n).rows u
 claim_kept i r n t u x b e present unsearched = (
-  changed_elsewhere r.unit.0 (λ y. record y { phase = stage.Listed }) n.units u apart ∙ b.there,
+  changed_elsewhere r.unit.0 listed_unit n.units u apart ∙ b.there,
   own_rephased n.rows (claimed r.unit.0 n).rows (λ j q. is_owned r.unit.0 q && is_unsearched q.phase) (λ j q. phase.Claimed) u
-      (λ j. mapped_at (λ (q : InstRow). record q { phase = if is_owned r.unit.0 q && is_unsearched q.phase then phase.Claimed else q.phase }) n.rows j)
+      (λ j. mapped_at (claimed_row r.unit.0) n.rows j)
       (λ j q f p is. and_left (is_owned r.unit.0 q) (is_unsearched q.phase) (unowned u r.unit.0 q apart is)),
 )
   where
-    y : (y : UnitRow) × (slice_get n.units r.unit.0 ≡ Some y) × (fits y.phase r.phase ≡ true)
+    y : (y : UnitRow) × (slice_get n.units r.unit.0 ≡ Some y) × (fits (row_stage y) r.phase ≡ true)
     y = (b.sound.rows_fit i r e).here present
 
     apart : u ≡ r.unit.0 → ⊥
-    apart = unheld_apart n t u x r.unit.0 y.0 b y.1 (ap is_held_phase (unsearched_unclaimed y.0.phase r.phase y.2 unsearched))
+    apart = unheld_apart n t u x r.unit.0 y.0 b y.1 (ap is_held_phase (unclaimed_row y.0 (unsearched_unclaimed (row_stage y.0) r.phase y.2 unsearched)))
 
 own_again : (rows new newer : List InstRow) (u : ℕ) → OwnSame rows new u → OwnSame new newer u → OwnSame rows newer u
 own_again rows new newer u f g i r p is = (λ e. (g i r p is).0 ((f i r p is).0 e), λ e. (f i r p is).1 ((g i r p is).1 e))
@@ -244,7 +193,7 @@ removed_kept : (m : Plain) (k t u : ℕ) (x : UnitRow) → IsBusy m t u x → Is
 removed_kept m k t u x b = split (cases_Bool (x.tracker == k))
   where
     f : UnitRow → UnitRow
-    f y = record y { phase = if y.tracker == k then stage.Defunct else y.phase; base = if y.tracker == k then None else y.base }
+    f = removed_unit k
 
     there : slice_get (removed k m).units u ≡ Some (f x)
     there = mapped_some f m.units u x b.there
@@ -263,62 +212,48 @@ removed_kept m k t u x b = split (cases_Bool (x.tracker == k))
         ungone : (r : InstRow) → r.unit.0 ≡ u → is_unit_of m k r.unit.0 ≡ false
         ungone r is = ap (is_unit_of m k) is ∙ (unit_of_is m k u x b.there ∙ e)
 
-gone_defined : (m : Plain) (n w : ℕ) (v : Meaning) (t u : ℕ) (x : UnitRow) → slice_get m.units u ≡ Some x → x.phase ≡ stage.Defunct → x.seat ≡ Some t → (y : UnitRow) × (slice_get (defined m n w v).units u ≡ Some y) × (y.phase ≡ stage.Defunct) × (y.seat ≡ Some t)
-gone_defined m n w v t u x e d k = (without_replaced m n v u x, front_some (numbered (without_replaced m n v) 0 m.units) (new ∷ []) u (without_replaced m n v u x) (numbered_some (without_replaced m n v) m.units u x e), d, k)
-  where
-    new : UnitRow
-    new = record { meaning = v; tracker = w; live = kept_names m n v; phase = stage.Unclaimed; seat = None; base = None; query = None; bound = None }
+gone_defined : (m : Plain) (n w : ℕ) (v : Meaning) (vs : List Verdict) (t u : ℕ) (x : UnitRow) → slice_get m.units u ≡ Some x → x.phase ≡ stage.Defunct → x.seat ≡ Some t → (y : UnitRow) × (slice_get (defined n w v vs m).units u ≡ Some y) × (y.phase ≡ stage.Defunct) × (y.seat ≡ Some t)
+gone_defined m n w v vs t u x e d k = (without_replaced m.rows vs u x, front_some (numbered (without_replaced m.rows vs) 0 m.units) (new_unit w v vs ∷ []) u (without_replaced m.rows vs u x) (numbered_some (without_replaced m.rows vs) m.units u x e), d, k)
 
-pub change_kept : (m : Plain) (s : ℕ) (c : Change) (t u : ℕ) (x : UnitRow) → (s ≡ t → ⊥) → IsBusy m t u x → Guard m s c → IsKept m (changed c m) u x
+pub change_kept : (m : Plain) (s : ℕ) (c : Change Meaning) (t u : ℕ) (x : UnitRow) → (s ≡ t → ⊥) → IsBusy m t u x → Guard m s c → IsKept m (changed c m) u x
 change_kept m s Nothing t u x apart b g = kept_same m m u x b.there (own_same m.rows u)
 change_kept m s (MakeDylib name) t u x apart b g = kept_same m (changed (MakeDylib name) m) u x b.there (own_same m.rows u)
 change_kept m s (MakeTracker d) t u x apart b g = kept_same m (changed (MakeTracker d) m) u x b.there (own_same m.rows u)
 change_kept m s (SetOrder d order) t u x apart b g = kept_same m (changed (SetOrder d order) m) u x b.there (own_same m.rows u)
 change_kept m s (Attach d k v) t u x apart b g = kept_same m (changed (Attach d k v) m) u x b.there (own_same m.rows u)
-change_kept m s (Define d k v) t u x apart b g = defined_kept m d k v t u x b
-change_kept m s (Generate k) t u x apart b g = split (slice_get m.generators k)
+change_kept m s (Define d k v found) t u x apart b g = subst (λ vs. IsKept m (defined d.0 k.0 v vs m) u x) (sym g) (defined_kept m d.0 k.0 v t u x b)
+change_kept m s (Generate k found) t u x apart b g = subst (λ vs. IsKept m (changed (Generate k vs) m) u x) (sym g) (split (slice_get m.generators k.0))
   where
-    split : (o : Option GenRow) → IsKept m (option_map_or (λ y. spent k (defined m y.dylib y.tracker y.meaning)) o m) u x
+    split : (o : Option GenRow) → IsKept m (option_map_or (λ y. spent k.0 (defined y.dylib y.tracker y.meaning (option_map_or (λ (z : GenRow). verdicts m.rows z.dylib z.meaning.offers) o []) m)) o m) u x
     split None = kept_same m m u x b.there (own_same m.rows u)
     split (Some y) = let p = defined_kept m y.dylib y.tracker y.meaning t u x b in record { unit = p.unit; there = p.there; seat = p.seat; how = p.how }
 change_kept m s (Spend k) t u x apart b g = kept_same m (changed (Spend k) m) u x b.there (own_same m.rows u)
-change_kept m s (Ask order wanted lev n) t u x apart b g = let p = claims_kept m (matched m order wanted) t u x b (good_here m (matched m order wanted) g) in
-    kept_same m (changed (Ask order wanted lev n) m) u x p.0 p.1
-change_kept m s (Start k v) t u x apart b g = let y = start_listed m v g.1 b.sound g.2 in
-    kept_apart m (changed (Start k v) m) u v x (λ z. record z { phase = stage.Started; seat = Some k }) m.units b.there refl (unheld_apart m t u x v y.0 b y.1 (ap is_held_phase y.2)) (own_same m.rows u)
-change_kept m s (Finish k v how) t u x apart b g = let y = finish_linked m v g.1 b.sound g.2 in
-    kept_apart m (changed (Finish k v how) m) u v x (λ z. record z { phase = stage.Finishing; seat = Some k; bound = bindings_of how }) m.units b.there refl (unheld_apart m t u x v y.0 b y.1 (ap is_held_phase y.2)) (own_same m.rows u)
-change_kept m s (Place v shape base) t u x apart b g = kept_apart m (changed (Place v shape base) m) u v x (λ z. record z { phase = stage.Placed; base = Some base }) m.units b.there refl (other_apart m s t u x v g.0 apart b g.1 g.2) (own_same m.rows u)
-change_kept m s (Resolve v) t u x apart b g = subst (λ o. IsKept m (option_map_or (λ (y : UnitRow). record m {
-  rows = map (λ (r : InstRow). record r { phase = if is_owned v r then phase.Resolved (y.meaning.address r.offer (unwrap_or y.base 0)) else r.phase }) m.rows;
-  units = changed_at v (λ z. record z { phase = stage.Linking }) m.units;
-}) o m) u x) (sym g.1)
-    (kept_apart m (record m {
-      rows = map (λ (r : InstRow). record r { phase = if is_owned v r then phase.Resolved (g.0.meaning.address r.offer (unwrap_or g.0.base 0)) else r.phase }) m.rows;
-      units = changed_at v (λ z. record z { phase = stage.Linking }) m.units;
-    }) u v x (λ z. record z { phase = stage.Linking }) m.units b.there refl (other_apart m s t u x v g.0 apart b g.1 g.2)
-    (own_rephased m.rows (map (λ (r : InstRow). record r { phase = if is_owned v r then phase.Resolved (g.0.meaning.address r.offer (unwrap_or g.0.base 0)) else r.phase }) m.rows) (λ i r. is_owned v r) (λ i r. phase.Resolved (g.0.meaning.address r.offer (unwrap_or g.0.base 0))) u
-    (λ i. mapped_at (λ (r : InstRow). record r { phase = if is_owned v r then phase.Resolved (g.0.meaning.address r.offer (unwrap_or g.0.base 0)) else r.phase }) m.rows i)
-    (λ i r e p is. unowned u v r (other_apart m s t u x v g.0 apart b g.1 g.2) is)))
-change_kept m s (Link v) t u x apart b g = let p = claims_kept m (matched m (link_order m g.0) (g.0.meaning.externals g.0.live)) t u x b (good_here m (matched m (link_order m g.0) (g.0.meaning.externals g.0.live)) g.3.1) in
-    subst (λ o. IsKept m (option_map_or (link_unit m v) o m) u x) (sym g.1)
-    (kept_apart m (link_unit m v g.0) u v x (λ y. record y { phase = stage.Waiting; seat = None; query = Some (length m.queries) }) (all_claimed (matched m (link_order m g.0) (g.0.meaning.externals g.0.live)) m).units p.0 refl (other_apart m s t u x v g.0 apart b g.1 g.2) p.1)
-change_kept m s (Emit v groups) t u x apart b g = kept_apart m (changed (Emit v groups) m) u v x (λ z. record z { phase = stage.Done; seat = None }) m.units b.there refl (other_apart m s t u x v g.0 apart b g.1 g.2)
-    (own_rephased m.rows (emitted v groups m).rows (λ i r. is_owned v r) (λ i r. phase.Emitted (unwrap_or (phase_address r.phase) 0) (deps_in groups i)) u
-    (numbered_at (λ i (r : InstRow). record r { phase = if is_owned v r then phase.Emitted (unwrap_or (phase_address r.phase) 0) (deps_in groups i) else r.phase }) m.rows)
-    (λ i r e p is. unowned u v r (other_apart m s t u x v g.0 apart b g.1 g.2) is))
-change_kept m s (Fail v) t u x apart b g = kept_apart m (changed (Fail v) m) u v x (λ z. record z { phase = stage.Failed; seat = None; base = None }) m.units b.there refl (other_apart m s t u x v g.0 apart b g.1 g.2)
-    (hits_own m (unit_roots v m.rows) t u x b (λ i r e p is. ap (λ o. option_map_or (is_owned v) o false) e ∙ unowned u v r (other_apart m s t u x v g.0 apart b g.1 g.2) is))
-change_kept m s (Move k to) t u x apart b g = chosen (λ n. IsKept m n u x) (k == to) m (record m {
-  units = map (λ (y : UnitRow). record y { tracker = if y.tracker == k then to else y.tracker }) m.units;
-  generators = map (λ (y : GenRow). record y { tracker = if y.tracker == k then to else y.tracker }) m.generators;
-  trackers = changed_at k (λ y. record y { gone = true }) m.trackers;
-})
+change_kept m s (Ask found lev n) t u x apart b g = let p = claims_kept m found t u x b (good_here m found g) in
+    kept_same m (changed (Ask found lev n) m) u x p.0 p.1
+change_kept m s (Start k v) t u x apart b g = let y = start_listed m v.0 g.1 b.sound g.2 in
+    kept_apart m (changed (Start k v) m) u v.0 x (started_unit k.0) m.units b.there refl (unheld_apart m t u x v.0 y.0 b y.1 (ap is_held_phase y.2)) (own_same m.rows u)
+change_kept m s (Finish k v how) t u x apart b g = let y = finish_linked m v.0 g.1 b.sound g.2 in
+    kept_apart m (changed (Finish k v how) m) u v.0 x (finishing_unit k.0 how) m.units b.there refl (unheld_apart m t u x v.0 y.0 b y.1 (ap is_held_phase y.2)) (own_same m.rows u)
+change_kept m s (Place v base) t u x apart b g = kept_apart m (changed (Place v base) m) u v.0 x (placed_unit base) m.units b.there refl (other_apart m s t u x v.0 g.0 apart b g.1 g.2) (own_same m.rows u)
+change_kept m s (Resolve v) t u x apart b g = subst (λ o. IsKept m (option_map_or (λ (y : UnitRow). record m { rows = map (resolved_row v.0 (resolved_unit y)) m.rows; units = changed_at v.0 resolved_unit m.units }) o m) u x) (sym g.1)
+    (kept_apart m (record m { rows = map (resolved_row v.0 (resolved_unit g.0)) m.rows; units = changed_at v.0 resolved_unit m.units }) u v.0 x resolved_unit m.units b.there refl (other_apart m s t u x v.0 g.0 apart b g.1 g.2)
+    (own_rephased m.rows (map (resolved_row v.0 (resolved_unit g.0)) m.rows) (λ i r. is_owned v.0 r) (λ i r. phase.Resolved (g.0.meaning.address r.offer (unwrap_or (resolved_unit g.0).base 0))) u
+    (λ i. mapped_at (resolved_row v.0 (resolved_unit g.0)) m.rows i)
+    (λ i r e p is. unowned u v.0 r (other_apart m s t u x v.0 g.0 apart b g.1 g.2) is)))
+change_kept m s (Link v found) t u x apart b g = let p = claims_kept m found t u x b (good_here m found g.3.3) in
+    kept_apart m (linked v.0 found m) u v.0 x (waiting_unit (length m.queries)) (all_claimed found m).units p.0 refl (other_apart m s t u x v.0 g.0 apart b g.1 g.2) p.1
+change_kept m s (Emit v groups) t u x apart b g = kept_apart m (changed (Emit v groups) m) u v.0 x done_unit m.units b.there refl (other_apart m s t u x v.0 g.0 apart b g.1 g.2)
+    (own_rephased m.rows (emitted v.0 groups m).rows (λ i r. is_owned v.0 r) (λ i r. phase.Emitted (unwrap_or (phase_address r.phase) 0) (deps_in groups i)) u
+    (numbered_at (emitted_row v.0 groups) m.rows)
+    (λ i r e p is. unowned u v.0 r (other_apart m s t u x v.0 g.0 apart b g.1 g.2) is))
+change_kept m s (Fail v) t u x apart b g = kept_apart m (changed (Fail v) m) u v.0 x failed_unit m.units b.there refl (other_apart m s t u x v.0 g.0 apart b g.1 g.2)
+    (hits_own m (is_owned_at v.0 m.rows) t u x b (λ i r e p is. ap (λ o. option_map_or (is_owned v.0) o false) e ∙ unowned u v.0 r (other_apart m s t u x v.0 g.0 apart b g.1 g.2) is))
+change_kept m s (Move k to) t u x apart b g = chosen (λ n. IsKept m n u x) (k.0 == to.0) m (record m { units = map (moved_unit k.0 to.0) m.units; generators = map (moved_generator k.0 to.0) m.generators; trackers = changed_at k.0 gone_tracker m.trackers })
     (λ e. kept_same m m u x b.there (own_same m.rows u))
-    (λ e. record { unit = record x { tracker = if x.tracker == k then to else x.tracker }; there = mapped_some (λ (y : UnitRow). record y { tracker = if y.tracker == k then to else y.tracker }) m.units u x b.there; seat = refl; how = inr (refl, own_same m.rows u) })
-change_kept m s (Remove k) t u x apart b g = removed_kept m k t u x b
-change_kept m s (LetGo k v) t u x apart b g = kept_apart m (changed (LetGo k v) m) u v x (λ z. record z { seat = if option_map_or (nat_eq k) z.seat false then None else z.seat }) m.units b.there refl
-    (busy_apart m t u x v g.1 b g.2 (λ h d. both_ways (is_defunct g.1.phase) d g.3)) (own_same m.rows u)
+    (λ e. record { unit = moved_unit k.0 to.0 x; there = mapped_some (moved_unit k.0 to.0) m.units u x b.there; seat = refl; how = inr (refl, own_same m.rows u) })
+change_kept m s (Remove k) t u x apart b g = removed_kept m k.0 t u x b
+change_kept m s (LetGo k v) t u x apart b g = kept_apart m (changed (LetGo k v) m) u v.0 x (let_go_unit k.0) m.units b.there refl
+    (busy_apart m t u x v.0 g.1 b g.2 (λ h d. both_ways (is_defunct g.1.phase) d g.3)) (own_same m.rows u)
 
 -- Settling leaves it too
 
@@ -328,7 +263,7 @@ settled_kept m t u x b = (settling_keeps (λ n. IsSound n × (slice_get n.units 
     step : (v k : ℕ) (q : Query) (n : Plain) → IsSound n × (slice_get n.units u ≡ Some x) → waits_for n v k ≡ true → is_met n.rows q ≡ true → q.unit ≡ Some v → IsSound (finish_listed v n) × (slice_get (finish_listed v n).units u ≡ Some x)
     step v k q n p w e f = let y = waiting_parts n v k w in (
       sound_linked n.rows n.units n.queries n.jobs v y.0 p.0 y.1 y.2,
-      changed_elsewhere v (λ z. record z { phase = stage.Linked }) n.units u (unheld_apart n t u x v y.0 (record { sound = p.0; there = p.1; seat = b.seat; alive = b.alive }) y.1 (ap is_held_phase y.2)) ∙ p.1,
+      changed_elsewhere v linked_unit n.units u (unheld_apart n t u x v y.0 (record { sound = p.0; there = p.1; seat = b.seat; alive = b.alive }) y.1 (ap is_held_phase y.2)) ∙ p.1,
     )
 
 defunct_settled : (m : Plain) (u : ℕ) (x : UnitRow) → slice_get m.units u ≡ Some x → x.phase ≡ stage.Defunct → slice_get (settled m).units u ≡ Some x
@@ -336,15 +271,15 @@ defunct_settled m u x t d = settling_keeps (λ n. slice_get n.units u ≡ Some x
   where
     step : (v k : ℕ) (q : Query) (n : Plain) → slice_get n.units u ≡ Some x → waits_for n v k ≡ true → is_met n.rows q ≡ true → q.unit ≡ Some v → slice_get (finish_listed v n).units u ≡ Some x
     step v k q n p w e f = let y = waiting_parts n v k w in
-        changed_elsewhere v (λ z. record z { phase = stage.Linked }) n.units u (λ is.
+        changed_elsewhere v linked_unit n.units u (λ is.
         let same = same_element (slice_get n.units v) x y.0 (ap (slice_get n.units) (sym is) ∙ p) y.1 in
         let clash : stage.Defunct ≡ stage.Waiting = sym d ∙ (ap (λ (z : UnitRow). z.phase) same ∙ y.2) in cc) ∙ p
 
 pub after_kept : (jmax : ℕ) (past : List (Entry Meaning)) (m : Plain) (e : Entry Meaning) (t u : ℕ) (x : UnitRow) → (e.seat.0 ≡ t → ⊥) → IsBusy m t u x → Answers jmax past m e.seat.0 e.event e.reply → IsKept m (after m e) u x
 after_kept jmax past m e t u x apart b a = split kept.how
   where
-    c : Change
-    c = change_of e.seat.0 e.event e.reply
+    c : Change Meaning
+    c = change_of m e.seat.0 e.event e.reply
 
     guard : Guard m e.seat.0 c
     guard = guard_of jmax past m e.seat.0 e.event e.reply a
@@ -380,70 +315,55 @@ gone_apart m u v x y f t e d s k n = (
 gone_claims : (m : Plain) (u : ℕ) (x : UnitRow) (os : List (Option InstId)) → IsSound m → slice_get m.units u ≡ Some x → x.phase ≡ stage.Defunct → AllMatched (IsHere m.rows) os → slice_get (all_claimed os m).units u ≡ Some x
 gone_claims m u x os s t d here = claims_leave m u x os s t (λ e. let f : stage.Defunct ≡ stage.Unclaimed = sym d ∙ e in cc) here
 
-change_gone : (m : Plain) (s : ℕ) (c : Change) (t u : ℕ) (x : UnitRow) → (s ≡ t → ⊥) → IsSound m → slice_get m.units u ≡ Some x → x.phase ≡ stage.Defunct → x.seat ≡ Some t → Guard m s c → IsGone (changed c m).units t u
+change_gone : (m : Plain) (s : ℕ) (c : Change Meaning) (t u : ℕ) (x : UnitRow) → (s ≡ t → ⊥) → IsSound m → slice_get m.units u ≡ Some x → x.phase ≡ stage.Defunct → x.seat ≡ Some t → Guard m s c → IsGone (changed c m).units t u
 change_gone m s Nothing t u x apart h e d k g = (x, e, d, k)
 change_gone m s (MakeDylib name) t u x apart h e d k g = (x, e, d, k)
 change_gone m s (MakeTracker n) t u x apart h e d k g = (x, e, d, k)
 change_gone m s (SetOrder n order) t u x apart h e d k g = (x, e, d, k)
 change_gone m s (Attach n w v) t u x apart h e d k g = (x, e, d, k)
-change_gone m s (Define n w v) t u x apart h e d k g = gone_defined m n w v t u x e d k
-change_gone m s (Generate n) t u x apart h e d k g = split (slice_get m.generators n)
+change_gone m s (Define n w v found) t u x apart h e d k g = gone_defined m n.0 w.0 v found t u x e d k
+change_gone m s (Generate n found) t u x apart h e d k g = split (slice_get m.generators n.0)
   where
-    split : (o : Option GenRow) → IsGone (option_map_or (λ y. spent n (defined m y.dylib y.tracker y.meaning)) o m).units t u
+    split : (o : Option GenRow) → IsGone (option_map_or (λ y. spent n.0 (defined y.dylib y.tracker y.meaning found m)) o m).units t u
     split None = (x, e, d, k)
-    split (Some y) = gone_defined m y.dylib y.tracker y.meaning t u x e d k
+    split (Some y) = gone_defined m y.dylib y.tracker y.meaning found t u x e d k
 change_gone m s (Spend n) t u x apart h e d k g = (x, e, d, k)
-change_gone m s (Ask order wanted lev w) t u x apart h e d k g = (x, gone_claims m u x (matched m order wanted) h e d (good_here m (matched m order wanted) g), d, k)
-change_gone m s (Start w v) t u x apart h e d k g = let y = start_listed m v g.1 h g.2 in gone_apart m u v x y.0 (λ z. record z { phase = stage.Started; seat = Some w }) t e d k y.1 (ap is_defunct y.2)
-change_gone m s (Finish w v how) t u x apart h e d k g = let y = finish_linked m v g.1 h g.2 in gone_apart m u v x y.0 (λ z. record z { phase = stage.Finishing; seat = Some w; bound = bindings_of how }) t e d k y.1 (ap is_defunct y.2)
-change_gone m s (Place v shape base) t u x apart h e d k g = gone_apart m u v x g.0 (λ z. record z { phase = stage.Placed; base = Some base }) t e d k g.1 (ap is_defunct g.3)
-change_gone m s (Resolve v) t u x apart h e d k g = subst (λ o. IsGone (option_map_or (λ (y : UnitRow). record m {
-  rows = map (λ (r : InstRow). record r { phase = if is_owned v r then phase.Resolved (y.meaning.address r.offer (unwrap_or y.base 0)) else r.phase }) m.rows;
-  units = changed_at v (λ z. record z { phase = stage.Linking }) m.units;
-}) o m).units t u) (sym g.1)
-    (gone_apart m u v x g.0 (λ z. record z { phase = stage.Linking }) t e d k g.1 (alive g.3))
+change_gone m s (Ask found lev w) t u x apart h e d k g = (x, gone_claims m u x found h e d (good_here m found g), d, k)
+change_gone m s (Start w v) t u x apart h e d k g = let y = start_listed m v.0 g.1 h g.2 in gone_apart m u v.0 x y.0 (started_unit w.0) t e d k y.1 (ap is_defunct y.2)
+change_gone m s (Finish w v how) t u x apart h e d k g = let y = finish_linked m v.0 g.1 h g.2 in gone_apart m u v.0 x y.0 (finishing_unit w.0 how) t e d k y.1 (ap is_defunct y.2)
+change_gone m s (Place v base) t u x apart h e d k g = gone_apart m u v.0 x g.0 (placed_unit base) t e d k g.1 (ap is_defunct g.3.0)
+change_gone m s (Resolve v) t u x apart h e d k g = subst (λ o. IsGone (option_map_or (λ (y : UnitRow). record m { rows = map (resolved_row v.0 (resolved_unit y)) m.rows; units = changed_at v.0 resolved_unit m.units }) o m).units t u) (sym g.1)
+    (gone_apart m u v.0 x g.0 resolved_unit t e d k g.1 (held_alive g.0.phase (resolvable_held g.0 g.3)))
+change_gone m s (Link v found) t u x apart h e d k g = gone_apart (all_claimed found m) u v.0 x g.0 (waiting_unit (length m.queries)) t (gone_claims m u x found h e d here) d k
+    (claims_leave m v.0 g.0 found h g.1 (λ a. both_ways (is_held_phase g.0.phase) (ap is_held_phase a) (linkable_held g.0 g.3.0)) here) (held_alive g.0.phase (linkable_held g.0 g.3.0))
   where
-    alive : (g.0.phase ≡ stage.Placed) ⊎ (g.0.phase ≡ stage.Started) → is_defunct g.0.phase ≡ false
-    alive (inl a) = ap is_defunct a
-    alive (inr a) = ap is_defunct a
-change_gone m s (Link v) t u x apart h e d k g = subst (λ o. IsGone (option_map_or (link_unit m v) o m).units t u) (sym g.1)
-    (gone_apart (all_claimed os m) u v x g.0 (λ y. record y { phase = stage.Waiting; seat = None; query = Some (length m.queries) }) t (gone_claims m u x os h e d here) d k
-    (claims_leave m v g.0 os h g.1 (λ a. let f : stage.Linking ≡ stage.Unclaimed = sym g.3.0 ∙ a in cc) here) (ap is_defunct g.3.0))
-  where
-    os : List (Option InstId)
-    os = matched m (link_order m g.0) (g.0.meaning.externals g.0.live)
-
-    here : AllMatched (IsHere m.rows) os
-    here = good_here m os g.3.1
-change_gone m s (Emit v groups) t u x apart h e d k g = gone_apart m u v x g.0 (λ z. record z { phase = stage.Done; seat = None }) t e d k g.1 (ap is_defunct g.3.0)
-change_gone m s (Fail v) t u x apart h e d k g = gone_apart m u v x g.0 (λ z. record z { phase = stage.Failed; seat = None; base = None }) t e d k g.1 g.3
-change_gone m s (Move w to) t u x apart h e d k g = chosen (λ n. IsGone n.units t u) (w == to) m (record m {
-  units = map (λ (y : UnitRow). record y { tracker = if y.tracker == w then to else y.tracker }) m.units;
-  generators = map (λ (y : GenRow). record y { tracker = if y.tracker == w then to else y.tracker }) m.generators;
-  trackers = changed_at w (λ y. record y { gone = true }) m.trackers;
-})
-    (λ b. (x, e, d, k)) (λ b. (record x { tracker = if x.tracker == w then to else x.tracker }, mapped_some (λ (y : UnitRow). record y { tracker = if y.tracker == w then to else y.tracker }) m.units u x e, d, k))
+    here : AllMatched (IsHere m.rows) found
+    here = good_here m found g.3.3
+change_gone m s (Emit v groups) t u x apart h e d k g = gone_apart m u v.0 x g.0 done_unit t e d k g.1 (ap is_defunct g.3.0)
+change_gone m s (Fail v) t u x apart h e d k g = gone_apart m u v.0 x g.0 failed_unit t e d k g.1 g.3
+change_gone m s (Move w to) t u x apart h e d k g = chosen (λ n. IsGone n.units t u) (w.0 == to.0) m (record m { units = map (moved_unit w.0 to.0) m.units; generators = map (moved_generator w.0 to.0) m.generators; trackers = changed_at w.0 gone_tracker m.trackers })
+    (λ b. (x, e, d, k)) (λ b. (moved_unit w.0 to.0 x, mapped_some (moved_unit w.0 to.0) m.units u x e, d, k))
 change_gone m s (Remove w) t u x apart h e d k g = (
-  record x { phase = if x.tracker == w then stage.Defunct else x.phase; base = if x.tracker == w then None else x.base },
-  mapped_some (λ (y : UnitRow). record y { phase = if y.tracker == w then stage.Defunct else y.phase; base = if y.tracker == w then None else y.base }) m.units u x e,
-  chosen (λ p. p ≡ stage.Defunct) (x.tracker == w) stage.Defunct x.phase (λ b. refl) (λ b. d),
+  removed_unit w.0 x,
+  mapped_some (removed_unit w.0) m.units u x e,
+  chosen (λ p. p ≡ stage.Defunct) (x.tracker == w.0) stage.Defunct x.phase (λ b. refl) (λ b. d),
   k,
 )
-change_gone m s (LetGo w v) t u x apart h e d k g = split (cases_eq u v)
+change_gone m s (LetGo w v) t u x apart h e d k g = split (cases_eq u v.0)
   where
     f : UnitRow → UnitRow
-    f z = record z { seat = if option_map_or (nat_eq w) z.seat false then None else z.seat }
+    f = let_go_unit w.0
 
-    other : option_map_or (nat_eq w) x.seat false ≡ false
-    other = ap (λ o. option_map_or (nat_eq w) o false) k ∙ ne_eqb w t (λ i. apart (sym g.0 ∙ i))
+    other : option_map_or (nat_eq w.0) x.seat false ≡ false
+    other = ap (λ o. option_map_or (nat_eq w.0) o false) k ∙ ne_eqb w.0 t (λ i. apart (sym g.0 ∙ i))
 
-    split : (u ≡ v) ⊎ (u ≡ v → ⊥) → IsGone (changed_at v f m.units) t u
-    split (inl is) = (f x, ap (slice_get (changed_at v f m.units)) is ∙ changed_some v f m.units x (ap (slice_get m.units) (sym is) ∙ e), d, ap (λ b. if b then None else x.seat) other ∙ k)
-    split (inr n) = (x, changed_elsewhere v f m.units u n ∙ e, d, k)
+    split : (u ≡ v.0) ⊎ (u ≡ v.0 → ⊥) → IsGone (changed_at v.0 f m.units) t u
+    split (inl is) = (f x, ap (slice_get (changed_at v.0 f m.units)) is ∙ changed_some v.0 f m.units x (ap (slice_get m.units) (sym is) ∙ e), d, ap (λ b. if b then None else x.seat) other ∙ k)
+    split (inr n) = (x, changed_elsewhere v.0 f m.units u n ∙ e, d, k)
 
 after_gone : (jmax : ℕ) (past : List (Entry Meaning)) (m : Plain) (e : Entry Meaning) (t u : ℕ) (x : UnitRow) → (e.seat.0 ≡ t → ⊥) → IsSound m → slice_get m.units u ≡ Some x → x.phase ≡ stage.Defunct → x.seat ≡ Some t → Answers jmax past m e.seat.0 e.event e.reply → IsGone (after m e).units t u
 after_gone jmax past m e t u x apart s there d k a =
-    let c = change_of e.seat.0 e.event e.reply in
+    let c = change_of m e.seat.0 e.event e.reply in
     let p = change_gone m e.seat.0 c t u x apart s there d k (guard_of jmax past m e.seat.0 e.event e.reply a) in
     (p.0, defunct_settled (changed c m) u p.0 p.1 p.2, p.2, p.3)
 

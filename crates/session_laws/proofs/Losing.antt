@@ -22,17 +22,21 @@ use Rattle.std.proofs.Common.{flat_map, le_of_suc-le-suc}
 use Rattle.std.specs.List.{AllByRecursion}
 use Rattle.session_model.specs.Lists.{first_some, only_if, or_else}
 use Rattle.session_model.specs.Plain.{phase_address}
-use Rattle.session_model.specs.Change.{deps_in, hits_failed, unit_roots, tracker_roots, is_unit_of}
+use Rattle.session_model.specs.Change.{deps_in, hits_failed, tracker_roots, is_unit_of}
+use Rattle.session_model.specs.Plain.{is_owned_at}
 use Rattle.session_model.specs.Answer.{bad_dep}
 use Rattle.session_laws.proofs.Elements.{map_parts, numbered_at, mapped_at, mapped_parts, mapped_some}
 use Rattle.session_laws.proofs.Facts.{test_parts, test_from, test_is, deps_parts, deps_from, no_dep, emitted_done, held_unemitted, emitted_settled, hit_emitted, dep_hit, root_hit, ready_emitted, matched_more, jobs_dropped, due_some, due_none, held_due}
 use Rattle.session_laws.proofs.Paths.{ready_from_test, test_from_ready}
 use Rattle.session_laws.proofs.Settling.{chosen}
 use Rattle.session_laws.proofs.Steps.{stepped}
-use Rattle.session_laws.specs.Sound.{Sound, IsSound, RowFits, UnitFits, LinkQuery, is_sure, sure_at, searched_at, is_underway, fits, is_held_phase, due_at, due, its_jobs}
+use Rattle.session_laws.specs.Sound.{row_stage, Sound, IsSound, RowFits, UnitFits, LinkQuery, is_sure, sure_at, searched_at, is_underway, fits, is_held_phase, due_at, due, its_jobs}
 use Rattle.std.proofs.lemmas.Bool.{or_parts, and_cases}
 use Rattle.session_laws.proofs.Changes.{own_jobs, rephased, rephased_step, owned_parts, owned_from}
 use Rattle.session_model.specs.declared.rows.Query.{Query}
+use Rattle.session_model.specs.Change.{emitted_row, done_unit, failed_unit, removed_row, removed_unit}
+use Rattle.session_laws.specs.Sound.{is_early}
+use Rattle.session_laws.proofs.RowStages.{row_is, held_row}
 
 -- Emitting
 
@@ -85,17 +89,17 @@ good_deps rows groups e = all_more (λ (i : InstId). only_if (failed_at rows i.0
     (none_of_first (λ (i : InstId). only_if (failed_at rows i.0 || not (present_at rows i.0) || unsearched_at rows i.0) (reply.BadDep i)) (flat_map (λ (g : Group). g.deps) groups) e)
 
 pub sound_emitted : (rows : List InstRow) (units : List UnitRow) (queries : List Query) (jobs : List Job) (u : ℕ) (groups : List Group) (x : UnitRow) → Sound rows units queries jobs → slice_get units u ≡ Some x → x.phase ≡ stage.Finishing → bad_dep rows groups ≡ None →
-    Sound (numbered (λ i (r : InstRow). record r { phase = if is_owned u r then phase.Emitted (unwrap_or (phase_address r.phase) 0) (deps_in groups i) else r.phase }) 0 rows) (changed_at u (λ y. record y { phase = stage.Done; seat = None }) units) queries jobs
-sound_emitted rows units queries jobs u groups x s t p good = stepped rows units queries jobs (numbered (rephased (λ i r. is_owned u r) next) 0 rows) (rephased (λ i r. is_owned u r) next) jobs u x (λ y. record y { phase = stage.Done; seat = None }) s
-    (rephased_step rows units queries jobs (numbered (rephased (λ i r. is_owned u r) next) 0 rows) (λ i r. is_owned u r) next jobs u x (record x { phase = stage.Done; seat = None }) t
+    Sound (numbered (emitted_row u groups) 0 rows) (changed_at u done_unit units) queries jobs
+sound_emitted rows units queries jobs u groups x s t p good = stepped rows units queries jobs (numbered (rephased (λ i r. is_owned u r) next) 0 rows) (rephased (λ i r. is_owned u r) next) jobs u x done_unit s
+    (rephased_step rows units queries jobs (numbered (rephased (λ i r. is_owned u r) next) 0 rows) (λ i r. is_owned u r) next jobs u x (done_unit x) t
     (record {
       at = at;
       owned = λ i r e. e;
-      fit = λ i r o f. chosen (λ q. fits stage.Done q ≡ true) (is_owned u r) (next i r) r.phase (λ b. refl) (λ b. absurd (both_ways (is_owned u r) b o));
+      fit = λ i r o f. subst (λ q. fits q (if is_owned u r then next i r else r.phase) ≡ true) (sym (row_is (done_unit x) stage.Done refl refl)) (chosen (λ q. fits stage.Done q ≡ true) (is_owned u r) (next i r) r.phase (λ b. refl) (λ b. absurd (both_ways (is_owned u r) b o)));
       searched = λ i r. refl;
       deps = deps;
     })
-    (record { seat = λ n. refl; waits = λ w. absurd (cc) })
+    (record { seat = λ n. refl; waits = λ w. absurd (cc); early = λ e. absurd (both_ways false refl e) })
     (own_jobs rows units queries jobs u x s t ∙ ap (due_at u) p)
     (λ v n. refl))
   where
@@ -146,30 +150,30 @@ hit_deps rows new g roots at phase_is old i j c = found (deps_parts new i j c)
     found q = let r = map_parts (g i) (slice_get rows i) q.0 (sym (at i) ∙ q.1) in
         kept (unhit r.0 r.1 (subst (λ f. Contains (phase_deps f) j) (ap (λ (y : InstRow). y.phase) r.2 ∙ phase_is i r.0) q.2))
 
-root_is : (u : ℕ) (rows : List InstRow) (i : ℕ) (r : InstRow) → slice_get rows i ≡ Some r → unit_roots u rows i ≡ is_owned u r
+root_is : (u : ℕ) (rows : List InstRow) (i : ℕ) (r : InstRow) → slice_get rows i ≡ Some r → is_owned_at u rows i ≡ is_owned u r
 root_is u rows i r e = ap (λ o. option_map_or (is_owned u) o false) e
 
 pub sound_failed : (rows : List InstRow) (units : List UnitRow) (queries : List Query) (jobs : List Job) (u : ℕ) (x : UnitRow) (seat : ℕ) → Sound rows units queries jobs → slice_get units u ≡ Some x → is_defunct x.phase ≡ false → x.seat ≡ Some seat →
-    Sound (hits_failed (unit_roots u rows) rows) (changed_at u (λ y. record y { phase = stage.Failed; seat = None; base = None }) units) queries jobs
-sound_failed rows units queries jobs u x seat s t alive holds = stepped rows units queries jobs (hits_failed roots rows) g jobs u x (λ y. record y { phase = stage.Failed; seat = None; base = None }) s (record {
+    Sound (hits_failed (is_owned_at u rows) rows) (changed_at u failed_unit units) queries jobs
+sound_failed rows units queries jobs u x seat s t alive holds = stepped rows units queries jobs (hits_failed roots rows) g jobs u x failed_unit s (record {
   there = t;
   at = numbered_at g rows;
   same = λ i r. (refl, refl);
-  mine = λ i r e h is f. chosen (λ p. fits stage.Failed p ≡ true) (is_hit rows roots i) phase.Failed r.phase (λ b. refl)
+  mine = λ i r e h is f. subst (λ q. fits q (if is_hit rows roots i then phase.Failed else r.phase) ≡ true) (sym (row_is (failed_unit x) stage.Failed refl refl)) (chosen (λ p. fits stage.Failed p ≡ true) (is_hit rows roots i) phase.Failed r.phase (λ b. refl)
       (λ b. absurd (both_ways (is_hit rows roots i) b (root_hit rows roots i (root_is u rows i r e ∙ owned_from u r h is)
-      (λ ready. both_ways (is_emitted r.phase) (held_unemitted x.phase r.phase held f) (sym (test_is (λ (y : InstRow). is_emitted y.phase) rows i r e) ∙ ready_emitted rows i ready)))));
+      (λ ready. both_ways (is_emitted r.phase) (held_unemitted (row_stage x) r.phase (held_row x held) f) (sym (test_is (λ (y : InstRow). is_emitted y.phase) rows i r e) ∙ ready_emitted rows i ready))))));
   other = λ i r e h apart st f. chosen (λ p. fits st p ≡ true) (is_hit rows roots i) phase.Failed r.phase
       (λ b. emitted_done st r.phase f (sym (test_is (λ (y : InstRow). is_emitted y.phase) rows i r e) ∙ hit_emitted rows roots i b (false_from_ne_true (roots i) (λ c. apart (owned_parts u r (sym (root_is u rows i r e) ∙ c)).1)))) (λ b. f);
   gone = λ i r e h n. chosen (λ p. is_underway p ≡ false) (is_hit rows roots i) phase.Failed r.phase (λ b. refl) (λ b. n);
   deps = hit_deps rows (hits_failed roots rows) g roots (numbered_at g rows) (λ i r. refl) s.deps;
   searched = λ i r e h. chosen (λ p. not (is_unsearched p) ≡ true) (is_hit rows roots i) phase.Failed r.phase (λ b. refl) (λ b. h);
-  unit = record { seat = λ n. refl; waits = λ w. absurd (cc) };
+  unit = record { seat = λ n. refl; waits = λ w. absurd (cc); early = λ e. absurd (both_ways false refl e) };
   own = own_jobs rows units queries jobs u x s t ∙ held_due u x.phase held;
   others = λ v n. refl;
 })
   where
     roots : ℕ → Bool
-    roots = unit_roots u rows
+    roots = is_owned_at u rows
 
     g : ℕ → InstRow → InstRow
     g i r = record r { phase = if is_hit rows roots i then phase.Failed else r.phase }
@@ -180,12 +184,12 @@ sound_failed rows units queries jobs u x seat s t alive holds = stepped rows uni
 pub unit_of_is : (m : Plain) (t v : ℕ) (x : UnitRow) → slice_get m.units v ≡ Some x → is_unit_of m t v ≡ (x.tracker == t)
 unit_of_is m t v x e = ap (λ o. option_map_or (λ w. w == t) (option_map (λ (y : UnitRow). y.tracker) o) false) e
 
-pub removed_unit : ℕ → UnitRow → UnitRow
-removed_unit t x = record x { phase = if x.tracker == t then stage.Defunct else x.phase; base = if x.tracker == t then None else x.base }
+-- a unit of another tracker stays
+pub unremoved : (t : ℕ) (x : UnitRow) → (x.tracker == t) ≡ false → removed_unit t x ≡ x
+unremoved t x e = ap (λ b. record x { phase = if b then stage.Defunct else x.phase; base = if b then None else x.base }) e
 
 pub sound_removed : (m : Plain) (t : ℕ) → IsSound m →
-    Sound (map (λ (r : InstRow). record r { present = r.present && not (is_unit_of m t r.unit.0) }) (hits_failed (tracker_roots m t) m.rows))
-    (map (λ (x : UnitRow). record x { phase = if x.tracker == t then stage.Defunct else x.phase; base = if x.tracker == t then None else x.base }) m.units)
+    Sound (map (removed_row m t) (hits_failed (tracker_roots m t) m.rows)) (map (removed_unit t) m.units)
     m.queries (filter (λ j. not (is_unit_of m t (job_unit j))) m.jobs)
 sound_removed m t s = record { rows_fit = rows_fit; deps = hit_deps m.rows new g roots at (λ i r. refl) s.deps; units_fit = units_fit; jobs_due = jobs_due; searched = λ k q e. matched_more (λ i. searched_at m.rows i ≡ true) (λ i. searched_at new i ≡ true) searched q.matched (s.searched k q e) }
   where
@@ -193,13 +197,13 @@ sound_removed m t s = record { rows_fit = rows_fit; deps = hit_deps m.rows new g
     roots = tracker_roots m t
 
     h : UnitRow → UnitRow
-    h x = record x { phase = if x.tracker == t then stage.Defunct else x.phase; base = if x.tracker == t then None else x.base }
+    h = removed_unit t
 
     hit : ℕ → InstRow → InstRow
     hit i r = record r { phase = if is_hit m.rows roots i then phase.Failed else r.phase }
 
     go : InstRow → InstRow
-    go r = record r { present = r.present && not (is_unit_of m t r.unit.0) }
+    go = removed_row m t
 
     g : ℕ → InstRow → InstRow
     g i r = go (hit i r)
@@ -225,14 +229,13 @@ sound_removed m t s = record { rows_fit = rows_fit; deps = hit_deps m.rows new g
     row_at : (i : ℕ) (r : InstRow) → slice_get m.rows i ≡ Some r → RowFits (map h m.units) (g i r)
     row_at i r e = record { here = λ p. here (and_parts r.present (not (is_unit_of m t r.unit.0)) p); gone = λ n. chosen (λ f. is_underway f ≡ false) (is_hit m.rows roots i) phase.Failed r.phase (λ b. refl) (λ b. gone b (cases_Bool r.present) (and_cases r.present (not (is_unit_of m t r.unit.0)) n)) }
       where
-        here : (r.present ≡ true) × (not (is_unit_of m t r.unit.0) ≡ true) → (x : UnitRow) × (slice_get (map h m.units) r.unit.0 ≡ Some x) × (fits x.phase (if is_hit m.rows roots i then phase.Failed else r.phase) ≡ true)
+        here : (r.present ≡ true) × (not (is_unit_of m t r.unit.0) ≡ true) → (x : UnitRow) × (slice_get (map h m.units) r.unit.0 ≡ Some x) × (fits (row_stage x) (if is_hit m.rows roots i then phase.Failed else r.phase) ≡ true)
         here p = let x = (s.rows_fit i r e).here p.0 in (
           h x.0,
           mapped_some h m.units r.unit.0 x.0 x.1,
-          chosen (λ st. fits st (if is_hit m.rows roots i then phase.Failed else r.phase) ≡ true) (x.0.tracker == t) stage.Defunct x.0.phase
-              (λ b. absurd (both_ways (is_unit_of m t r.unit.0) (not-true (is_unit_of m t r.unit.0) p.1) (unit_of_is m t r.unit.0 x.0 x.1 ∙ b)))
-              (λ b. chosen (λ f. fits x.0.phase f ≡ true) (is_hit m.rows roots i) phase.Failed r.phase
-              (λ k. emitted_done x.0.phase r.phase x.2 (sym (test_is (λ (y : InstRow). is_emitted y.phase) m.rows i r e) ∙ hit_emitted m.rows roots i k
+          subst (λ (y : UnitRow). fits (row_stage y) (if is_hit m.rows roots i then phase.Failed else r.phase) ≡ true) (sym (unremoved t x.0 (sym (unit_of_is m t r.unit.0 x.0 x.1) ∙ not-true (is_unit_of m t r.unit.0) p.1)))
+              (chosen (λ f. fits (row_stage x.0) f ≡ true) (is_hit m.rows roots i) phase.Failed r.phase
+              (λ k. emitted_done (row_stage x.0) r.phase x.2 (sym (test_is (λ (y : InstRow). is_emitted y.phase) m.rows i r e) ∙ hit_emitted m.rows roots i k
               (root_at i r e ∙ and_left (r.present && is_unit_of m t r.unit.0) (not (is_ready m.rows i)) (and_right r.present (is_unit_of m t r.unit.0) (not-true (is_unit_of m t r.unit.0) p.1)))))
               (λ k. x.2)),
         )
@@ -256,7 +259,12 @@ sound_removed m t s = record { rows_fit = rows_fit; deps = hit_deps m.rows new g
       seat = chosen (λ p. is_defunct p ≡ false → is_some x.seat ≡ is_held_phase p) (x.tracker == t) stage.Defunct x.phase (λ b d. absurd (both_ways true d refl)) (λ b d. (s.units_fit u x e).seat d);
       waits = chosen (λ p. p ≡ stage.Waiting → LinkQuery m.queries u (h x)) (x.tracker == t) stage.Defunct x.phase (λ b w. absurd (cc))
           (λ b w. let l = (s.units_fit u x e).waits w in record { number = l.number; query = l.query; its = l.its; there = l.there; links = l.links; level = l.level });
+      early = early (x.tracker == t);
     }
+      where
+        early : (b : Bool) → is_early (if b then stage.Defunct else x.phase) ≡ true → (if b then None else x.base) ≡ None
+        early true a = refl
+        early false a = (s.units_fit u x e).early a
 
     units_fit : (u : ℕ) (y : UnitRow) → slice_get (map h m.units) u ≡ Some y → UnitFits m.queries u y
     units_fit u y e = let p = mapped_parts h m.units u y e in subst (UnitFits m.queries u) (sym p.2) (unit_at u p.0 p.1)

@@ -1,4 +1,5 @@
 -- Both ends of a query never come first together.
+use Rattle.session_model.specs.Change.{verdicts, unreplaced_row, claimed_row, resolved_unit, resolved_row, moved_unit, moved_generator, gone_tracker}
 use Rattle.std.proofs.Common.{◌≡◌, ℕ, zero, suc, ◌+◌, Bool, true, false, not, ◌&&◌, ◌==◌, map, List, [], ◌∷◌, ◌++◌, length, slice_get, ◌⊎◌, inl, inr, subst, sym, refl, ap, ◌∙◌, Option, Some, None, option_map, is_some, unwrap_or}
 use Rattle.std.specs.Bool.{if◌then◌else◌}
 use Rattle.std.specs.Option.{option_map_or}
@@ -10,12 +11,12 @@ use Rattle.session_model.specs.Plain.{Plain, UnitRow, GenRow, is_unsearched, is_
 use Rattle.session_model.specs.Reach.{is_hit}
 use Rattle.session_model.specs.declared.rows.InstRow.{InstRow}
 use Rattle.session_model.specs.declared.rows.Phase.TheVariants as phase
-use Rattle.session_model.specs.declared.rows.UnitPhase.TheVariants as stage
 use Rattle.orc_ids.specs.declared.lookup.Level.TheVariants as level
 use Rattle.std.proofs.Common.{arith, ◌<◌}
 use Rattle.session_model.specs.Lists.{only_if, or_else}
 use Rattle.session_model.specs.Plain.{phase_address}
-use Rattle.session_model.specs.Change.{deps_in, hits_failed, unit_roots, tracker_roots, is_unit_of, claimed}
+use Rattle.session_model.specs.Change.{deps_in, hits_failed, tracker_roots, is_unit_of, claimed}
+use Rattle.session_model.specs.Plain.{is_owned_at}
 use Rattle.session_laws.proofs.Elements.{map_parts, same_element, numbered_at, mapped_at, mapped_some}
 use Rattle.session_laws.proofs.Facts.{test_parts, test_from, test_is, ready_emitted, matched_more}
 use Rattle.session_laws.proofs.Paths.{ready_from_test, test_from_ready}
@@ -26,10 +27,12 @@ use Rattle.std.proofs.lemmas.Bool.{cases_lt}
 use Rattle.orc_ids.specs.declared.lookup.Level.{Level}
 use Rattle.session_model.specs.Meaning.{Meaning}
 use Rattle.session_model.specs.Query.{is_met}
-use Rattle.session_model.specs.Change.{is_replaced, new_rows, defined, all_claimed, matched}
+use Rattle.session_model.specs.Change.{is_replaced, new_rows, defined, all_claimed}
 use Rattle.session_laws.proofs.Elements.{pushed_last, front_some, numbered_some}
 use Rattle.session_model.specs.Query.{all_at}
-use Rattle.session_model.specs.Change.{Change, Nothing, MakeDylib, MakeTracker, SetOrder, Attach, Define, Generate, Spend, Ask, Start, Finish, Place, Resolve, Link, Emit, Fail, Move, Remove, LetGo, change_of, changed, link_order}
+use Rattle.session_model.specs.Change.{change_of, changed}
+use Rattle.session_model.specs.declared.change.Change.{Change}
+use Rattle.session_model.specs.declared.change.Change.TheVariants.{Nothing, MakeDylib, MakeTracker, SetOrder, Attach, Define, Generate, Spend, Ask, Start, Finish, Place, Resolve, Link, Emit, Fail, Move, Remove, LetGo}
 use Rattle.session_model.specs.declared.entry.Entry.{Entry}
 use Rattle.session_laws.proofs.Defining.{IsHere}
 use Rattle.session_laws.proofs.Replies.{GoodMatches, Guard}
@@ -38,7 +41,7 @@ use Rattle.session_model.specs.History.{IsLegal}
 use Rattle.session_model.specs.Change.{emitted, failed, removed, spent}
 use Rattle.session_laws.proofs.Guards.{guard_of}
 use Rattle.session_laws.proofs.Defining.{claims_keep}
-use Rattle.session_laws.proofs.Invariant.{legal_is_sound, link_unit, good_here}
+use Rattle.session_laws.proofs.Invariant.{legal_is_sound, good_here}
 use Rattle.session_laws.proofs.Settling.{settled_rows, settled_queries}
 use Rattle.session_laws.proofs.Elements.{numbered_some}
 use Rattle.session_laws.specs.Readiness.{phase_at}
@@ -81,8 +84,8 @@ unlost_same rows i s e = e
 
 claim_unlost : (u : ℕ) (m : Plain) (i : ℕ) → is_lost m.rows i ≡ false → is_lost (claimed u m).rows i ≡ false
 claim_unlost u m i e = let p = unlost_parts m.rows i e in
-    unlost_from (claimed u m).rows i (record (p.0) { phase = if is_owned u p.0 && is_unsearched p.0.phase then phase.Claimed else p.0.phase })
-    (mapped_some (λ (r : InstRow). record r { phase = if is_owned u r && is_unsearched r.phase then phase.Claimed else r.phase }) m.rows i p.0 p.1) p.2
+    unlost_from (claimed u m).rows i (claimed_row u p.0)
+    (mapped_some (claimed_row u) m.rows i p.0 p.1) p.2
     (chosen (λ f. is_failed f ≡ false) (is_owned u p.0 && is_unsearched p.0.phase) phase.Claimed p.0.phase (λ b. refl) (λ b. p.3))
 
 claims_unlost : (m : Plain) (os : List (Option InstId)) → AllMatched (IsHere m.rows) os → (i : ℕ) → is_lost m.rows i ≡ false → is_lost (all_claimed os m).rows i ≡ false
@@ -117,63 +120,56 @@ hits_raise_none rows new g roots at phase_is level.Ready i e = test_from_ready r
             (subst (λ f. is_emitted f ≡ true) (ap (λ (y : InstRow). y.phase) q.2 ∙ phase_is k q.0) p.2))))
 
 -- a definition replaces unsearched instances alone
-defined_unlost : (m : Plain) (d t : ℕ) (v : Meaning) → KeepsUnlost m.rows (defined m d t v).rows
-defined_unlost m d t v = unlost_mapped m.rows (defined m d t v).rows (λ i r. record r { present = r.present && not (is_replaced m d v i) })
-    (λ i r e. front_some (numbered (λ i (r : InstRow). record r { present = r.present && not (is_replaced m d v i) }) 0 m.rows) (new_rows m d (length m.units) 0 v.offers) i (record r { present = r.present && not (is_replaced m d v i) }) (numbered_some (λ i (r : InstRow). record r { present = r.present && not (is_replaced m d v i) }) m.rows i r e))
+defined_unlost : (m : Plain) (d t : ℕ) (v : Meaning) → KeepsUnlost m.rows (defined d t v (verdicts m.rows d v.offers) m).rows
+defined_unlost m d t v = unlost_mapped m.rows (defined d t v (verdicts m.rows d v.offers) m).rows (unreplaced_row (verdicts m.rows d v.offers))
+    (λ i r e. front_some (numbered (unreplaced_row (verdicts m.rows d v.offers)) 0 m.rows) (new_rows d (length m.units) 0 v.offers (verdicts m.rows d v.offers)) i (unreplaced_row (verdicts m.rows d v.offers) i r) (numbered_some (unreplaced_row (verdicts m.rows d v.offers)) m.rows i r e))
     (λ i r e t p f. (
-      and_from r.present (not (is_replaced m d v i)) p (not_from_false (is_replaced m d v i) (false_from_ne_true (is_replaced m d v i) (λ b.
-          both_ways (is_unsearched r.phase) (not-true (is_unsearched r.phase) t) (sym (test_is (λ (y : InstRow). is_unsearched y.phase) m.rows i r e) ∙ replaced_unsearched m d v i b)))),
+      and_from r.present (not (is_replaced (verdicts m.rows d v.offers) i)) p (not_from_false (is_replaced (verdicts m.rows d v.offers) i) (false_from_ne_true (is_replaced (verdicts m.rows d v.offers) i) (λ b.
+          both_ways (is_unsearched r.phase) (not-true (is_unsearched r.phase) t) (sym (test_is (λ (y : InstRow). is_unsearched y.phase) m.rows i r e) ∙ replaced_unsearched m.rows d v.offers i b)))),
       f,
     ))
 
-pub losing : (m : Plain) (s : ℕ) (c : Change) → IsSound m → Guard m s c → KeepsUnlost m.rows (changed c m).rows ⊎ RaisesNone m.rows (changed c m).rows
+pub losing : (m : Plain) (s : ℕ) (c : Change Meaning) → IsSound m → Guard m s c → KeepsUnlost m.rows (changed c m).rows ⊎ RaisesNone m.rows (changed c m).rows
 losing m s Nothing h g = inl (unlost_same m.rows)
 losing m s (MakeDylib name) h g = inl (unlost_same m.rows)
 losing m s (MakeTracker d) h g = inl (unlost_same m.rows)
 losing m s (SetOrder d order) h g = inl (unlost_same m.rows)
 losing m s (Attach d t u) h g = inl (unlost_same m.rows)
-losing m s (Define d t u) h g = inl (defined_unlost m d t u)
-losing m s (Generate k) h g = split (slice_get m.generators k)
+losing m s (Define d t u found) h g = inl (subst (λ vs. KeepsUnlost m.rows (defined d.0 t.0 u vs m).rows) (sym g) (defined_unlost m d.0 t.0 u))
+losing m s (Generate k found) h g = inl (subst (λ vs. KeepsUnlost m.rows (changed (Generate k vs) m).rows) (sym g) (split (slice_get m.generators k.0)))
   where
-    split : (o : Option GenRow) → KeepsUnlost m.rows (option_map_or (λ x. spent k (defined m x.dylib x.tracker x.meaning)) o m).rows ⊎ RaisesNone m.rows (option_map_or (λ x. spent k (defined m x.dylib x.tracker x.meaning)) o m).rows
-    split None = inl (unlost_same m.rows)
-    split (Some x) = inl (defined_unlost m x.dylib x.tracker x.meaning)
+    split : (o : Option GenRow) → KeepsUnlost m.rows (option_map_or (λ x. spent k.0 (defined x.dylib x.tracker x.meaning (option_map_or (λ (y : GenRow). verdicts m.rows y.dylib y.meaning.offers) o []) m)) o m).rows
+    split None = unlost_same m.rows
+    split (Some x) = defined_unlost m x.dylib x.tracker x.meaning
 losing m s (Spend k) h g = inl (unlost_same m.rows)
-losing m s (Ask order wanted lev n) h g = inl (λ i t. claims_unlost m (matched m order wanted) (good_here m (matched m order wanted) g) i)
+losing m s (Ask found lev n) h g = inl (λ i t. claims_unlost m found (good_here m found g) i)
 losing m s (Start t u) h g = inl (unlost_same m.rows)
 losing m s (Finish t u how) h g = inl (unlost_same m.rows)
-losing m s (Place u shape base) h g = inl (unlost_same m.rows)
-losing m s (Resolve u) h g = inl (subst (λ o. KeepsUnlost m.rows (option_map_or (λ (x : UnitRow). record m {
-  rows = map (λ (r : InstRow). record r { phase = if is_owned u r then phase.Resolved (x.meaning.address r.offer (unwrap_or x.base 0)) else r.phase }) m.rows;
-  units = changed_at u (λ y. record y { phase = stage.Linking }) m.units;
-}) o m).rows) (sym g.1)
-    (unlost_mapped m.rows (map (λ (r : InstRow). record r { phase = if is_owned u r then phase.Resolved (g.0.meaning.address r.offer (unwrap_or g.0.base 0)) else r.phase }) m.rows) (λ i r. record r { phase = if is_owned u r then phase.Resolved (g.0.meaning.address r.offer (unwrap_or g.0.base 0)) else r.phase })
-    (λ i r e. mapped_some (λ (r : InstRow). record r { phase = if is_owned u r then phase.Resolved (g.0.meaning.address r.offer (unwrap_or g.0.base 0)) else r.phase }) m.rows i r e)
-    (λ i r e t p f. (p, chosen (λ q. is_failed q ≡ false) (is_owned u r) (phase.Resolved (g.0.meaning.address r.offer (unwrap_or g.0.base 0))) r.phase (λ b. refl) (λ b. f)))))
-losing m s (Link u) h g = inl (subst (λ o. KeepsUnlost m.rows (option_map_or (link_unit m u) o m).rows) (sym g.1) (λ i t. claims_unlost m (matched m (link_order m g.0) (g.0.meaning.externals g.0.live)) (good_here m (matched m (link_order m g.0) (g.0.meaning.externals g.0.live)) g.3.1) i))
-losing m s (Emit u groups) h g = inl (unlost_mapped m.rows (emitted u groups m).rows (λ i r. record r { phase = if is_owned u r then phase.Emitted (unwrap_or (phase_address r.phase) 0) (deps_in groups i) else r.phase })
-    (λ i r e. numbered_some (λ i (r : InstRow). record r { phase = if is_owned u r then phase.Emitted (unwrap_or (phase_address r.phase) 0) (deps_in groups i) else r.phase }) m.rows i r e)
-    (λ i r e t p f. (p, chosen (λ q. is_failed q ≡ false) (is_owned u r) (phase.Emitted (unwrap_or (phase_address r.phase) 0) (deps_in groups i)) r.phase (λ b. refl) (λ b. f))))
-losing m s (Fail u) h g = inr (hits_raise_none m.rows (failed u m).rows (λ i r. record r { phase = if is_hit m.rows (unit_roots u m.rows) i then phase.Failed else r.phase }) (unit_roots u m.rows)
-    (numbered_at (λ i (r : InstRow). record r { phase = if is_hit m.rows (unit_roots u m.rows) i then phase.Failed else r.phase }) m.rows) (λ i r. refl))
-losing m s (Move t to) h g = inl (chosen (λ n. KeepsUnlost m.rows n.rows) (t == to) m (record m {
-  units = map (λ (x : UnitRow). record x { tracker = if x.tracker == t then to else x.tracker }) m.units;
-  generators = map (λ (x : GenRow). record x { tracker = if x.tracker == t then to else x.tracker }) m.generators;
-  trackers = changed_at t (λ x. record x { gone = true }) m.trackers;
-}) (λ b. unlost_same m.rows) (λ b. unlost_same m.rows))
-losing m s (Remove t) h g = inr (hits_raise_none m.rows (removed t m).rows hitting (tracker_roots m t) at (λ i r. refl))
+losing m s (Place u base) h g = inl (unlost_same m.rows)
+losing m s (Resolve u) h g = inl (subst (λ o. KeepsUnlost m.rows (option_map_or (λ (x : UnitRow). record m { rows = map (resolved_row u.0 (resolved_unit x)) m.rows; units = changed_at u.0 resolved_unit m.units }) o m).rows) (sym g.1)
+    (unlost_mapped m.rows (map (resolved_row u.0 (resolved_unit g.0)) m.rows) (λ i r. resolved_row u.0 (resolved_unit g.0) r)
+    (λ i r e. mapped_some (resolved_row u.0 (resolved_unit g.0)) m.rows i r e)
+    (λ i r e t p f. (p, chosen (λ q. is_failed q ≡ false) (is_owned u.0 r) (phase.Resolved (g.0.meaning.address r.offer (unwrap_or (resolved_unit g.0).base 0))) r.phase (λ b. refl) (λ b. f)))))
+losing m s (Link u found) h g = inl (λ i t. claims_unlost m found (good_here m found g.3.3) i)
+losing m s (Emit u groups) h g = inl (unlost_mapped m.rows (emitted u.0 groups m).rows (λ i r. record r { phase = if is_owned u.0 r then phase.Emitted (unwrap_or (phase_address r.phase) 0) (deps_in groups i) else r.phase })
+    (λ i r e. numbered_some (λ i (r : InstRow). record r { phase = if is_owned u.0 r then phase.Emitted (unwrap_or (phase_address r.phase) 0) (deps_in groups i) else r.phase }) m.rows i r e)
+    (λ i r e t p f. (p, chosen (λ q. is_failed q ≡ false) (is_owned u.0 r) (phase.Emitted (unwrap_or (phase_address r.phase) 0) (deps_in groups i)) r.phase (λ b. refl) (λ b. f))))
+losing m s (Fail u) h g = inr (hits_raise_none m.rows (failed u.0 m).rows (λ i r. record r { phase = if is_hit m.rows (is_owned_at u.0 m.rows) i then phase.Failed else r.phase }) (is_owned_at u.0 m.rows)
+    (numbered_at (λ i (r : InstRow). record r { phase = if is_hit m.rows (is_owned_at u.0 m.rows) i then phase.Failed else r.phase }) m.rows) (λ i r. refl))
+losing m s (Move t to) h g = inl (chosen (λ n. KeepsUnlost m.rows n.rows) (t.0 == to.0) m (record m { units = map (moved_unit t.0 to.0) m.units; generators = map (moved_generator t.0 to.0) m.generators; trackers = changed_at t.0 gone_tracker m.trackers }) (λ b. unlost_same m.rows) (λ b. unlost_same m.rows))
+losing m s (Remove t) h g = inr (hits_raise_none m.rows (removed t.0 m).rows hitting (tracker_roots m t.0) at (λ i r. refl))
   where
     hit : ℕ → InstRow → InstRow
-    hit i r = record r { phase = if is_hit m.rows (tracker_roots m t) i then phase.Failed else r.phase }
+    hit i r = record r { phase = if is_hit m.rows (tracker_roots m t.0) i then phase.Failed else r.phase }
 
     going : InstRow → InstRow
-    going r = record r { present = r.present && not (is_unit_of m t r.unit.0) }
+    going r = record r { present = r.present && not (is_unit_of m t.0 r.unit.0) }
 
     hitting : ℕ → InstRow → InstRow
     hitting i r = going (hit i r)
 
-    at : (i : ℕ) → slice_get (removed t m).rows i ≡ option_map (hitting i) (slice_get m.rows i)
-    at i = mapped_at going (hits_failed (tracker_roots m t) m.rows) i ∙ (ap (option_map going) (numbered_at hit m.rows i) ∙ twice (slice_get m.rows i))
+    at : (i : ℕ) → slice_get (removed t.0 m).rows i ≡ option_map (hitting i) (slice_get m.rows i)
+    at i = mapped_at going (hits_failed (tracker_roots m t.0) m.rows) i ∙ (ap (option_map going) (numbered_at hit m.rows i) ∙ twice (slice_get m.rows i))
       where
         twice : (o : Option InstRow) → option_map going (option_map (hit i) o) ≡ option_map (hitting i) o
         twice None = refl
@@ -228,46 +224,34 @@ not_longer P xs x e = absurd (omega (arith, ap length e, length-append xs (x ∷
 lodged_last : (m : Plain) (os : List (Option InstId)) (p q : Query) → (all_claimed os m).queries ++ p ∷ [] ≡ m.queries ++ q ∷ [] → p ≡ q
 lodged_last m os p q e = same_Some p q (sym (pushed_last m.queries p) ∙ (ap (λ l. slice_get l (length m.queries)) (ap (λ l. l ++ p ∷ []) (sym (all_claimed_queries os m)) ∙ e) ∙ pushed_last m.queries q))
 
-pub fresh_unlost : (m : Plain) (s : ℕ) (c : Change) → Guard m s c → (q : Query) → (changed c m).queries ≡ m.queries ++ q ∷ [] → NoneLost (changed c m).rows q.matched
+pub fresh_unlost : (m : Plain) (s : ℕ) (c : Change Meaning) → Guard m s c → (q : Query) → (changed c m).queries ≡ m.queries ++ q ∷ [] → NoneLost (changed c m).rows q.matched
 fresh_unlost m s Nothing g q e = not_longer (NoneLost (changed Nothing m).rows q.matched) m.queries q e
 fresh_unlost m s (MakeDylib name) g q e = not_longer (NoneLost m.rows q.matched) m.queries q e
 fresh_unlost m s (MakeTracker d) g q e = not_longer (NoneLost m.rows q.matched) m.queries q e
 fresh_unlost m s (SetOrder d order) g q e = not_longer (NoneLost m.rows q.matched) m.queries q e
 fresh_unlost m s (Attach d t u) g q e = not_longer (NoneLost m.rows q.matched) m.queries q e
-fresh_unlost m s (Define d t u) g q e = not_longer (NoneLost (changed (Define d t u) m).rows q.matched) m.queries q e
-fresh_unlost m s (Generate k) g q e = split (slice_get m.generators k) e
+fresh_unlost m s (Define d t u found) g q e = not_longer (NoneLost (changed (Define d t u found) m).rows q.matched) m.queries q e
+fresh_unlost m s (Generate k found) g q e = split (slice_get m.generators k.0) e
   where
-    split : (o : Option GenRow) → (option_map_or (λ x. spent k (defined m x.dylib x.tracker x.meaning)) o m).queries ≡ m.queries ++ q ∷ [] → NoneLost (option_map_or (λ x. spent k (defined m x.dylib x.tracker x.meaning)) o m).rows q.matched
+    split : (o : Option GenRow) → (option_map_or (λ x. spent k.0 (defined x.dylib x.tracker x.meaning found m)) o m).queries ≡ m.queries ++ q ∷ [] → NoneLost (option_map_or (λ x. spent k.0 (defined x.dylib x.tracker x.meaning found m)) o m).rows q.matched
     split None e = not_longer (NoneLost m.rows q.matched) m.queries q e
-    split (Some x) e = not_longer (NoneLost (defined m x.dylib x.tracker x.meaning).rows q.matched) m.queries q e
+    split (Some x) e = not_longer (NoneLost (defined x.dylib x.tracker x.meaning found m).rows q.matched) m.queries q e
 fresh_unlost m s (Spend k) g q e = not_longer (NoneLost m.rows q.matched) m.queries q e
-fresh_unlost m s (Ask order wanted lev n) g q e = subst (λ (r : Query). NoneLost (all_claimed (matched m order wanted) m).rows r.matched)
-    (lodged_last m (matched m order wanted) (record { asked = m.entries + 1; matched = matched m order wanted; level = lev; unit = None; note = n }) q e) (asked_unlost m (matched m order wanted) g)
+fresh_unlost m s (Ask found lev n) g q e = subst (λ (r : Query). NoneLost (all_claimed found m).rows r.matched)
+    (lodged_last m found (record { asked = m.entries + 1; matched = found; level = lev; unit = None; note = n }) q e) (asked_unlost m found g)
 fresh_unlost m s (Start t u) g q e = not_longer (NoneLost m.rows q.matched) m.queries q e
 fresh_unlost m s (Finish t u how) g q e = not_longer (NoneLost m.rows q.matched) m.queries q e
-fresh_unlost m s (Place u shape base) g q e = not_longer (NoneLost m.rows q.matched) m.queries q e
-fresh_unlost m s (Resolve u) g q e = split (slice_get m.units u) e
+fresh_unlost m s (Place u base) g q e = not_longer (NoneLost m.rows q.matched) m.queries q e
+fresh_unlost m s (Resolve u) g q e = split (slice_get m.units u.0) e
   where
-    split : (o : Option UnitRow) → (option_map_or (λ (x : UnitRow). record m {
-      rows = map (λ (r : InstRow). record r { phase = if is_owned u r then phase.Resolved (x.meaning.address r.offer (unwrap_or x.base 0)) else r.phase }) m.rows;
-      units = changed_at u (λ y. record y { phase = stage.Linking }) m.units;
-    }) o m).queries ≡ m.queries ++ q ∷ [] → NoneLost (option_map_or (λ (x : UnitRow). record m {
-      rows = map (λ (r : InstRow). record r { phase = if is_owned u r then phase.Resolved (x.meaning.address r.offer (unwrap_or x.base 0)) else r.phase }) m.rows;
-      units = changed_at u (λ y. record y { phase = stage.Linking }) m.units;
-    }) o m).rows q.matched
+    split : (o : Option UnitRow) → (option_map_or (λ (x : UnitRow). record m { rows = map (resolved_row u.0 (resolved_unit x)) m.rows; units = changed_at u.0 resolved_unit m.units }) o m).queries ≡ m.queries ++ q ∷ [] → NoneLost (option_map_or (λ (x : UnitRow). record m { rows = map (resolved_row u.0 (resolved_unit x)) m.rows; units = changed_at u.0 resolved_unit m.units }) o m).rows q.matched
     split None e = not_longer (NoneLost m.rows q.matched) m.queries q e
-    split (Some x) e = not_longer (NoneLost (map (λ (r : InstRow). record r { phase = if is_owned u r then phase.Resolved (x.meaning.address r.offer (unwrap_or x.base 0)) else r.phase }) m.rows) q.matched) m.queries q e
-fresh_unlost m s (Link u) g q e = subst (λ o. (option_map_or (link_unit m u) o m).queries ≡ m.queries ++ q ∷ [] → NoneLost (option_map_or (link_unit m u) o m).rows q.matched) (sym g.1)
-    (λ e. subst (λ (r : Query). NoneLost (link_unit m u g.0).rows r.matched)
-    (lodged_last m (matched m (link_order m g.0) (g.0.meaning.externals g.0.live)) (record { asked = m.entries + 1; matched = matched m (link_order m g.0) (g.0.meaning.externals g.0.live); level = level.Resolved; unit = Some u; note = None }) q e)
-    (asked_unlost m (matched m (link_order m g.0) (g.0.meaning.externals g.0.live)) g.3.1)) e
+    split (Some x) e = not_longer (NoneLost (map (resolved_row u.0 (resolved_unit x)) m.rows) q.matched) m.queries q e
+fresh_unlost m s (Link u found) g q e = subst (λ (r : Query). NoneLost (all_claimed found m).rows r.matched)
+    (lodged_last m found (record { asked = m.entries + 1; matched = found; level = level.Resolved; unit = Some u.0; note = None }) q e) (asked_unlost m found g.3.3)
 fresh_unlost m s (Emit u groups) g q e = not_longer (NoneLost (changed (Emit u groups) m).rows q.matched) m.queries q e
 fresh_unlost m s (Fail u) g q e = not_longer (NoneLost (changed (Fail u) m).rows q.matched) m.queries q e
-fresh_unlost m s (Move t to) g q e = chosen (λ n. n.queries ≡ m.queries ++ q ∷ [] → NoneLost n.rows q.matched) (t == to) m (record m {
-  units = map (λ (x : UnitRow). record x { tracker = if x.tracker == t then to else x.tracker }) m.units;
-  generators = map (λ (x : GenRow). record x { tracker = if x.tracker == t then to else x.tracker }) m.generators;
-  trackers = changed_at t (λ x. record x { gone = true }) m.trackers;
-})
+fresh_unlost m s (Move t to) g q e = chosen (λ n. n.queries ≡ m.queries ++ q ∷ [] → NoneLost n.rows q.matched) (t.0 == to.0) m (record m { units = map (moved_unit t.0 to.0) m.units; generators = map (moved_generator t.0 to.0) m.generators; trackers = changed_at t.0 gone_tracker m.trackers })
     (λ b e. not_longer (NoneLost m.rows q.matched) m.queries q e) (λ b e. not_longer (NoneLost m.rows q.matched) m.queries q e) e
 fresh_unlost m s (Remove t) g q e = not_longer (NoneLost (changed (Remove t) m).rows q.matched) m.queries q e
 fresh_unlost m s (LetGo t u) g q e = not_longer (NoneLost m.rows q.matched) m.queries q e
@@ -275,7 +259,7 @@ fresh_unlost m s (LetGo t u) g q e = not_longer (NoneLost m.rows q.matched) m.qu
 -- At the entry where a query settles
 
 -- one more entry, of a query that was unmet before it
-unmet_step : (m : Plain) (s : ℕ) (c : Change) (q : Query) → IsSound m → Guard m s c → AllMatched (λ i. searched_at m.rows i ≡ true) q.matched → is_met m.rows q ≡ false →
+unmet_step : (m : Plain) (s : ℕ) (c : Change Meaning) (q : Query) → IsSound m → Guard m s c → AllMatched (λ i. searched_at m.rows i ≡ true) q.matched → is_met m.rows q ≡ false →
     all_at (changed c m).rows q.level q.matched ≡ true → first_lost (changed c m).rows q.matched ≡ None
 unmet_step m s c q h g searched unmet all = split (losing m s c h g)
   where
@@ -313,8 +297,8 @@ one_end jmax h number (suc k) q l t set all = goal
     m : Plain
     m = state (take k h)
 
-    c : Change
-    c = change_of step.entry.seat.0 step.entry.event step.entry.reply
+    c : Change Meaning
+    c = change_of m step.entry.seat.0 step.entry.event step.entry.reply
 
     rows_are : (state (take (suc k) h)).rows ≡ (changed c m).rows
     rows_are = ap (λ n. (state (take n h)).rows) (sym next) ∙ (ap (λ (n : Plain). n.rows) step.leads ∙ settled_rows (changed c m))

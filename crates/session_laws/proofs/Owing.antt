@@ -1,4 +1,12 @@
 -- Where a query is open, work is owed.
+use Rattle.std.proofs.Common.{Contains, zero-lt-suc, suc-le-suc}
+use Rattle.std.specs.Prelude.{is_none}
+use Rattle.session_model.specs.Plain.{is_alias}
+use Rattle.session_model.specs.Chain.{chain_next, matched_instances}
+use Rattle.session_laws.specs.Chains.{Ends, Stops, AllEnd}
+use Rattle.session_laws.specs.Sound.{LinkQuery, is_unbased, row_stage}
+use Rattle.session_laws.proofs.Following.{next_from, chains_end}
+use Rattle.session_laws.proofs.RowStages.{stage_of}
 use Rattle.std.proofs.Common.{◌≡◌, ℕ, zero, suc, ◌+◌, Bool, true, false, not, ◌&&◌, ◌==◌, nat_eq, cond, List, [], ◌∷◌, length, slice_get, ◌⊎◌, inl, inr, subst, sym, refl, ap, ◌∙◌, Option, Some, None, is_some}
 use Rattle.std.specs.Bool.{if◌then◌else◌}
 use Rattle.std.specs.List.{list_any}
@@ -23,7 +31,7 @@ use Rattle.session_model.specs.Change.{settled, finish_listed, waits_for}
 use Rattle.session_laws.proofs.Elements.{changed_cases, changed_some, same_element}
 use Rattle.session_laws.proofs.Facts.{test_parts, test_from, test_is, due_some}
 use Rattle.session_laws.proofs.Settling.{chosen}
-use Rattle.session_laws.specs.Sound.{IsSound, is_sure, sure_at, searched_at, is_underway, fits, is_held_phase, due_at, its_jobs, AllMatched}
+use Rattle.session_laws.specs.Sound.{row_stage, IsSound, is_sure, sure_at, searched_at, is_underway, fits, is_held_phase, due_at, its_jobs, AllMatched}
 use Rattle.std.proofs.lemmas.Bool.{or_parts, and_cases}
 use Rattle.orc_ids.specs.declared.lookup.Level.{Level}
 use Rattle.session_model.specs.Meaning.{Meaning}
@@ -50,7 +58,7 @@ use Rattle.session_model.specs.Change.{settled_one}
 use Rattle.session_model.specs.Owed.{IsOwed}
 use Rattle.session_laws.proofs.Defining.{waiting_parts}
 use Rattle.session_laws.proofs.Settling.{settled_one_keeps}
-use Rattle.session_laws.proofs.Paths.{walks_suffice}
+use Rattle.session_laws.proofs.Paths.{row_walks}
 use Rattle.session_laws.proofs.Meeting.{NoneLost, none_lost, none_some, unlost_parts}
 use Rattle.session_laws.specs.Work.{WorkIsOwed, IdleHasNoOpenQuery, NoneWaitsForMet}
 use Rattle.session_model.specs.declared.rows.Query.{Query}
@@ -114,7 +122,7 @@ settled_waits m u k q t e met = settling_ends u 0 k k m.queries q m (omega arith
 
 waits_from : (m : Plain) (h : List (Entry Meaning)) → NoMetWaits m → NoMetWaits (state_from m h)
 waits_from m [] w = w
-waits_from m (e ∷ es) w = waits_from (after m e) es (settled_waits (changed (change_of e.seat.0 e.event e.reply) m))
+waits_from m (e ∷ es) w = waits_from (after m e) es (settled_waits (changed (change_of m e.seat.0 e.event e.reply) m))
 
 pub no_met_waits : (h : List (Entry Meaning)) → NoMetWaits (state h)
 no_met_waits h = waits_from empty h (λ u k q t. absurd (none-some q t))
@@ -135,36 +143,31 @@ owed_job m u x j s t d = record { number = u; unit = x; there = t; work = inl (l
 owed_held : (m : Plain) (u : ℕ) (x : UnitRow) → IsSound m → slice_get m.units u ≡ Some x → is_defunct x.phase ≡ false → is_held_phase x.phase ≡ true → IsOwed m
 owed_held m u x s t d h = record { number = u; unit = x; there = t; work = inr ((s.units_fit u x t).seat d ∙ h) }
 
--- a claimed instance's unit is listed or held
-claimed_owed : (m : Plain) (u : ℕ) (x : UnitRow) → IsSound m → slice_get m.units u ≡ Some x → fits x.phase phase.Claimed ≡ true → IsOwed m
-claimed_owed m u x s t f = by_phase x.phase refl f
-  where
-    by_phase : (p : UnitPhase) → x.phase ≡ p → fits p phase.Claimed ≡ true → IsOwed m
-    by_phase stage.Listed e f = owed_job m u x (job.Start (record { 0 = u })) s t (ap (due_at u) e)
-    by_phase stage.Started e f = owed_held m u x s t (ap is_defunct e) (ap is_held_phase e)
-    by_phase stage.Placed e f = owed_held m u x s t (ap is_defunct e) (ap is_held_phase e)
-    by_phase _ e f = absurd (both_ways false refl f)
-
-underway_here : (m : Plain) (i : ℕ) (r : InstRow) → IsSound m → slice_get m.rows i ≡ Some r → is_underway r.phase ≡ true → (x : UnitRow) × (slice_get m.units r.unit.0 ≡ Some x) × (fits x.phase r.phase ≡ true)
+underway_here : (m : Plain) (i : ℕ) (r : InstRow) → IsSound m → slice_get m.rows i ≡ Some r → is_underway r.phase ≡ true → (x : UnitRow) × (slice_get m.units r.unit.0 ≡ Some x) × (fits (row_stage x) r.phase ≡ true)
 underway_here m i r s e w = split (cases_Bool r.present)
   where
-    split : (r.present ≡ true) ⊎ (r.present ≡ false) → (x : UnitRow) × (slice_get m.units r.unit.0 ≡ Some x) × (fits x.phase r.phase ≡ true)
+    split : (r.present ≡ true) ⊎ (r.present ≡ false) → (x : UnitRow) × (slice_get m.units r.unit.0 ≡ Some x) × (fits (row_stage x) r.phase ≡ true)
     split (inl p) = (s.rows_fit i r e).here p
     split (inr n) = absurd (both_ways (is_underway r.phase) ((s.rows_fit i r e).gone n) w)
 
-row_claimed_owed : (m : Plain) (i : ℕ) (r : InstRow) → IsSound m → slice_get m.rows i ≡ Some r → r.phase ≡ phase.Claimed → IsOwed m
-row_claimed_owed m i r s e p = let x = underway_here m i r s e (ap is_underway p) in claimed_owed m r.unit.0 x.0 s x.1 (subst (λ f. fits x.0.phase f ≡ true) p x.2)
-
 -- an unmet query
 
-not_all : (rows : List InstRow) (lev : Level) (os : List (Option InstId)) → all_at rows lev os ≡ false → NoneLost rows os → AllMatched (λ i. searched_at rows i ≡ true) os → (i : ℕ) × (at_level rows lev i ≡ false) × (is_lost rows i ≡ false) × (searched_at rows i ≡ true)
+-- an instance that isn't at the level yet
+pub record IsBehind (rows : List InstRow) (lev : Level) (os : List (Option InstId)) : Type 0 where
+  pub number : ℕ
+  pub matched : Contains (matched_instances os) number
+  pub behind : at_level rows lev number ≡ false
+  pub kept : is_lost rows number ≡ false
+  pub searched : searched_at rows number ≡ true
+
+not_all : (rows : List InstRow) (lev : Level) (os : List (Option InstId)) → all_at rows lev os ≡ false → NoneLost rows os → AllMatched (λ i. searched_at rows i ≡ true) os → IsBehind rows lev os
 not_all rows lev [] e n s = absurd (both_ways true e refl)
-not_all rows lev (None ∷ os) e n s = not_all rows lev os e n s
+not_all rows lev (None ∷ os) e n s = let p = not_all rows lev os e n s in record { number = p.number; matched = p.matched; behind = p.behind; kept = p.kept; searched = p.searched }
 not_all rows lev (Some i ∷ os) e n s = split (and_cases (at_level rows lev i.0) (all_at rows lev os) e) (not_all rows lev os)
   where
-    split : (at_level rows lev i.0 ≡ false) ⊎ (all_at rows lev os ≡ false) → (all_at rows lev os ≡ false → NoneLost rows os → AllMatched (λ j. searched_at rows j ≡ true) os → (j : ℕ) × (at_level rows lev j ≡ false) × (is_lost rows j ≡ false) × (searched_at rows j ≡ true)) → (j : ℕ) × (at_level rows lev j ≡ false) × (is_lost rows j ≡ false) × (searched_at rows j ≡ true)
-    split (inl a) later = (i.0, a, n.0, s.0)
-    split (inr b) later = later b n.1 s.1
+    split : (at_level rows lev i.0 ≡ false) ⊎ (all_at rows lev os ≡ false) → (all_at rows lev os ≡ false → NoneLost rows os → AllMatched (λ j. searched_at rows j ≡ true) os → IsBehind rows lev os) → IsBehind rows lev (Some i ∷ os)
+    split (inl a) later = record { number = i.0; matched = (0, zero-lt-suc (length (matched_instances os)), refl); behind = a; kept = n.0; searched = s.0 }
+    split (inr b) later = let p = later b n.1 s.1 in record { number = p.number; matched = (suc p.matched.0, suc-le-suc p.matched.1, p.matched.2); behind = p.behind; kept = p.kept; searched = p.searched }
 
 -- a searched instance that isn't lost
 live_row : (rows : List InstRow) (i : ℕ) → is_lost rows i ≡ false → searched_at rows i ≡ true → (r : InstRow) × (slice_get rows i ≡ Some r) × (is_failed r.phase ≡ false) × (is_unsearched r.phase ≡ false)
@@ -185,39 +188,90 @@ unemitted_underway phase.Unsearched f u e = absurd (both_ways true u refl)
 unemitted_underway phase.Failed f u e = absurd (both_ways true f refl)
 unemitted_underway (phase.Emitted n ds) f u e = absurd (both_ways true e refl)
 
-unmet_parts : (m : Plain) (k : ℕ) (q : Query) → IsSound m → slice_get m.queries k ≡ Some q → is_met m.rows q ≡ false → (i : ℕ) × (at_level m.rows q.level i ≡ false) × (is_lost m.rows i ≡ false) × (searched_at m.rows i ≡ true)
+unmet_parts : (m : Plain) (k : ℕ) (q : Query) → IsSound m → slice_get m.queries k ≡ Some q → is_met m.rows q ≡ false → IsBehind m.rows q.level q.matched
 unmet_parts m k q s t u = let p = or_parts (all_at m.rows q.level q.matched) (is_some (first_lost m.rows q.matched)) u in
     not_all m.rows q.level q.matched p.0 (none_lost m.rows q.matched (none_some (first_lost m.rows q.matched) p.1)) (s.searched k q t)
 
+-- the link query of a unit that waits isn't met
+link_unmet : (m : Plain) (u : ℕ) (x : UnitRow) → IsSound m → NoMetWaits m → slice_get m.units u ≡ Some x → x.phase ≡ stage.Waiting → (l : LinkQuery m.queries u x) × IsBehind m.rows level.Resolved l.query.matched
+link_unmet m u x s w t e =
+    let l = (s.units_fit u x t).waits e in
+    let unmet = false_from_ne_true (is_met m.rows l.query) (λ met. both_ways (waits_for m u l.number) (w u l.number l.query l.there l.links met) (waiting_from m u l.number x t e l.its)) in
+    (l, subst (λ lev. IsBehind m.rows lev l.query.matched) l.level (unmet_parts m l.number l.query s l.there unmet))
+
+-- Work that a claimed instance's unit owes: it is listed or held; or it is an alias that waits for an
+-- instance which is claimed too, at the end of a chain.
+claimed_owed : (m : Plain) → IsSound m → NoMetWaits m → (i : ℕ) → Ends (chain_next m.rows m.units m.queries) i → (r : InstRow) → slice_get m.rows i ≡ Some r → r.phase ≡ phase.Claimed → IsOwed m
+claimed_owed m s w _ (Stops i h) r e c = by_unit (underway_here m i r s e (ap is_underway c)) (λ j d q f g. claimed_owed m s w j (h j d) q f g)
+  where
+    by_unit : (x : UnitRow) × (slice_get m.units r.unit.0 ≡ Some x) × (fits (row_stage x) r.phase ≡ true) → ((j : ℕ) → Contains (chain_next m.rows m.units m.queries i) j → (q : InstRow) → slice_get m.rows j ≡ Some q → q.phase ≡ phase.Claimed → IsOwed m) → IsOwed m
+    by_unit p next = by_phase (is_unbased p.0) refl p.0.phase refl (subst (λ f. fits (row_stage p.0) f ≡ true) c p.2)
+      where
+        u : ℕ
+        u = r.unit.0
+
+        waiting : is_unbased p.0 ≡ true → p.0.phase ≡ stage.Waiting → IsOwed m
+        waiting a b =
+            let l = link_unmet m u p.0 s w p.1 b in
+            let q = live_row m.rows l.1.number l.1.kept l.1.searched in
+            next l.1.number
+            (next_from m.rows m.units m.queries i l.1.number (record { row = r; here = e; unit = p.0; there = p.1; alias = (and_parts (is_alias p.0) (is_none p.0.base) a).0; waits = b; number = l.0.number; its = l.0.its; query = l.0.query; asked = l.0.there; matched = l.1.matched }))
+            q.0 q.1 (unaddressed_claimed q.0.phase q.2 q.3 (ap (λ o. is_some (option_map_or (λ (y : InstRow). phase_address y.phase) o None)) (sym q.1) ∙ l.1.behind))
+
+        by_phase : (b : Bool) → is_unbased p.0 ≡ b → (ph : UnitPhase) → p.0.phase ≡ ph → fits (stage_of b ph) phase.Claimed ≡ true → IsOwed m
+        by_phase b a stage.Listed g f = owed_job m u p.0 (job.Start (record { 0 = u })) s p.1 (ap (due_at u) g)
+        by_phase b a stage.Started g f = owed_held m u p.0 s p.1 (ap is_defunct g) (ap is_held_phase g)
+        by_phase b a stage.Placed g f = owed_held m u p.0 s p.1 (ap is_defunct g) (ap is_held_phase g)
+        by_phase b a stage.Linking g f = owed_held m u p.0 s p.1 (ap is_defunct g) (ap is_held_phase g)
+        by_phase b a stage.Finishing g f = owed_held m u p.0 s p.1 (ap is_defunct g) (ap is_held_phase g)
+        by_phase b a stage.Linked g f = owed_job m u p.0 (job.Finish (record { 0 = u })) s p.1 (ap (due_at u) g)
+        by_phase true a stage.Waiting g f = waiting a g
+        by_phase false a stage.Waiting g f = absurd (both_ways false refl f)
+        by_phase true a stage.Unclaimed g f = absurd (both_ways false refl f)
+        by_phase false a stage.Unclaimed g f = absurd (both_ways false refl f)
+        by_phase true a stage.Done g f = absurd (both_ways false refl f)
+        by_phase false a stage.Done g f = absurd (both_ways false refl f)
+        by_phase true a stage.Failed g f = absurd (both_ways false refl f)
+        by_phase false a stage.Failed g f = absurd (both_ways false refl f)
+        by_phase true a stage.Defunct g f = absurd (both_ways false refl f)
+        by_phase false a stage.Defunct g f = absurd (both_ways false refl f)
+
 -- a live instance without an address is claimed
-resolved_owed : (m : Plain) (i : ℕ) → IsSound m → at_level m.rows level.Resolved i ≡ false → is_lost m.rows i ≡ false → searched_at m.rows i ≡ true → IsOwed m
-resolved_owed m i s a l d = let r = live_row m.rows i l d in
-    row_claimed_owed m i r.0 s r.1 (unaddressed_claimed r.0.phase r.2 r.3 (ap (λ o. is_some (option_map_or (λ (y : InstRow). phase_address y.phase) o None)) (sym r.1) ∙ a))
+resolved_owed : (m : Plain) (i : ℕ) → IsSound m → NoMetWaits m → AllEnd m → at_level m.rows level.Resolved i ≡ false → is_lost m.rows i ≡ false → searched_at m.rows i ≡ true → IsOwed m
+resolved_owed m i s w ends a l d = let r = live_row m.rows i l d in
+    claimed_owed m s w i (ends i) r.0 r.1 (unaddressed_claimed r.0.phase r.2 r.3 (ap (λ o. is_some (option_map_or (λ (y : InstRow). phase_address y.phase) o None)) (sym r.1) ∙ a))
 
 -- a resolved instance's unit is held, or it is linked, or it waits for an unmet link query
-resolved_unit_owed : (m : Plain) (u a : ℕ) (x : UnitRow) → IsSound m → NoMetWaits m → slice_get m.units u ≡ Some x → fits x.phase (phase.Resolved a) ≡ true → IsOwed m
-resolved_unit_owed m u a x s w t f = by_phase x.phase refl f
+resolved_unit_owed : (m : Plain) (u a : ℕ) (x : UnitRow) → IsSound m → NoMetWaits m → AllEnd m → slice_get m.units u ≡ Some x → fits (row_stage x) (phase.Resolved a) ≡ true → IsOwed m
+resolved_unit_owed m u a x s w ends t f = by_phase (is_unbased x) x.phase refl f
   where
     waiting : x.phase ≡ stage.Waiting → IsOwed m
-    waiting e = let l = (s.units_fit u x t).waits e in
-        let unmet = false_from_ne_true (is_met m.rows l.query) (λ met. both_ways (waits_for m u l.number) (w u l.number l.query l.there l.links met) (waiting_from m u l.number x t e l.its)) in
-        let p = unmet_parts m l.number l.query s l.there unmet in
-        resolved_owed m p.0 s (subst (λ lev. at_level m.rows lev p.0 ≡ false) l.level p.1) p.2 p.3
+    waiting e = let l = link_unmet m u x s w t e in resolved_owed m l.1.number s w ends l.1.behind l.1.kept l.1.searched
 
-    by_phase : (p : UnitPhase) → x.phase ≡ p → fits p (phase.Resolved a) ≡ true → IsOwed m
-    by_phase stage.Linking e f = owed_held m u x s t (ap is_defunct e) (ap is_held_phase e)
-    by_phase stage.Finishing e f = owed_held m u x s t (ap is_defunct e) (ap is_held_phase e)
-    by_phase stage.Linked e f = owed_job m u x (job.Finish (record { 0 = u })) s t (ap (due_at u) e)
-    by_phase stage.Waiting e f = waiting e
-    by_phase _ e f = absurd (both_ways false refl f)
+    by_phase : (b : Bool) (p : UnitPhase) → x.phase ≡ p → fits (stage_of b p) (phase.Resolved a) ≡ true → IsOwed m
+    by_phase b stage.Listed e f = owed_job m u x (job.Start (record { 0 = u })) s t (ap (due_at u) e)
+    by_phase b stage.Started e f = owed_held m u x s t (ap is_defunct e) (ap is_held_phase e)
+    by_phase b stage.Placed e f = owed_held m u x s t (ap is_defunct e) (ap is_held_phase e)
+    by_phase b stage.Linking e f = owed_held m u x s t (ap is_defunct e) (ap is_held_phase e)
+    by_phase b stage.Finishing e f = owed_held m u x s t (ap is_defunct e) (ap is_held_phase e)
+    by_phase b stage.Linked e f = owed_job m u x (job.Finish (record { 0 = u })) s t (ap (due_at u) e)
+    by_phase b stage.Waiting e f = waiting e
+    by_phase true stage.Unclaimed e f = absurd (both_ways false refl f)
+    by_phase false stage.Unclaimed e f = absurd (both_ways false refl f)
+    by_phase true stage.Done e f = absurd (both_ways false refl f)
+    by_phase false stage.Done e f = absurd (both_ways false refl f)
+    by_phase true stage.Failed e f = absurd (both_ways false refl f)
+    by_phase false stage.Failed e f = absurd (both_ways false refl f)
+    by_phase true stage.Defunct e f = absurd (both_ways false refl f)
+    by_phase false stage.Defunct e f = absurd (both_ways false refl f)
 
-underway_owed : (m : Plain) (i : ℕ) (r : InstRow) → IsSound m → NoMetWaits m → slice_get m.rows i ≡ Some r → (r.phase ≡ phase.Claimed) ⊎ ((a : ℕ) × (r.phase ≡ phase.Resolved a)) → IsOwed m
-underway_owed m i r s w e (inl p) = row_claimed_owed m i r s e p
-underway_owed m i r s w e (inr p) = let x = underway_here m i r s e (ap is_underway p.1) in resolved_unit_owed m r.unit.0 p.0 x.0 s w x.1 (subst (λ f. fits x.0.phase f ≡ true) p.1 x.2)
+underway_owed : (m : Plain) (i : ℕ) (r : InstRow) → IsSound m → NoMetWaits m → AllEnd m → slice_get m.rows i ≡ Some r → (r.phase ≡ phase.Claimed) ⊎ ((a : ℕ) × (r.phase ≡ phase.Resolved a)) → IsOwed m
+underway_owed m i r s w ends e (inl p) = claimed_owed m s w i (ends i) r e p
+underway_owed m i r s w ends e (inr p) = let x = underway_here m i r s e (ap is_underway p.1) in resolved_unit_owed m r.unit.0 p.0 x.0 s w ends x.1 (subst (λ f. fits (row_stage x.0) f ≡ true) p.1 x.2)
 
 -- a live instance that isn't ready reaches one whose work is under way
-unready_owed : (m : Plain) (i : ℕ) → IsSound m → NoMetWaits m → is_ready m.rows i ≡ false → is_lost m.rows i ≡ false → searched_at m.rows i ≡ true → IsOwed m
-unready_owed m i s w n l d = found ((walks_suffice m.rows (λ j. not (emitted_at m.rows j)) i).0 (not-false _ n))
+unready_owed : (m : Plain) (i : ℕ) → IsSound m → NoMetWaits m → AllEnd m → is_ready m.rows i ≡ false → is_lost m.rows i ≡ false → searched_at m.rows i ≡ true → IsOwed m
+unready_owed m i s w ends n l d = found ((row_walks m.rows (λ j. not (emitted_at m.rows j)) i).0 (not-false _ n))
   where
     sure : sure_at m.rows i ≡ true
     sure = let r = live_row m.rows i l d in test_from is_sure m.rows i r.0 r.1 (and_from (not (is_unsearched r.0.phase)) (not (is_failed r.0.phase)) (not_from_false (is_unsearched r.0.phase) r.3) (not_from_false (is_failed r.0.phase) r.2))
@@ -225,18 +279,18 @@ unready_owed m i s w n l d = found ((walks_suffice m.rows (λ j. not (emitted_at
     found : (j : ℕ) × Reaches m.rows i j × (not (emitted_at m.rows j) ≡ true) → IsOwed m
     found p = let r = test_parts is_sure m.rows p.0 (closed_reached m.rows (λ k. sure_at m.rows k ≡ true) (λ k j a c. s.deps k j c) i p.0 sure p.1) in
         let q = and_parts (not (is_unsearched r.0.phase)) (not (is_failed r.0.phase)) r.2 in
-        underway_owed m p.0 r.0 s w r.1 (unemitted_underway r.0.phase (not-true (is_failed r.0.phase) q.1) (not-true (is_unsearched r.0.phase) q.0)
+        underway_owed m p.0 r.0 s w ends r.1 (unemitted_underway r.0.phase (not-true (is_failed r.0.phase) q.1) (not-true (is_unsearched r.0.phase) q.0)
         (sym (test_is (λ (y : InstRow). is_emitted y.phase) m.rows p.0 r.0 r.1) ∙ not-true (emitted_at m.rows p.0) p.2))
 
-pub unmet_owed : (m : Plain) (k : ℕ) (q : Query) → IsSound m → NoMetWaits m → slice_get m.queries k ≡ Some q → is_met m.rows q ≡ false → IsOwed m
-unmet_owed m k q s w t u = let p = unmet_parts m k q s t u in by_level q.level refl p.0 p.1 p.2 p.3
+pub unmet_owed : (m : Plain) (k : ℕ) (q : Query) → IsSound m → NoMetWaits m → AllEnd m → slice_get m.queries k ≡ Some q → is_met m.rows q ≡ false → IsOwed m
+unmet_owed m k q s w ends t u = let p = unmet_parts m k q s t u in by_level q.level refl p.number p.behind p.kept p.searched
   where
     by_level : (lev : Level) → q.level ≡ lev → (i : ℕ) → at_level m.rows q.level i ≡ false → is_lost m.rows i ≡ false → searched_at m.rows i ≡ true → IsOwed m
-    by_level level.Resolved e i a l d = resolved_owed m i s (subst (λ lev. at_level m.rows lev i ≡ false) e a) l d
-    by_level level.Ready e i a l d = unready_owed m i s w (subst (λ lev. at_level m.rows lev i ≡ false) e a) l d
+    by_level level.Resolved e i a l d = resolved_owed m i s w ends (subst (λ lev. at_level m.rows lev i ≡ false) e a) l d
+    by_level level.Ready e i a l d = unready_owed m i s w ends (subst (λ lev. at_level m.rows lev i ≡ false) e a) l d
 
 pub work_is_owed : WorkIsOwed
-work_is_owed jmax h number q l t o = unmet_owed (state h) number q (legal_is_sound jmax h l) (no_met_waits h) t
+work_is_owed jmax h number q l t o = unmet_owed (state h) number q (legal_is_sound jmax h l) (no_met_waits h) (chains_end jmax h l) t
     (ap (λ g. is_met (state g).rows q) (sym (take_all (length h) h (le_refl (length h)))) ∙ o.unmet (length h) (query_was_asked h number q t).1 (le_refl (length h)))
 
 counted : {X : Type 0} (test : X → Bool) (xs : List X) (k : ℕ) (x : X) → slice_get xs k ≡ Some x → test x ≡ true → 0 < sum_by (λ y. cond (test y) 1 0) xs

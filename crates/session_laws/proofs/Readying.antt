@@ -1,5 +1,8 @@
 -- No emitted instance reaches a failed one, and what is ready stays so.
-use Rattle.std.proofs.Common.{◌≡◌, ℕ, Bool, true, false, not, ◌&&◌, ◌==◌, map, List, [], ◌∷◌, ◌++◌, length, slice_get, Contains, ◌⊎◌, inl, inr, subst, sym, refl, ap, ◌∙◌, Option, Some, None, option_map, unwrap_or}
+use Rattle.session_model.specs.Change.{unreplaced_row, resolved_unit, resolved_row, moved_unit, moved_generator, gone_tracker}
+use Rattle.session_model.specs.declared.rows.Verdict.{Verdict}
+use Rattle.session_laws.proofs.RowStages.{held_row, resolvable_held}
+use Rattle.std.proofs.Common.{◌≡◌, ℕ, Bool, true, false, not, ◌&&◌, ◌==◌, map, List, [], ◌∷◌, ◌++◌, length, slice_get, Contains, subst, sym, refl, ap, ◌∙◌, Option, Some, None, option_map, unwrap_or}
 use Rattle.std.specs.Bool.{if◌then◌else◌}
 use Rattle.std.specs.Option.{option_map_or}
 use Rattle.std.proofs.lemmas.Bool.{both_ways, and_parts, and_right, not-true, false_from_ne_true}
@@ -10,20 +13,22 @@ use Rattle.session_model.specs.Reach.{IsReady, is_hit, deps_at}
 use Rattle.session_model.specs.declared.rows.InstRow.{InstRow}
 use Rattle.session_model.specs.declared.rows.Phase.{Phase}
 use Rattle.session_model.specs.declared.rows.Phase.TheVariants as phase
-use Rattle.session_model.specs.declared.rows.UnitPhase.TheVariants as stage
 use Rattle.std.proofs.Common.{append_assoc, append-nil}
 use Rattle.session_model.specs.Plain.{phase_address}
-use Rattle.session_model.specs.Change.{deps_in, hits_failed, unit_roots, tracker_roots, is_unit_of, claimed}
+use Rattle.session_model.specs.Change.{deps_in, hits_failed, tracker_roots, is_unit_of, claimed}
+use Rattle.session_model.specs.Plain.{is_owned_at}
 use Rattle.session_laws.proofs.Elements.{same_element, mapped_some}
 use Rattle.session_laws.proofs.Facts.{test_parts, test_is, held_unemitted, ready_emitted}
 use Rattle.session_laws.proofs.Paths.{hit_from_test}
 use Rattle.session_laws.proofs.Settling.{chosen}
-use Rattle.session_laws.specs.Sound.{IsSound, is_sure, sure_at, fits, is_held_phase, AllMatched}
+use Rattle.session_laws.specs.Sound.{row_stage, IsSound, is_sure, sure_at, fits, is_held_phase, AllMatched}
 use Rattle.session_laws.proofs.Changes.{owned_parts}
 use Rattle.session_model.specs.Meaning.{Meaning}
-use Rattle.session_model.specs.Change.{is_replaced, new_rows, defined, all_claimed, matched}
+use Rattle.session_model.specs.Change.{new_rows, defined, all_claimed}
 use Rattle.session_laws.proofs.Elements.{front_some, numbered_some}
-use Rattle.session_model.specs.Change.{Change, Nothing, MakeDylib, MakeTracker, SetOrder, Attach, Define, Generate, Spend, Ask, Start, Finish, Place, Resolve, Link, Emit, Fail, Move, Remove, LetGo, change_of, changed, link_order}
+use Rattle.session_model.specs.Change.{change_of, changed}
+use Rattle.session_model.specs.declared.change.Change.{Change}
+use Rattle.session_model.specs.declared.change.Change.TheVariants.{Nothing, MakeDylib, MakeTracker, SetOrder, Attach, Define, Generate, Spend, Ask, Start, Finish, Place, Resolve, Link, Emit, Fail, Move, Remove, LetGo}
 use Rattle.session_model.specs.Answer.{Answers}
 use Rattle.session_model.specs.declared.entry.Entry.{Entry}
 use Rattle.session_laws.proofs.Defining.{IsHere}
@@ -37,7 +42,7 @@ use Rattle.session_laws.proofs.Defining.{claims_keep}
 use Rattle.session_model.specs.Reach.{Reaches}
 use Rattle.session_laws.proofs.Along.{prefixes_legal}
 use Rattle.session_laws.proofs.Paths.{reaches_self, reaches_dep, reach_transitive, closed_reached}
-use Rattle.session_laws.proofs.Invariant.{sound_after, legal_is_sound, link_unit, good_here}
+use Rattle.session_laws.proofs.Invariant.{sound_after, legal_is_sound, good_here}
 use Rattle.session_laws.proofs.Settling.{settled_rows}
 use Rattle.session_laws.proofs.Elements.{numbered_some}
 use Rattle.session_laws.specs.Readiness.{phase_at, EmittedReachesNoFailed, ReadyStaysReady}
@@ -128,9 +133,9 @@ same_rows rows i h = refl
 claims_keep_ready : (m : Plain) (os : List (Option InstId)) → AllMatched (IsHere m.rows) os → KeepsReady m.rows (all_claimed os m).rows
 claims_keep_ready m os here = claims_keep (λ n. KeepsReady m.rows n.rows) (λ i r n p e present unsearched. keeps_again m.rows n.rows (claimed r.unit.0 n).rows p (claim_keeps_ready r.unit.0 n)) os m here (same_rows m.rows)
 
-defined_keeps_ready : (m : Plain) (d t : ℕ) (v : Meaning) → KeepsReady m.rows (defined m d t v).rows
-defined_keeps_ready m d t v = keeps_mapped m.rows (defined m d t v).rows (λ i r. record r { present = r.present && not (is_replaced m d v i) })
-    (λ i r e. front_some (numbered (λ i (r : InstRow). record r { present = r.present && not (is_replaced m d v i) }) 0 m.rows) (new_rows m d (length m.units) 0 v.offers) i (record r { present = r.present && not (is_replaced m d v i) }) (numbered_some (λ i (r : InstRow). record r { present = r.present && not (is_replaced m d v i) }) m.rows i r e))
+defined_keeps_ready : (m : Plain) (d t : ℕ) (v : Meaning) (vs : List Verdict) → KeepsReady m.rows (defined d t v vs m).rows
+defined_keeps_ready m d t v vs = keeps_mapped m.rows (defined d t v vs m).rows (unreplaced_row vs)
+    (λ i r e. front_some (numbered (unreplaced_row vs) 0 m.rows) (new_rows d (length m.units) 0 v.offers vs) i (unreplaced_row vs i r) (numbered_some (unreplaced_row vs) m.rows i r e))
     (λ i r e h t. refl)
 
 -- the instances of a held unit aren't emitted
@@ -139,7 +144,7 @@ held_unowned m u x i r s t held e emitted = false_from_ne_true (is_owned u r) (�
   where
     clash : is_owned u r ≡ true → ⊥
     clash o = let p = owned_parts u r o in let y = (s.rows_fit i r e).here p.0 in
-        both_ways (is_emitted r.phase) (held_unemitted x.phase r.phase held (subst (λ (z : UnitRow). fits z.phase r.phase ≡ true) (same_element (slice_get m.units u) y.0 x (sym (ap (slice_get m.units) p.1) ∙ y.1) t) y.2)) emitted
+        both_ways (is_emitted r.phase) (held_unemitted (row_stage x) r.phase (held_row x held) (subst (λ (z : UnitRow). fits (row_stage z) r.phase ≡ true) (same_element (slice_get m.units u) y.0 x (sym (ap (slice_get m.units) p.1) ∙ y.1) t) y.2)) emitted
 
 hits_keep_ready : (rows : List InstRow) (roots : ℕ → Bool) → KeepsReady rows (hits_failed roots rows)
 hits_keep_ready rows roots = keeps_mapped rows (hits_failed roots rows) (λ i r. record r { phase = if is_hit rows roots i then phase.Failed else r.phase })
@@ -150,51 +155,40 @@ gone_keeps_ready : (f : InstRow → Bool) (rows : List InstRow) → KeepsReady r
 gone_keeps_ready f rows = keeps_mapped rows (map (λ (r : InstRow). record r { present = f r }) rows) (λ i r. record r { present = f r })
     (λ i r e. mapped_some (λ (r : InstRow). record r { present = f r }) rows i r e) (λ i r e h t. refl)
 
-pub keeps_ready : (m : Plain) (s : ℕ) (c : Change) → IsSound m → Guard m s c → KeepsReady m.rows (changed c m).rows
+pub keeps_ready : (m : Plain) (s : ℕ) (c : Change Meaning) → IsSound m → Guard m s c → KeepsReady m.rows (changed c m).rows
 keeps_ready m s Nothing h g = same_rows m.rows
 keeps_ready m s (MakeDylib name) h g = same_rows m.rows
 keeps_ready m s (MakeTracker d) h g = same_rows m.rows
 keeps_ready m s (SetOrder d order) h g = same_rows m.rows
 keeps_ready m s (Attach d t u) h g = same_rows m.rows
-keeps_ready m s (Define d t u) h g = defined_keeps_ready m d t u
-keeps_ready m s (Generate k) h g = split (slice_get m.generators k)
+keeps_ready m s (Define d t u found) h g = defined_keeps_ready m d.0 t.0 u found
+keeps_ready m s (Generate k found) h g = split (slice_get m.generators k.0)
   where
-    split : (o : Option GenRow) → KeepsReady m.rows (option_map_or (λ x. spent k (defined m x.dylib x.tracker x.meaning)) o m).rows
+    split : (o : Option GenRow) → KeepsReady m.rows (option_map_or (λ x. spent k.0 (defined x.dylib x.tracker x.meaning found m)) o m).rows
     split None = same_rows m.rows
-    split (Some x) = defined_keeps_ready m x.dylib x.tracker x.meaning
+    split (Some x) = defined_keeps_ready m x.dylib x.tracker x.meaning found
 keeps_ready m s (Spend k) h g = same_rows m.rows
-keeps_ready m s (Ask order wanted lev n) h g = claims_keep_ready m (matched m order wanted) (good_here m (matched m order wanted) g)
+keeps_ready m s (Ask found lev n) h g = claims_keep_ready m found (good_here m found g)
 keeps_ready m s (Start t u) h g = same_rows m.rows
 keeps_ready m s (Finish t u how) h g = same_rows m.rows
-keeps_ready m s (Place u shape base) h g = same_rows m.rows
-keeps_ready m s (Resolve u) h g = subst (λ o. KeepsReady m.rows (option_map_or (λ (x : UnitRow). record m {
-  rows = map (λ (r : InstRow). record r { phase = if is_owned u r then phase.Resolved (x.meaning.address r.offer (unwrap_or x.base 0)) else r.phase }) m.rows;
-  units = changed_at u (λ y. record y { phase = stage.Linking }) m.units;
-}) o m).rows) (sym g.1)
-    (keeps_mapped m.rows (map (λ (r : InstRow). record r { phase = if is_owned u r then phase.Resolved (g.0.meaning.address r.offer (unwrap_or g.0.base 0)) else r.phase }) m.rows) (λ i r. record r { phase = if is_owned u r then phase.Resolved (g.0.meaning.address r.offer (unwrap_or g.0.base 0)) else r.phase })
-    (λ i r e. mapped_some (λ (r : InstRow). record r { phase = if is_owned u r then phase.Resolved (g.0.meaning.address r.offer (unwrap_or g.0.base 0)) else r.phase }) m.rows i r e)
-    (λ i r e ready t. same_unless (is_owned u r) (phase.Resolved (g.0.meaning.address r.offer (unwrap_or g.0.base 0))) r.phase (held_unowned m u g.0 i r h g.1 (held g.3) e t)))
-  where
-    held : (g.0.phase ≡ stage.Placed) ⊎ (g.0.phase ≡ stage.Started) → is_held_phase g.0.phase ≡ true
-    held (inl e) = ap is_held_phase e
-    held (inr e) = ap is_held_phase e
-keeps_ready m s (Link u) h g = subst (λ o. KeepsReady m.rows (option_map_or (link_unit m u) o m).rows) (sym g.1) (claims_keep_ready m (matched m (link_order m g.0) (g.0.meaning.externals g.0.live)) (good_here m (matched m (link_order m g.0) (g.0.meaning.externals g.0.live)) g.3.1))
-keeps_ready m s (Emit u groups) h g = keeps_mapped m.rows (emitted u groups m).rows (λ i r. record r { phase = if is_owned u r then phase.Emitted (unwrap_or (phase_address r.phase) 0) (deps_in groups i) else r.phase })
-    (λ i r e. numbered_some (λ i (r : InstRow). record r { phase = if is_owned u r then phase.Emitted (unwrap_or (phase_address r.phase) 0) (deps_in groups i) else r.phase }) m.rows i r e)
-    (λ i r e ready t. same_unless (is_owned u r) (phase.Emitted (unwrap_or (phase_address r.phase) 0) (deps_in groups i)) r.phase (held_unowned m u g.0 i r h g.1 (ap is_held_phase g.3.0) e t))
-keeps_ready m s (Fail u) h g = hits_keep_ready m.rows (unit_roots u m.rows)
-keeps_ready m s (Move t to) h g = chosen (λ n. KeepsReady m.rows n.rows) (t == to) m (record m {
-  units = map (λ (x : UnitRow). record x { tracker = if x.tracker == t then to else x.tracker }) m.units;
-  generators = map (λ (x : GenRow). record x { tracker = if x.tracker == t then to else x.tracker }) m.generators;
-  trackers = changed_at t (λ x. record x { gone = true }) m.trackers;
-}) (λ b. same_rows m.rows) (λ b. same_rows m.rows)
-keeps_ready m s (Remove t) h g = keeps_again m.rows (hits_failed (tracker_roots m t) m.rows) (removed t m).rows (hits_keep_ready m.rows (tracker_roots m t))
-    (gone_keeps_ready (λ r. r.present && not (is_unit_of m t r.unit.0)) (hits_failed (tracker_roots m t) m.rows))
+keeps_ready m s (Place u base) h g = same_rows m.rows
+keeps_ready m s (Resolve u) h g = subst (λ o. KeepsReady m.rows (option_map_or (λ (x : UnitRow). record m { rows = map (resolved_row u.0 (resolved_unit x)) m.rows; units = changed_at u.0 resolved_unit m.units }) o m).rows) (sym g.1)
+    (keeps_mapped m.rows (map (resolved_row u.0 (resolved_unit g.0)) m.rows) (λ i r. resolved_row u.0 (resolved_unit g.0) r)
+    (λ i r e. mapped_some (resolved_row u.0 (resolved_unit g.0)) m.rows i r e)
+    (λ i r e ready t. same_unless (is_owned u.0 r) (phase.Resolved (g.0.meaning.address r.offer (unwrap_or (resolved_unit g.0).base 0))) r.phase (held_unowned m u.0 g.0 i r h g.1 (resolvable_held g.0 g.3) e t)))
+keeps_ready m s (Link u found) h g = claims_keep_ready m found (good_here m found g.3.3)
+keeps_ready m s (Emit u groups) h g = keeps_mapped m.rows (emitted u.0 groups m).rows (λ i r. record r { phase = if is_owned u.0 r then phase.Emitted (unwrap_or (phase_address r.phase) 0) (deps_in groups i) else r.phase })
+    (λ i r e. numbered_some (λ i (r : InstRow). record r { phase = if is_owned u.0 r then phase.Emitted (unwrap_or (phase_address r.phase) 0) (deps_in groups i) else r.phase }) m.rows i r e)
+    (λ i r e ready t. same_unless (is_owned u.0 r) (phase.Emitted (unwrap_or (phase_address r.phase) 0) (deps_in groups i)) r.phase (held_unowned m u.0 g.0 i r h g.1 (ap is_held_phase g.3.0) e t))
+keeps_ready m s (Fail u) h g = hits_keep_ready m.rows (is_owned_at u.0 m.rows)
+keeps_ready m s (Move t to) h g = chosen (λ n. KeepsReady m.rows n.rows) (t.0 == to.0) m (record m { units = map (moved_unit t.0 to.0) m.units; generators = map (moved_generator t.0 to.0) m.generators; trackers = changed_at t.0 gone_tracker m.trackers }) (λ b. same_rows m.rows) (λ b. same_rows m.rows)
+keeps_ready m s (Remove t) h g = keeps_again m.rows (hits_failed (tracker_roots m t.0) m.rows) (removed t.0 m).rows (hits_keep_ready m.rows (tracker_roots m t.0))
+    (gone_keeps_ready (λ r. r.present && not (is_unit_of m t.0 r.unit.0)) (hits_failed (tracker_roots m t.0) m.rows))
 keeps_ready m s (LetGo t u) h g = same_rows m.rows
 
 pub after_keeps_ready : (jmax : ℕ) (past : List (Entry Meaning)) (m : Plain) (e : Entry Meaning) → IsSound m → Answers jmax past m e.seat.0 e.event e.reply → KeepsReady m.rows (after m e).rows
-after_keeps_ready jmax past m e s a = subst (KeepsReady m.rows) (sym (settled_rows (changed (change_of e.seat.0 e.event e.reply) m)))
-    (keeps_ready m e.seat.0 (change_of e.seat.0 e.event e.reply) s (guard_of jmax past m e.seat.0 e.event e.reply a))
+after_keeps_ready jmax past m e s a = subst (KeepsReady m.rows) (sym (settled_rows (changed (change_of m e.seat.0 e.event e.reply) m)))
+    (keeps_ready m e.seat.0 (change_of m e.seat.0 e.event e.reply) s (guard_of jmax past m e.seat.0 e.event e.reply a))
 
 from_keeps_ready : (jmax : ℕ) (past : List (Entry Meaning)) (m : Plain) (h : List (Entry Meaning)) → IsSound m → LegalFrom jmax past m h → KeepsReady m.rows (state_from m h).rows
 from_keeps_ready jmax past m [] s l = same_rows m.rows

@@ -12,7 +12,7 @@ use Rattle.session_model.specs.declared.rows.Phase.{Phase}
 use Rattle.session_model.specs.declared.rows.UnitPhase.{UnitPhase}
 use Rattle.session_laws.proofs.Elements.{map_parts, changed_cases, changed_some, changed_elsewhere, same_element}
 use Rattle.session_laws.proofs.Facts.{test_parts, test_from, deps_parts, deps_from, matched_more, due_some}
-use Rattle.session_laws.specs.Sound.{Sound, RowFits, UnitFits, is_sure, sure_at, searched_at, is_underway, fits, due_at, due, its_jobs}
+use Rattle.session_laws.specs.Sound.{row_stage, Sound, RowFits, UnitFits, is_sure, sure_at, searched_at, is_underway, fits, due_at, due, its_jobs}
 use Rattle.session_model.specs.declared.rows.Query.{Query}
 
 -- A change of unit u, which was x, and of instances that stay where they are.
@@ -20,7 +20,7 @@ pub record IsStep (rows : List InstRow) (units : List UnitRow) (queries : List Q
   pub there : slice_get units u ≡ Some x
   pub at : (i : ℕ) → slice_get new i ≡ option_map (g i) (slice_get rows i)
   pub same : (i : ℕ) (r : InstRow) → ((g i r).present ≡ r.present) × ((g i r).unit ≡ r.unit)
-  pub mine : (i : ℕ) (r : InstRow) → slice_get rows i ≡ Some r → r.present ≡ true → r.unit.0 ≡ u → fits x.phase r.phase ≡ true → fits y.phase (g i r).phase ≡ true
+  pub mine : (i : ℕ) (r : InstRow) → slice_get rows i ≡ Some r → r.present ≡ true → r.unit.0 ≡ u → fits (row_stage x) r.phase ≡ true → fits (row_stage y) (g i r).phase ≡ true
   pub other : (i : ℕ) (r : InstRow) → slice_get rows i ≡ Some r → r.present ≡ true → (r.unit.0 ≡ u → ⊥) → (s : UnitPhase) → fits s r.phase ≡ true → fits s (g i r).phase ≡ true
   pub gone : (i : ℕ) (r : InstRow) → slice_get rows i ≡ Some r → r.present ≡ false → is_underway r.phase ≡ false → is_underway (g i r).phase ≡ false
   pub deps : (i j : ℕ) → Contains (deps_at new i) j → sure_at new j ≡ true
@@ -43,16 +43,16 @@ stepped rows units queries jobs new g listed u x f s t = record { rows_fit = row
         at_unit : slice_get (changed_at u f units) (g i r).unit.0 ≡ slice_get (changed_at u f units) r.unit.0
         at_unit = ap (λ (v : UnitId). slice_get (changed_at u f units) v.0) (t.same i r).1
 
-        here : r.present ≡ true → (y : UnitRow) × (slice_get (changed_at u f units) (g i r).unit.0 ≡ Some y) × (fits y.phase (g i r).phase ≡ true)
+        here : r.present ≡ true → (y : UnitRow) × (slice_get (changed_at u f units) (g i r).unit.0 ≡ Some y) × (fits (row_stage y) (g i r).phase ≡ true)
         here h = split (cases_eq r.unit.0 u) ((s.rows_fit i r e).here h)
           where
-            split : (r.unit.0 ≡ u) ⊎ (r.unit.0 ≡ u → ⊥) → (y : UnitRow) × (slice_get units r.unit.0 ≡ Some y) × (fits y.phase r.phase ≡ true) → (y : UnitRow) × (slice_get (changed_at u f units) (g i r).unit.0 ≡ Some y) × (fits y.phase (g i r).phase ≡ true)
+            split : (r.unit.0 ≡ u) ⊎ (r.unit.0 ≡ u → ⊥) → (y : UnitRow) × (slice_get units r.unit.0 ≡ Some y) × (fits (row_stage y) r.phase ≡ true) → (y : UnitRow) × (slice_get (changed_at u f units) (g i r).unit.0 ≡ Some y) × (fits (row_stage y) (g i r).phase ≡ true)
             split (inl is) p = (
               f x,
               at_unit ∙ (ap (slice_get (changed_at u f units)) is ∙ changed_some u f units x t.there),
-              t.mine i r e h is (subst (λ (y : UnitRow). fits y.phase r.phase ≡ true) (same_element (slice_get units u) p.0 x (sym (ap (slice_get units) is) ∙ p.1) t.there) p.2),
+              t.mine i r e h is (subst (λ (y : UnitRow). fits (row_stage y) r.phase ≡ true) (same_element (slice_get units u) p.0 x (sym (ap (slice_get units) is) ∙ p.1) t.there) p.2),
             )
-            split (inr apart) p = (p.0, at_unit ∙ (changed_elsewhere u f units r.unit.0 apart ∙ p.1), t.other i r e h apart p.0.phase p.2)
+            split (inr apart) p = (p.0, at_unit ∙ (changed_elsewhere u f units r.unit.0 apart ∙ p.1), t.other i r e h apart (row_stage p.0) p.2)
 
     rows_fit : (i : ℕ) (r : InstRow) → slice_get new i ≡ Some r → RowFits (changed_at u f units) r
     rows_fit i r e = let p = map_parts (g i) (slice_get rows i) r (sym (t.at i) ∙ e) in
@@ -85,7 +85,7 @@ deps_kept rows new g at old less sure i j c = found (deps_parts new i j c)
 
 -- A change of unit u alone, and of its jobs.
 pub record IsUnitStep (queries : List Query) (jobs : List Job) (listed : List Job) (u : ℕ) (x y : UnitRow) : Type 0 where
-  pub mine : (p : Phase) → fits x.phase p ≡ true → fits y.phase p ≡ true
+  pub mine : (p : Phase) → fits (row_stage x) p ≡ true → fits (row_stage y) p ≡ true
   pub unit : UnitFits queries u y
   pub own : its_jobs u listed ≡ due_at u y.phase
   pub others : (v : ℕ) → (v ≡ u → ⊥) → its_jobs v listed ≡ its_jobs v jobs

@@ -7,7 +7,8 @@ use Rattle.orc_ids.specs.declared.ids.TrackId.{TrackId}
 use Rattle.session_model.specs.Meaning.{Meaning}
 use Rattle.session_model.specs.Plain.{Plain, failed_at}
 use Rattle.session_model.specs.Reach.{IsHit}
-use Rattle.session_model.specs.Change.{unit_roots, tracker_roots}
+use Rattle.session_model.specs.Change.{tracker_roots}
+use Rattle.session_model.specs.Plain.{is_owned_at}
 use Rattle.session_model.specs.State.{after}
 use Rattle.session_model.specs.declared.entry.Entry.{Entry}
 use Rattle.session_model.specs.declared.entry.Event.{Event}
@@ -27,7 +28,7 @@ remove_entry s t = record { seat = s; event = event.Remove t; reply = reply.Remo
 -- after a fail exactly those instances are Failed that were, and those that the unit's own hit
 abbrev pub FailFailsHits : Type 0
 FailFailsHits = (m : Plain) (s : SeatNo) (u : UnitId) (cause : Why) (i : ℕ) →
-    (failed_at (after m (fail_entry s u cause)).rows i ≡ true) ↔ (failed_at m.rows i ≡ true) ⊎ IsHit m.rows (unit_roots u.0 m.rows) i
+    (failed_at (after m (fail_entry s u cause)).rows i ≡ true) ↔ (failed_at m.rows i ≡ true) ⊎ IsHit m.rows (is_owned_at u.0 m.rows) i
 
 -- after a removal exactly those are Failed that were, and those that the tracker's unready ones hit
 abbrev pub RemoveFailsHits : Type 0

@@ -19,6 +19,7 @@ hello = record {
   offers = (record { 0 = 0 }, record { weak = false; common = false; exported = true; callable = true }) ∷ [];
   shape = λ live. None;
   address = λ k base. 64;
+  source = None;
   externals = λ live. [];
   image = λ live base bound. [];
   groups = λ live base bound own. record { members = own; deps = [] } ∷ [];

@@ -1,8 +1,11 @@
+pub mod Chains
 pub mod Failures
 pub mod Hello
 pub mod Histories
 pub mod Holding
 pub mod Journal
+pub mod Keeps
+pub mod Placements
 pub mod Queries
 pub mod Readiness
 pub mod Replies

@@ -1,11 +1,11 @@
 -- The invariant of a session.
-use Rattle.std.specs.Prelude.{◌≡◌, ℕ, Bool, true, false, ◌&&◌, ◌||◌, ◌==◌, not, List, [], ◌∷◌, slice_get, filter, Contains, Option, Some, None, is_some}
+use Rattle.std.specs.Prelude.{◌≡◌, ℕ, Bool, true, false, ◌&&◌, ◌||◌, ◌==◌, not, List, [], ◌∷◌, slice_get, filter, Contains, Option, Some, None, is_some, is_none, if◌then◌else◌}
 use Rattle.std.specs.Bool.{⊤}
 use Rattle.std.specs.Option.{option_map_or}
 use Rattle.orc_ids.specs.declared.ids.InstId.{InstId}
 use Rattle.orc_ids.specs.declared.lookup.Level.TheVariants as level
 use Rattle.session_model.specs.Meaning.{Meaning}
-use Rattle.session_model.specs.Plain.{Plain, UnitRow, is_unsearched, is_failed, is_emitted, is_defunct, row_test}
+use Rattle.session_model.specs.Plain.{Plain, UnitRow, is_alias, is_unsearched, is_failed, is_emitted, is_defunct, row_test}
 use Rattle.session_model.specs.Reach.{deps_at}
 use Rattle.session_model.specs.Change.{job_unit}
 use Rattle.session_model.specs.State.{state}
@@ -42,6 +42,28 @@ fits stage.Done p = is_emitted p || is_failed p
 fits stage.Failed p = is_failed p
 fits stage.Defunct p = false
 
+-- An alias has no address until its target has one: until then its instances are no further than
+-- those of a unit that was started.
+abbrev pub until_based : UnitPhase → UnitPhase
+until_based stage.Waiting = stage.Started
+until_based stage.Linked = stage.Started
+until_based stage.Finishing = stage.Started
+until_based p = p
+
+abbrev pub is_unbased : UnitRow → Bool
+is_unbased x = is_alias x && is_none x.base
+
+-- how far the instances of a unit have come
+abbrev pub row_stage : UnitRow → UnitPhase
+row_stage x = if is_unbased x then until_based x.phase else x.phase
+
+-- a unit has no base at these phases
+abbrev pub is_early : UnitPhase → Bool
+is_early stage.Unclaimed = true
+is_early stage.Listed = true
+is_early stage.Started = true
+is_early _ = false
+
 -- the phases at which a unit is held
 abbrev pub is_held_phase : UnitPhase → Bool
 is_held_phase stage.Started = true
@@ -64,9 +86,9 @@ sure_at rows i = row_test is_sure rows i
 abbrev pub searched_at : List InstRow → ℕ → Bool
 searched_at rows i = row_test (λ r. not (is_unsearched r.phase)) rows i
 
--- A present instance has a unit, whose phase fits its own. No work is under way on one that is gone.
+-- A present instance has a unit, which has come as far. No work is under way on one that is gone.
 pub record RowFits (units : List UnitRow) (r : InstRow) : Type 0 where
-  pub here : r.present ≡ true → (x : UnitRow) × (slice_get units r.unit.0 ≡ Some x) × (fits x.phase r.phase ≡ true)
+  pub here : r.present ≡ true → (x : UnitRow) × (slice_get units r.unit.0 ≡ Some x) × (fits (row_stage x) r.phase ≡ true)
   pub gone : r.present ≡ false → is_underway r.phase ≡ false
 
 -- the link query of a unit
@@ -78,10 +100,12 @@ pub record LinkQuery (queries : List Query) (u : ℕ) (x : UnitRow) : Type 0 whe
   pub links : query.unit ≡ Some u
   pub level : query.level ≡ level.Resolved
 
--- A unit is held exactly at the phases of work, unless it is gone. One that waits has a link query.
+-- A unit is held exactly at the phases of work, unless it is gone. One that waits has a link query, and
+-- one that was only started has no base.
 pub record UnitFits (queries : List Query) (u : ℕ) (x : UnitRow) : Type 0 where
   pub seat : is_defunct x.phase ≡ false → is_some x.seat ≡ is_held_phase x.phase
   pub waits : x.phase ≡ stage.Waiting → LinkQuery queries u x
+  pub early : is_early x.phase ≡ true → x.base ≡ None
 
 -- the jobs of a unit, by its phase
 abbrev pub due_at : ℕ → UnitPhase → List Job

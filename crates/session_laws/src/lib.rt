@@ -6,15 +6,19 @@
 //! first.
 #![tactic(auto)]
 
+mod chains;
 mod failures;
 mod histories;
 mod holding;
 mod journal;
+mod keeps;
+mod placements;
 mod queries;
 mod soundness;
 mod walks;
 mod work;
 
+pub use chains::{chains_end, coming_is_tested};
 pub use failures::{fail_fails_hits, only_failures_fail, remove_fails_hits};
 pub use histories::{
     empty_is_legal, hello_is_legal, one_more_is_legal, prefixes_are_legal, reply_is_determined,
@@ -22,6 +26,8 @@ pub use histories::{
 };
 pub use holding::{defunct_stays, gone_stays_held, held_stays};
 pub use journal::{full_stays, full_stops_others, holder_can_fail, kept_within};
+pub use keeps::addresses_are_kept;
+pub use placements::{live_names_stay, placements_lie_apart};
 pub use queries::{
     end_is_unique, end_stays, one_end_at_a_time, open_has_no_end, open_or_ended, query_was_asked,
 };

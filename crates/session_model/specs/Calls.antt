@@ -1,17 +1,16 @@
 -- The calls that a job, a lookup and the lines of a client make, as lists of entries of the caller's seat.
-use Rattle.std.specs.Prelude.{◌≡◌, ⊤, ℕ, ℤ, MatchBool, ◌+◌, Bool, true, false, ◌==◌, ◌⊎◌, List, [], ◌∷◌, ◌++◌, take, slice_get, map, Option, Some, None, is_some, unwrap_or, if◌then◌else◌}
+use Rattle.std.specs.Prelude.{◌≡◌, ⊤, ℕ, ℤ, MatchBool, ◌+◌, Bool, true, false, ◌==◌, ◌⊎◌, List, [], ◌∷◌, ◌++◌, take, slice_get, map, flat_map, Option, Some, None, is_some, unwrap_or, if◌then◌else◌}
 use Rattle.std.specs.Option.{option_map_or}
 use Rattle.orc_ids.specs.declared.ids.GenId.{GenId}
+use Rattle.orc_ids.specs.declared.ids.NameId.{NameId}
 use Rattle.orc_ids.specs.declared.ids.QueryId.{QueryId}
 use Rattle.orc_ids.specs.declared.ids.UnitId.{UnitId}
 use Rattle.orc_ids.specs.declared.lookup.Level.{Level}
 use Rattle.orc_ids.specs.declared.lookup.OrderItem.{OrderItem}
 use Rattle.orc_ids.specs.declared.lookup.Wanted.{Wanted}
 use Rattle.orc_ids.specs.declared.place.Place.{Place}
-use Rattle.session_model.specs.Answer.{unit_shape}
-use Rattle.session_model.specs.Lists.{or_else}
-use Rattle.session_model.specs.Meaning.{Meaning}
-use Rattle.session_model.specs.Plain.{Plain, Query}
+use Rattle.session_model.specs.Meaning.{Meaning, Bindings}
+use Rattle.session_model.specs.Plain.{Plain, Query, UnitRow, is_alias, unit_shape}
 use Rattle.session_model.specs.State.{state, IsOpen}
 use Rattle.session_model.specs.declared.entry.Entry.{Entry}
 use Rattle.session_model.specs.declared.entry.Event.{Event}
@@ -44,6 +43,7 @@ EndsLink u (reply.Pending q) es = es ≡ []
 EndsLink u (reply.Defunct v) es = es ≡ []
 EndsLink u (reply.Missing name) es = IsFail u (why.Missing name) es
 EndsLink u (reply.InError i) es = IsFail u (why.InError i) es
+EndsLink u (reply.AliasCycle i) es = IsFail u (why.AliasCycle i) es
 EndsLink u (reply.Offer g) es = IsCut u es
 EndsLink u _ es = ⊥
 
@@ -52,17 +52,18 @@ pub data Links (u : UnitId) : List (Entry Meaning) → Type 0 where
   Ends : (e : Entry Meaning) (es : List (Entry Meaning)) → e.event ≡ event.Link u → EndsLink u e.reply es → Links u (e ∷ es)
   Again : (e f : Entry Meaning) (g : GenId) (es : List (Entry Meaning)) → e.event ≡ event.Link u → e.reply ≡ reply.Offer g → f.event ≡ event.Generate g → Links u es → Links u (e ∷ f ∷ es)
 
-abbrev pub AfterResolve : UnitId → Reply → List (Entry Meaning) → Type 0
-AfterResolve u reply.Resolved es = Links u es
-AfterResolve u (reply.Defunct v) es = es ≡ []
-AfterResolve u _ es = ⊥
+-- a resolve, and what comes next
+abbrev pub AfterResolve : (List (Entry Meaning) → Type 0) → Reply → List (Entry Meaning) → Type 0
+AfterResolve Next reply.Resolved es = Next es
+AfterResolve Next (reply.Defunct v) es = es ≡ []
+AfterResolve Next _ es = ⊥
 
-abbrev pub Resolves : UnitId → List (Entry Meaning) → Type 0
-Resolves u [] = ⊥
-Resolves u (e ∷ es) = IsCut u (e ∷ es) ⊎ (e.event ≡ event.Resolve u) × AfterResolve u e.reply es
+abbrev pub Resolves : (List (Entry Meaning) → Type 0) → UnitId → List (Entry Meaning) → Type 0
+Resolves Next u [] = ⊥
+Resolves Next u (e ∷ es) = IsCut u (e ∷ es) ⊎ (e.event ≡ event.Resolve u) × AfterResolve Next e.reply es
 
 abbrev pub AfterPlace : UnitId → Reply → List (Entry Meaning) → Type 0
-AfterPlace u (reply.Placed base) es = Resolves u es
+AfterPlace u (reply.Placed base) es = Resolves (Links u) u es
 AfterPlace u (reply.NoRoom need) es = IsFail u (why.NoRoom need) es
 AfterPlace u (reply.Defunct v) es = es ≡ []
 AfterPlace u _ es = ⊥
@@ -91,18 +92,30 @@ EndsFinish u (Some (place, kind, v)) es = IsFail u (why.Refused place kind v) es
 EndsFinish u None [] = ⊥
 EndsFinish u None (e ∷ es) = (is_emit u e.event ≡ true) × AfterEmit u e.reply es
 
--- the unit needs memory
-abbrev pub is_shaped : Plain → UnitId → Bool
-is_shaped m u = option_map_or (λ x. is_some (unit_shape x)) (slice_get m.units u.0) false
+-- something of a unit's row, where there is one
+abbrev pub unit_test : (UnitRow → Bool) → Plain → UnitId → Bool
+unit_test test m u = option_map_or test (slice_get m.units u.0) false
 
 -- the first edge of the unit that is out of range, at its base and with its bindings
 abbrev pub refusal_of : Plain → UnitId → Option (Place × ℕ × ℤ)
 refusal_of m u = option_map_or (λ x. x.meaning.refusal x.live (unwrap_or x.base 0) (unwrap_or x.bound [])) (slice_get m.units u.0) None
 
--- what follows a take, after which the session is m; a unit without a shape needs no place
+-- an emit, or the fail that a refused edge asks for
+abbrev pub Emits : UnitId → Option (Place × ℕ × ℤ) → List (Entry Meaning) → Type 0
+Emits u refusal es = IsCut u es ⊎ EndsFinish u refusal es
+
+-- an alias is linked at once; a unit without a shape needs no place
+abbrev pub AfterStart : Plain → UnitId → List (Entry Meaning) → Type 0
+AfterStart m u es = MatchBool (unit_test is_alias m u) (Links u es) (MatchBool (unit_test (λ x. is_some (unit_shape x)) m u) (Places u es) (Resolves (Links u) u es))
+
+-- an alias is resolved now
+abbrev pub AfterBound : Plain → UnitId → List (Entry Meaning) → Type 0
+AfterBound m u es = MatchBool (unit_test is_alias m u) (Resolves (Emits u (refusal_of m u)) u es) (Emits u (refusal_of m u) es)
+
+-- what follows a take, after which the session is m
 abbrev pub AfterTake : Plain → Reply → List (Entry Meaning) → Type 0
-AfterTake m (reply.Start u) es = MatchBool (is_shaped m u) (Places u es) (Resolves u es)
-AfterTake m (reply.Finish u (finishing.Bound matches)) es = IsCut u es ⊎ EndsFinish u (refusal_of m u) es
+AfterTake m (reply.Start u) es = AfterStart m u es
+AfterTake m (reply.Finish u (finishing.Bound matches)) es = AfterBound m u es
 AfterTake m (reply.Finish u (finishing.Lost i)) es = IsFail u (why.InError i) es
 AfterTake m _ es = ⊥
 
@@ -147,42 +160,93 @@ pub data Looks (h : List (Entry Meaning)) (l : Lookup) : List (ℕ × Entry Mean
   Asks : (n : ℕ) (e : Entry Meaning) (cs : List (ℕ × Entry Meaning)) → e.event ≡ lookup_event l → EndsAsk h n e.reply cs → Looks h l ((n, e) ∷ cs)
   Again : (n m : ℕ) (e f : Entry Meaning) (g : GenId) (cs : List (ℕ × Entry Meaning)) → e.event ≡ lookup_event l → e.reply ≡ reply.Offer g → f.event ≡ event.Generate g → Looks h l cs → Looks h l ((n, e) ∷ (m, f) ∷ cs)
 
--- the unit of the last job that was begun
-abbrev pub taken_unit : Reply → Option UnitId
-taken_unit (reply.Start u) = Some u
-taken_unit (reply.Finish u how) = Some u
-taken_unit _ = None
-
-abbrev pub last_taken : List (ℕ × Entry Meaning) → Option UnitId
-last_taken [] = None
-last_taken (c ∷ cs) = or_else (last_taken cs) (taken_unit c.1.reply)
-
--- a line that was stopped has a beginning of such a list, but for one closing fail of the unit whose job it was doing
+-- A line that was stopped has a beginning of such a list. Where it was stopped in a job, the job's one
+-- fail is the end of that beginning.
 pub record IsStopped (whole : List (ℕ × Entry Meaning) → Type 0) (cs : List (ℕ × Entry Meaning)) : Type 0 where
   pub rest : List (ℕ × Entry Meaning)
-  pub closing : List (ℕ × Entry Meaning)
-  pub begun : List (ℕ × Entry Meaning)
-  pub is : cs ≡ begun ++ closing
-  pub would : whole (begun ++ rest)
-  pub fail : (closing ≡ []) ⊎ ((u : UnitId) × (last_taken begun ≡ Some u) × IsCut u (map (λ c. c.1) closing))
+  pub would : whole (cs ++ rest)
 
--- a line of a client: one event, as a definition, a move or a removal; a lookup; or a run
+-- A line of a script: one event, as a definition, a move or a removal; a lookup; or a run, which begins
+-- at a name.
 pub data Line : Type 0 where
   One : Event Meaning → Line
   LookUp : Lookup → Line
-  Run : Line
+  Run : NameId → Line
 
--- the entries of a line; a run copies the memory, if the client found the name that it begins at
-abbrev pub OfLine : List (Entry Meaning) → Line → List (ℕ × Entry Meaning) → Type 0
-OfLine h (One e) (c ∷ []) = c.1.event ≡ e
-OfLine h (One e) _ = ⊥
-OfLine h (LookUp l) cs = Looks h l cs
-OfLine h Run [] = ⊤
-OfLine h Run (c ∷ []) = c.1.event ≡ event.Image
-OfLine h Run _ = ⊥
+-- the addresses that a client's lookups gave it, the latest first
+abbrev pub Addresses : Type 0
+Addresses = List (NameId × ℕ)
 
--- the entries of a client's lines, one line after the other; after a line that was stopped there are none
-pub data OfLines (h : List (Entry Meaning)) : List Line → List (ℕ × Entry Meaning) → Type 0 where
-  Ends : OfLines h [] []
-  Goes : (line : Line) (lines : List Line) (now later : List (ℕ × Entry Meaning)) → OfLine h line now → OfLines h lines later → OfLines h (line ∷ lines) (now ++ later)
-  Stops : (line : Line) (lines : List Line) (now : List (ℕ × Entry Meaning)) → IsStopped (OfLine h line) now → OfLines h (line ∷ lines) now
+abbrev pub address_of : NameId → Addresses → Option ℕ
+address_of name [] = None
+address_of name (a ∷ later) = if a.0.0 == name.0 then Some a.1 else address_of name later
+
+-- the wanted names that were found, each with its address
+abbrev pub found_names : List Wanted → Bindings → Addresses
+found_names (w ∷ ws) (Some p ∷ bs) = (w.name, p.1) ∷ found_names ws bs
+found_names (w ∷ ws) (None ∷ bs) = found_names ws bs
+found_names _ _ = []
+
+abbrev pub found_in : List Wanted → Reply → Addresses
+found_in wanted (reply.Found at matches) = found_names wanted matches
+found_in wanted _ = []
+
+-- what a line found, by its entries
+abbrev pub found_by : Line → List (ℕ × Entry Meaning) → Addresses
+found_by (LookUp l) cs = flat_map (λ c. found_in l.wanted c.1.reply) cs
+found_by _ cs = []
+
+-- a run copies the memory, if the client found the name that it begins at
+abbrev pub OfRun : Option ℕ → List (ℕ × Entry Meaning) → Type 0
+OfRun None cs = cs ≡ []
+OfRun (Some at) (c ∷ []) = c.1.event ≡ event.Image
+OfRun (Some at) _ = ⊥
+
+-- the entries of a line, with what its client found before
+abbrev pub OfLine : List (Entry Meaning) → Addresses → Line → List (ℕ × Entry Meaning) → Type 0
+OfLine h found (One e) (c ∷ []) = c.1.event ≡ e
+OfLine h found (One e) _ = ⊥
+OfLine h found (LookUp l) cs = Looks h l cs
+OfLine h found (Run name) cs = OfRun (address_of name found) cs
+
+-- the entries of lines, one line after the other, and what was found at their end
+pub data OfLines (h : List (Entry Meaning)) : Addresses → List Line → List (ℕ × Entry Meaning) → Addresses → Type 0 where
+  Ends : (found : Addresses) → OfLines h found [] [] found
+  Goes : (found last : Addresses) (line : Line) (lines : List Line) (now later : List (ℕ × Entry Meaning)) →
+      OfLine h found line now → OfLines h (found_by line now ++ found) lines later last →
+      OfLines h found (line ∷ lines) (now ++ later) last
+
+-- all lines were done, or they were stopped in one, and the lines after it have no entry
+pub record StopIn (h : List (Entry Meaning)) (lines : List Line) (cs : List (ℕ × Entry Meaning)) : Type 0 where
+  pub done : List Line
+  pub line : Line
+  pub left : List Line
+  pub are : lines ≡ done ++ line ∷ left
+  pub found : Addresses
+  pub before : List (ℕ × Entry Meaning)
+  pub part : List (ℕ × Entry Meaning)
+  pub calls : cs ≡ before ++ part
+  pub were : OfLines h [] done before found
+  pub stopped : IsStopped (OfLine h found line) part
+
+abbrev pub AllDone : List (Entry Meaning) → List Line → List (ℕ × Entry Meaning) → Type 0
+AllDone h lines cs = (last : Addresses) × OfLines h [] lines cs last
+
+abbrev pub OfClient : List (Entry Meaning) → List Line → List (ℕ × Entry Meaning) → Type 0
+OfClient h lines cs = AllDone h lines cs ⊎ StopIn h lines cs
+
+-- the clients have the seats from s on
+abbrev pub OfClients : List (Entry Meaning) → ℕ → List (List Line) → Type 0
+OfClients h s [] = ⊤
+OfClients h s (lines ∷ clients) = OfClient h lines (numbered_calls s 1 h) × OfClients h (s + 1) clients
+
+abbrev pub NoCalls : List (Entry Meaning) → ℕ → List (List Line) → Type 0
+NoCalls h s [] = ⊤
+NoCalls h s (lines ∷ clients) = (numbered_calls s 1 h ≡ []) × NoCalls h (s + 1) clients
+
+-- A script's setup lines, which seat 0 calls, and the lines of its clients, whose seats are 1 and up. Where
+-- a setup line was stopped, no client has an entry.
+abbrev pub OfScript : List (Entry Meaning) → List Line → List (List Line) → Type 0
+OfScript h setup clients =
+    (AllDone h setup (numbered_calls 0 1 h) × OfClients h 1 clients)
+    ⊎ (StopIn h setup (numbered_calls 0 1 h) × NoCalls h 1 clients)

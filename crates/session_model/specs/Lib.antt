@@ -3,6 +3,7 @@ pub mod Meaning
 pub mod Plain
 pub mod Match
 pub mod Reach
+pub mod Chain
 pub mod Query
 pub mod Change
 pub mod Memory

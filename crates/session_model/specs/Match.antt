@@ -9,7 +9,7 @@ use Rattle.orc_ids.specs.declared.lookup.Scope.{Scope}
 use Rattle.orc_ids.specs.declared.lookup.Scope.TheVariants.{All, Exported}
 use Rattle.session_model.specs.Lists.{or_else, first_some, only_if}
 use Rattle.session_model.specs.Meaning.{Meaning}
-use Rattle.session_model.specs.Plain.{Plain}
+use Rattle.session_model.specs.Plain.{Plain, GenRow}
 use Rattle.session_model.specs.declared.rows.InstRow.{InstRow}
 use Rattle.session_model.specs.declared.rows.Row.{Row}
 pub use Rattle.session_model.specs.declared.rows.Match.{Match}
@@ -26,22 +26,22 @@ first_row test k [] = None
 first_row test k (r ∷ rs) = if test r then Some (record { inst = record { 0 = k }; flags = r.flags }) else first_row test (k + 1) rs
 
 -- the present row of a name in a dylib
-abbrev pub row_of : Plain → ℕ → ℕ → Option Row
-row_of m d name = first_row (λ r. r.present && r.dylib.0 == d && r.name.0 == name) 0 m.rows
+abbrev pub row_of : List InstRow → ℕ → ℕ → Option Row
+row_of rows d name = first_row (λ r. r.present && r.dylib.0 == d && r.name.0 == name) 0 rows
 
 -- the unit offers a definition of the name that the scope sees
 abbrev pub offers_name : Meaning → ℕ → Scope → Bool
 offers_name u name scope = list_any (λ o. o.0.0 == name && sees scope o.1) u.offers
 
 -- the first unspent generator of a dylib that offers a visible definition of the name
-abbrev pub offered_by : Plain → ℕ → ℕ → Scope → Option GenId
-offered_by m d name scope = option_map (λ g. record { 0 = g }) (position_from (λ g. not g.spent && g.dylib == d && offers_name g.meaning name scope) 0 m.generators)
+abbrev pub offered_by : List GenRow → ℕ → ℕ → Scope → Option GenId
+offered_by generators d name scope = option_map (λ g. record { 0 = g }) (position_from (λ (g : GenRow). not g.spent && g.dylib == d && offers_name g.meaning name scope) 0 generators)
 
 -- in one dylib: its present visible row of the name, else the first generator that offers one
 abbrev pub match_in : Plain → ℕ → OrderItem → Option Match
 match_in m name item = or_else
-    (option_map_or (λ r. only_if (sees item.scope r.flags) (Instance r.inst)) (row_of m item.dylib.0 name) None)
-    (option_map Offered (offered_by m item.dylib.0 name item.scope))
+    (option_map_or (λ r. only_if (sees item.scope r.flags) (Instance r.inst)) (row_of m.rows item.dylib.0 name) None)
+    (option_map Offered (offered_by m.generators item.dylib.0 name item.scope))
 
 -- in the first dylib of the order that has one
 abbrev pub match_of : Plain → List OrderItem → ℕ → Option Match

@@ -1,7 +1,8 @@
 -- What a unit is (ORC: a materialization unit), as functions of what a session decides: which of
 -- its names are live, where it is placed, and what its externals are bound to.
-use Rattle.std.specs.Prelude.{◌≡◌, ℕ, ◌<◌, ◌^◌, ℤ, Bool, List, length, slice_get, Option, Some, IfSome, All, Contains, IsPermutation, count_by, flat_map, filter_map, option_map}
+use Rattle.std.specs.Prelude.{◌≡◌, ℕ, ◌<◌, ◌^◌, ℤ, Bool, true, false, List, [], ◌∷◌, length, slice_get, Option, Some, None, IfSome, All, Contains, IsPermutation, count_by, flat_map, filter_map, option_map}
 use Rattle.std.specs.Option.{option_map_or}
+use Rattle.orc_ids.specs.declared.ids.DylibId.{DylibId}
 use Rattle.orc_ids.specs.declared.ids.InstId.{InstId}
 use Rattle.orc_ids.specs.declared.ids.NameId.{NameId}
 use Rattle.orc_ids.specs.declared.ids.UnitName.{UnitName}
@@ -28,6 +29,8 @@ pub record Meaning : Type 0 where
   pub shape : List Bool → Option Shape
   -- the address of an offered name, with the unit at a base
   pub address : ℕ → ℕ → ℕ
+  -- the dylib in which an alias looks its target up
+  pub source : Option DylibId
   -- the names that it looks up, in symbol order
   pub externals : List Bool → List Wanted
   -- its bytes in memory, by its live names, base and bindings
@@ -47,6 +50,18 @@ pub record FitsUnit (u : Meaning) (live : List Bool) (bound : Bindings) (own : L
   pub bindings : length bound ≡ length (u.externals live)
   pub instances : length own ≡ count_by (λ b. b) live
 
+-- An alias stands for one other name: it needs no memory, its address is the one that it is given as
+-- its base, and its one external is its target.
+pub record IsAlias (u : Meaning) : Type 0 where
+  pub name : NameId
+  pub offers : u.offers ≡ (name, record { weak = false; common = false; exported = true; callable = false }) ∷ []
+  pub target : NameId
+  pub externals : (live : List Bool) → u.externals live ≡ record { name = target; weak = false } ∷ []
+  pub shape : (live : List Bool) → u.shape live ≡ None
+  pub address : (base : ℕ) → u.address 0 base ≡ base
+  pub refusal : (live : List Bool) (base : ℕ) (bound : Bindings) → u.refusal live base bound ≡ None
+  pub groups : (live : List Bool) (base : ℕ) (bound : Bindings) (own : List InstId) → u.groups live base bound own ≡ record { members = own; deps = bound_instances bound } ∷ []
+
 -- the facts that hold of every unit
 pub record IsLawful (u : Meaning) : Type 0 where
   -- no name is offered twice
@@ -59,3 +74,5 @@ pub record IsLawful (u : Meaning) : Type 0 where
   pub shape : (live : List Bool) → IfSome (u.shape live) (λ s. (0 < s.need) × ((k : ℕ) × (s.align ≡ 2 ^ k)))
   -- its image has the length of that memory
   pub image : (live : List Bool) (base : ℕ) (bound : Bindings) → length (u.image live base bound) ≡ option_map_or (λ s. s.need) (u.shape live) 0
+  -- one that names a source is an alias
+  pub alias : IfSome u.source (λ d. IsAlias u)

@@ -1,7 +1,8 @@
 -- The plain session: lists without an index (ORC: an execution session).
-use Rattle.std.specs.Prelude.{ℕ, ◌+◌, Bool, true, false, ◌&&◌, ◌==◌, nat_lt, not, List, [], ◌∷◌, length, slice_get, count_by, Option, Some, None, is_some, option_map, map, if◌then◌else◌}
+use Rattle.std.specs.Prelude.{ℕ, ◌+◌, Bool, true, false, ◌&&◌, ◌==◌, nat_lt, not, List, [], ◌∷◌, length, slice_get, count_by, Option, Some, None, is_some, option_map, option_and_then, filter_map, map, if◌then◌else◌}
 use Rattle.std.specs.Option.{option_map_or}
 use Rattle.orc_ids.specs.declared.ids.InstId.{InstId}
+use Rattle.orc_ids.specs.declared.place.Shape.{Shape}
 use Rattle.session_model.specs.Meaning.{Meaning, Bindings}
 use Rattle.session_model.specs.declared.rows.InstRow.{InstRow}
 use Rattle.session_model.specs.declared.rows.Job.{Job}
@@ -23,7 +24,7 @@ pub record UnitRow : Type 0 where
   pub phase : UnitPhase
   -- the seat that holds it
   pub seat : Option ℕ
-  -- where it is placed
+  -- where it is placed; of an alias, the address that it was bound to
   pub base : Option ℕ
   -- its link query
   pub query : Option ℕ
@@ -48,12 +49,25 @@ pub record Plain : Type 0 where
   pub queries : List Query
   -- oldest first
   pub jobs : List Job
-  -- the ranges that were ever placed
-  pub taken : List Range
 
 -- the session before its first entry
 abbrev pub empty : Plain
-empty = record { entries = 0; dylibs = []; trackers = []; rows = []; units = []; generators = []; queries = []; jobs = []; taken = [] }
+empty = record { entries = 0; dylibs = []; trackers = []; rows = []; units = []; generators = []; queries = []; jobs = [] }
+
+-- an alias looks its target up in a dylib of its own choice (ORC: ReExportsMaterializationUnit)
+abbrev pub is_alias : UnitRow → Bool
+is_alias x = is_some x.meaning.source
+
+-- the memory that a unit needs; an alias needs none
+abbrev pub unit_shape : UnitRow → Option Shape
+unit_shape x = if is_alias x then None else x.meaning.shape x.live
+
+-- the range of a unit that is placed
+abbrev pub placement : UnitRow → Option Range
+placement x = option_and_then (λ base. option_map (λ (shape : Shape). record { base = base; need = shape.need }) (unit_shape x)) x.base
+
+abbrev pub placements : List UnitRow → List Range
+placements units = filter_map placement units
 
 abbrev pub has_dylib : Plain → ℕ → Bool
 has_dylib m d = nat_lt d (length m.dylibs)
@@ -124,6 +138,9 @@ address_at rows i = option_map_or (λ r. phase_address r.phase) (slice_get rows 
 abbrev pub is_owned : ℕ → InstRow → Bool
 is_owned u r = r.present && r.unit.0 == u
 
+abbrev pub is_owned_at : ℕ → List InstRow → ℕ → Bool
+is_owned_at u rows i = row_test (is_owned u) rows i
+
 -- the unit's instances, in order
 abbrev pub own_rows : ℕ → ℕ → List InstRow → List InstId
 own_rows u k [] = []
@@ -132,3 +149,7 @@ own_rows u k (r ∷ rs) = if is_owned u r then record { 0 = k } ∷ own_rows u (
 abbrev pub is_defunct : UnitPhase → Bool
 is_defunct stage.Defunct = true
 is_defunct _ = false
+
+abbrev pub is_waiting : UnitPhase → Bool
+is_waiting stage.Waiting = true
+is_waiting _ = false

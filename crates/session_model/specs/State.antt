@@ -36,7 +36,7 @@ plain_history means h = map (plain_entry means) h
 
 -- the session after one more entry
 abbrev pub after : Plain → Entry Meaning → Plain
-after m e = record (settled (changed (change_of e.seat.0 e.event e.reply) m)) { entries = m.entries + 1 }
+after m e = record (settled (changed (change_of m e.seat.0 e.event e.reply) m)) { entries = m.entries + 1 }
 
 abbrev pub state_from : Plain → List (Entry Meaning) → Plain
 state_from m [] = m

@@ -90,6 +90,8 @@ pub enum Reply {
     InError(InstId),
     /// This required name has no match.
     Missing(NameId),
+    /// The target of the alias matched this instance, which the alias itself stands for.
+    AliasCycle(InstId),
     /// The query is lodged and all of it is at its level.
     Done(QueryId),
     /// The query is lodged and waits.
@@ -154,6 +156,8 @@ pub enum Why {
     Missing(NameId),
     /// This external failed.
     InError(InstId),
+    /// The target of the alias matched this instance, which the alias itself stands for.
+    AliasCycle(InstId),
     /// This dependency failed, is gone or was never searched.
     BadDep(InstId),
     /// No place is left for so many bytes.

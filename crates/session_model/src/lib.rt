@@ -12,11 +12,14 @@
 //! Read `session_laws` next for what follows from the definitions.
 #![tactic(auto)]
 
+mod change;
 mod deps;
 mod entry;
+mod equal;
 mod rows;
 mod traits;
 
+pub use change::{Change, Verdicts};
 pub use deps::DepList;
 pub use entry::{Entry, Event, Finishing, Matches, Order, Reply, WantedList, Why};
 pub use rows::{

@@ -31,6 +31,10 @@ pub trait UnitKind: Drop {
     fn share(&self, alloc: Global) -> Result<Self, AllocError>
         ensures { IfOk result (λ other. meaning other ≡ meaning self.now) };
 
+    /// The dylib in which an alias looks its target up; none of any other unit.
+    fn source(&self) -> Option<DylibId>
+        ensures { result ≡ (meaning self.now).source };
+
     /// What the journal calls the unit.
     fn name(&self) -> UnitName
         ensures { result ≡ (meaning self.now).name };
@@ -68,12 +72,12 @@ pub trait RowSource {
 
     /// The present row of the name in the dylib.
     fn row(&self, d: DylibId, name: NameId) -> Option<Row>
-        ensures { result ≡ row_of (source self.now) d.0 name.0 };
+        ensures { result ≡ row_of (source self.now).rows d.0 name.0 };
 
     /// The first unspent generator of the dylib, in order of attachment, that offers a definition
     /// of the name which the scope sees.
     fn offered(&self, d: DylibId, name: NameId, scope: Scope) -> Option<GenId>
-        ensures { result ≡ offered_by (source self.now) d.0 name.0 scope };
+        ensures { result ≡ offered_by (source self.now).generators d.0 name.0 scope };
 
     /// Whether the instance failed.
     fn failed(&self, i: InstId) -> bool

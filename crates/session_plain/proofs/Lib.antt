@@ -1,10 +1,8 @@
 pub mod ListLemmas
 pub mod MarkLemmas
+pub mod ChainLemmas
 pub mod SettleLemmas
 pub mod DefineLemmas
 pub mod CallLemmas
-pub mod EndLemmas
-pub mod TakeLemmas
 pub mod PlaceLemmas
-pub mod CauseLemmas
-pub mod FitLemmas
+pub mod EmitLemmas

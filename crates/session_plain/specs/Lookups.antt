@@ -1,17 +1,12 @@
 -- The parts of a lookup's answer, by name.
-use Rattle.std.specs.Prelude.{List, length, Option, if◌then◌else◌}
-use Rattle.orc_ids.specs.declared.ids.QueryId.{QueryId}
-use Rattle.orc_ids.specs.declared.lookup.Level.{Level}
+use Rattle.std.specs.Prelude.{List, Option}
 use Rattle.orc_ids.specs.declared.lookup.OrderItem.{OrderItem}
 use Rattle.orc_ids.specs.declared.lookup.Wanted.{Wanted}
 use Rattle.session_model.specs.Lists.{first_some}
 use Rattle.session_model.specs.Plain.{Plain}
 use Rattle.session_model.specs.Match.{match_of}
-use Rattle.session_model.specs.Query.{all_at}
-use Rattle.session_model.specs.Change.{matched}
 use Rattle.session_model.specs.Answer.{offer_of, error_of, missing_of}
 use Rattle.session_model.specs.declared.entry.Reply.{Reply}
-use Rattle.session_model.specs.declared.entry.Reply.TheVariants.{Done, Pending}
 
 abbrev pub first_offer : Plain → List OrderItem → List Wanted → Option Reply
 first_offer m order wanted = first_some (λ (w : Wanted). offer_of (match_of m order w.name.0)) wanted
@@ -21,8 +16,3 @@ first_in_error m order wanted = first_some (λ (w : Wanted). error_of m (match_o
 
 abbrev pub first_missing : Plain → List OrderItem → List Wanted → Option Reply
 first_missing m order wanted = first_some (missing_of m order) wanted
-
-abbrev pub lodged_answer : Plain → List OrderItem → List Wanted → Level → Reply
-lodged_answer m order wanted lev =
-    let q : QueryId = record { 0 = length m.queries } in
-    if all_at m.rows lev (matched m order wanted) then Done q else Pending q

@@ -23,7 +23,6 @@ meant means s = record {
   generators = map (gen_row means) s.generators.items;
   queries = s.queries.items;
   jobs = s.jobs.items;
-  taken = s.taken.items;
 }
 
 -- its things can be numbered

@@ -1,27 +1,14 @@
-ghost use Rattle.std.specs.Prelude.{◌≡◌, ℕ, ◌<◌, length, slice_get, ◌==◌, IfSome};
+ghost use Rattle.std.specs.Prelude.{◌≡◌, ◌↔◌, ℕ, ◌<◌, length, slice_get, ◌==◌, IfSome, IsTrue};
 ghost use Rattle.std.specs.List.{position_from};
 ghost use Rattle.session_model.specs.Plain.{has_dylib, has_tracker, is_tracker_of, tracker_dylib};
-ghost use Rattle.session_model.specs.Answer.{no_dylib, order_dylibs, answer_dylib, answer_set_order, answer_tracker, answer_move, answer_remove, answer_attach};
+ghost use Rattle.session_model.specs.Answer.{no_dylib, order_dylibs, answer_dylib, answer_set_order, answer_tracker, answer_move, answer_remove, answer_attach, HasSource};
 ghost use Rattle.session_plain.specs.Meant.{meant, IsSmall};
 
 use crate::plain::PlainSession;
-use orc_ids::{DylibId, GenId, NameId, OrderItem, TrackId};
+use orc_ids::{
+    DYLIB_LIMIT, DylibId, GENERATOR_LIMIT, GenId, NameId, OrderItem, TRACKER_LIMIT, TrackId,
+};
 use session_model::{Dylib, Reply, Track, UnitKind};
-
-/// How many dylibs a session has at most.
-pub const MAX_DYLIBS: usize = 64;
-
-/// How many trackers a session has at most.
-pub const MAX_TRACKERS: usize = 65_536;
-
-/// How many generators a session has at most.
-pub const MAX_GENERATORS: usize = 65_536;
-
-/// How many units a session has at most.
-pub const MAX_UNITS: usize = 65_536;
-
-/// How many instances a session has at most.
-pub const MAX_INSTANCES: usize = 262_144;
 
 /// The number of the dylib of this name.
 fn dylib_named(dylibs: &[Dylib], name: NameId) -> Option<usize>
@@ -44,7 +31,7 @@ pub fn reply_dylib<U: UnitKind>(s: &PlainSession<U>, name: NameId) -> Reply
     if let Some(d) = dylib_named(&s.dylibs, name) {
         return Reply::NameTaken(DylibId(d as u32));
     }
-    if s.dylibs.len() >= MAX_DYLIBS {
+    if s.dylibs.len() >= DYLIB_LIMIT {
         return Reply::TooMany;
     }
     Reply::Made(DylibId(s.dylibs.len() as u32))
@@ -55,6 +42,16 @@ pub fn dylib_known<U: UnitKind>(s: &PlainSession<U>, d: DylibId) -> bool
     ensures { result ≡ has_dylib (meant U.meaning s.now) d.0 }
 {
     (d.0 as usize) < s.dylibs.len()
+}
+
+/// Whether the dylib exists in which an alias looks its target up.
+pub fn source_known<U: UnitKind>(s: &PlainSession<U>, unit: &U) -> bool
+    ensures { IsTrue result ↔ HasSource (meant U.meaning s.now) (U.meaning unit.now) }
+{
+    match unit.source() {
+        Some(d) => dylib_known(s, d),
+        None => true,
+    }
 }
 
 /// The answer NoDylib for the first dylib of an order that doesn't exist.
@@ -90,7 +87,7 @@ pub fn reply_tracker<U: UnitKind>(s: &PlainSession<U>, d: DylibId) -> Reply
     if !dylib_known(s, d) {
         return Reply::NoDylib(d);
     }
-    if s.trackers.len() >= MAX_TRACKERS {
+    if s.trackers.len() >= TRACKER_LIMIT {
         return Reply::TooMany;
     }
     Reply::Tracker(TrackId(s.trackers.len() as u32))
@@ -168,7 +165,7 @@ pub fn reply_attach<U: UnitKind>(s: &PlainSession<U>, d: DylibId, t: TrackId) ->
     if !tracker_of(s, d, t) {
         return Reply::TrackerGone(t);
     }
-    if s.generators.len() >= MAX_GENERATORS {
+    if s.generators.len() >= GENERATOR_LIMIT {
         return Reply::TooMany;
     }
     Reply::Generator(GenId(s.generators.len() as u32))

@@ -1,16 +1,32 @@
-ghost use Rattle.std.specs.Prelude.{◌≡◌, ◌<◌, ◌&&◌, ◌∷◌, [], ◌||◌, length, slice_get, true, false, nat_eq, Some, None, is_some, is_none, unwrap_or, if◌then◌else◌, IfOk, List};
-ghost use Rattle.session_model.specs.Plain.{UnitRow, is_defunct};
-ghost use Rattle.session_model.specs.Answer.{AnswersCall, called, is_held, is_stage, unit_shape, bad_dep, first_reply};
+ghost use Rattle.std.specs.Prelude.{◌≡◌, ◌<◌, ◌∷◌, [], length, map, slice_get, option_map, IfSome};
+ghost use Rattle.session_model.specs.Plain.{unit_shape};
+ghost use Rattle.session_model.specs.Answer.{AnswersCall, called, is_held, is_stage, can_place, can_resolve, can_link, can_emit, bad_dep, first_reply};
 ghost use Rattle.session_model.specs.Lists.{first_some};
 ghost use Rattle.session_model.specs.declared.rows.UnitPhase.TheVariants as stage;
-ghost use Rattle.session_plain.specs.Causes.{may_emit};
-ghost use Rattle.session_plain.specs.Calls.{turned_away, is_bad_dep, bad_dep_of, bad_in_group, call_reply, may_resolve};
+ghost use Rattle.session_plain.specs.Calls.{turned_away, is_bad_dep, bad_dep_of, bad_in_group, call_reply};
 ghost use Rattle.session_plain.specs.Meant.{meant, unit_row, LiveFit};
 
 use crate::plain::{PlainSession, PlainUnit};
 use crate::query::{row_failed, row_present, row_unsearched};
-use orc_ids::{Group, InstId, SeatNo, UnitId};
+use crate::units::alias;
+use orc_ids::{Group, InstId, SeatNo, Shape, UnitId};
 use session_model::{InstRow, Reply, UnitKind, UnitPhase};
+
+/// The unit of this number, in a list of units.
+pub fn unit_at<U: UnitKind>(units: &[PlainUnit<U>], u: UnitId) -> Option<&PlainUnit<U>>
+    ensures row { option_map (λ x. unit_row U.meaning x.now) result ≡ slice_get (map (unit_row U.meaning) units.now) u.0 }
+    ensures there { IfSome result (λ x. slice_get units.now u.0 ≡ Some x.now) }
+{
+    units.get(u.0 as usize)
+}
+
+/// The unit of this number.
+pub fn unit_there<U: UnitKind>(s: &PlainSession<U>, u: UnitId) -> Option<&PlainUnit<U>>
+    ensures row { option_map (λ x. unit_row U.meaning x.now) result ≡ slice_get (meant U.meaning s.now).units u.0 }
+    ensures there { IfSome result (λ x. slice_get s.now.units.items u.0 ≡ Some x.now) }
+{
+    unit_at(&s.units, u)
+}
 
 fn holds<U: UnitKind>(x: &PlainUnit<U>, seat: SeatNo) -> bool
     ensures { result ≡ is_held seat.0 (unit_row U.meaning x.now) }
@@ -39,58 +55,97 @@ pub fn turn_away<U: UnitKind>(
     }
 }
 
-fn at_placed_or_started(phase: UnitPhase, shapeless: bool) -> bool
-    ensures { result ≡ (is_stage stage.Placed phase || is_stage stage.Started phase && shapeless) }
+fn is_started(phase: UnitPhase) -> bool
+    ensures { result ≡ is_stage stage.Started phase }
 {
-    match phase {
-        UnitPhase::Placed => true,
-        UnitPhase::Started => shapeless,
-        _ => false,
+    matches!(phase, UnitPhase::Started)
+}
+
+fn is_placed(phase: UnitPhase) -> bool
+    ensures { result ≡ is_stage stage.Placed phase }
+{
+    matches!(phase, UnitPhase::Placed)
+}
+
+fn is_linking(phase: UnitPhase) -> bool
+    ensures { result ≡ is_stage stage.Linking phase }
+{
+    matches!(phase, UnitPhase::Linking)
+}
+
+/// Whether the unit's job Finish was handed out.
+pub fn is_finishing(phase: UnitPhase) -> bool
+    ensures { result ≡ is_stage stage.Finishing phase }
+{
+    matches!(phase, UnitPhase::Finishing)
+}
+
+/// The memory that the unit needs.
+pub fn shape_of<U: UnitKind>(x: &PlainUnit<U>) -> Option<Shape>
+    requires { length x.now.live ≡ length (U.meaning x.now.unit).offers }
+    ensures { result ≡ unit_shape (unit_row U.meaning x.now) }
+{
+    if alias(x) {
+        None
+    } else {
+        x.unit.shape(x.live.as_slice())
     }
 }
 
-fn needs_no_memory<U: UnitKind>(x: &PlainUnit<U>) -> bool
+/// Whether the unit may be placed now.
+pub fn place_is_next<U: UnitKind>(x: &PlainUnit<U>) -> bool
     requires { length x.now.live ≡ length (U.meaning x.now.unit).offers }
-    ensures { result ≡ is_none (unit_shape (unit_row U.meaning x.now)) }
+    ensures { result ≡ can_place (unit_row U.meaning x.now) }
 {
-    x.unit.shape(x.live.as_slice()).is_none()
+    is_started(x.phase) && shape_of(x).is_some()
+}
+
+/// Whether the unit may be resolved now.
+fn resolve_is_next<U: UnitKind>(x: &PlainUnit<U>) -> bool
+    requires { length x.now.live ≡ length (U.meaning x.now.unit).offers }
+    ensures { result ≡ can_resolve (unit_row U.meaning x.now) }
+{
+    if alias(x) {
+        is_finishing(x.phase) && x.bound.is_some() && x.base.is_none()
+    } else {
+        is_placed(x.phase) || is_started(x.phase) && shape_of(x).is_none()
+    }
+}
+
+/// Whether the unit's externals may be looked up now.
+pub fn link_is_next<U: UnitKind>(x: &PlainUnit<U>) -> bool
+    ensures { result ≡ can_link (unit_row U.meaning x.now) }
+{
+    if alias(x) {
+        is_started(x.phase)
+    } else {
+        is_linking(x.phase)
+    }
+}
+
+/// Whether the unit may be emitted now.
+pub fn emit_is_next<U: UnitKind>(x: &PlainUnit<U>) -> bool
+    ensures { result ≡ can_emit (unit_row U.meaning x.now) }
+{
+    is_finishing(x.phase) && x.bound.is_some() && (!alias(x) || x.base.is_some())
 }
 
 fn answer_resolve<U: UnitKind>(s: &PlainSession<U>, seat: SeatNo, u: UnitId) -> Reply
     requires { LiveFit U.meaning s.now.units.items }
-    ensures { result ≡ call_reply seat.0 u may_resolve Reply.Resolved (slice_get (meant U.meaning s.now).units u.0) }
+    ensures { result ≡ call_reply seat.0 u can_resolve Reply.Resolved (slice_get (meant U.meaning s.now).units u.0) }
 {
     match s.units.get(u.0 as usize) {
         None => Reply::WrongPhase(u),
-        Some(x) => {
-            let fits = at_placed_or_started(x.phase, needs_no_memory(x));
-            turn_away(x, seat, u, fits).unwrap_or(Reply::Resolved)
-        }
+        Some(x) => turn_away(x, seat, u, resolve_is_next(x)).unwrap_or(Reply::Resolved),
     }
 }
 
 /// What resolving a unit is answered.
 pub fn reply_resolve<U: UnitKind>(s: &PlainSession<U>, seat: SeatNo, u: UnitId) -> Reply
     requires { LiveFit U.meaning s.now.units.items }
-    ensures { AnswersCall (called (meant U.meaning s.now) seat.0 u may_resolve) u (λ x. result ≡ Reply.Resolved) result }
+    ensures { AnswersCall (called (meant U.meaning s.now) seat.0 u can_resolve) u (λ x. result ≡ Reply.Resolved) result }
 {
     answer_resolve(s, seat, u)
-}
-
-fn answer_fail<U: UnitKind>(s: &PlainSession<U>, seat: SeatNo, u: UnitId) -> Reply
-    ensures { result ≡ call_reply seat.0 u (λ x. true) Reply.Failed (slice_get (meant U.meaning s.now).units u.0) }
-{
-    match s.units.get(u.0 as usize) {
-        None => Reply::WrongPhase(u),
-        Some(x) => turn_away(x, seat, u, true).unwrap_or(Reply::Failed),
-    }
-}
-
-/// What giving a unit up is answered, where the cause is right.
-pub fn reply_fail<U: UnitKind>(s: &PlainSession<U>, seat: SeatNo, u: UnitId) -> Reply
-    ensures { AnswersCall (called (meant U.meaning s.now) seat.0 u (λ x. true)) u (λ x. result ≡ Reply.Failed) result }
-{
-    answer_fail(s, seat, u)
 }
 
 /// Whether an instance can't be depended on.
@@ -124,58 +179,15 @@ fn first_bad(rows: &[InstRow], groups: &[Group]) -> Option<Reply>
 }
 
 /// The answer BadDep for the first dependency, in group order, that can't be depended on.
-pub fn bad_dependency(rows: &[InstRow], groups: &[Group]) -> Option<Reply>
+fn bad_dependency(rows: &[InstRow], groups: &[Group]) -> Option<Reply>
     ensures { result ≡ bad_dep rows.now groups.now }
 {
     first_bad(rows, groups)
 }
 
 /// What emitting is answered once the call is right: by the dependencies of the groups.
-pub fn answer_deps(rows: &[InstRow], groups: &[Group]) -> Reply
+pub fn reply_by_deps(rows: &[InstRow], groups: &[Group]) -> Reply
     ensures { result ≡ first_reply (bad_dep rows.now groups.now ∷ []) Reply.Emitted }
 {
     bad_dependency(rows, groups).unwrap_or(Reply::Emitted)
-}
-
-/// Whether the unit's job Finish was handed out with bindings.
-pub fn may_emit_now<U: UnitKind>(x: &PlainUnit<U>) -> bool
-    ensures { result ≡ may_emit (unit_row U.meaning x.now) }
-{
-    matches!(x.phase, UnitPhase::Finishing) && x.bound.is_some()
-}
-
-fn unit_emit<U: UnitKind>(
-    s: &PlainSession<U>,
-    x: &PlainUnit<U>,
-    seat: SeatNo,
-    u: UnitId,
-    groups: &[Group],
-) -> Reply
-    ensures { result ≡ unwrap_or (turned_away seat.0 u (may_emit (unit_row U.meaning x.now)) (unit_row U.meaning x.now)) (first_reply (bad_dep s.now.rows.items groups.now ∷ []) Reply.Emitted) }
-{
-    match turn_away(x, seat, u, may_emit_now(x)) {
-        Some(reply) => reply,
-        None => answer_deps(&s.rows, groups),
-    }
-}
-
-fn answer_emit<U: UnitKind>(s: &PlainSession<U>, seat: SeatNo, u: UnitId, groups: &[Group]) -> Reply
-    ensures { result ≡ call_reply seat.0 u may_emit (first_reply (bad_dep s.now.rows.items groups.now ∷ []) Reply.Emitted) (slice_get (meant U.meaning s.now).units u.0) }
-{
-    match s.units.get(u.0 as usize) {
-        None => Reply::WrongPhase(u),
-        Some(x) => unit_emit(s, x, seat, u, groups),
-    }
-}
-
-/// What emitting a unit is answered, where the groups are its own and no edge of it is out of range.
-pub fn reply_emit<U: UnitKind>(
-    s: &PlainSession<U>,
-    seat: SeatNo,
-    u: UnitId,
-    groups: &[Group],
-) -> Reply
-    ensures { AnswersCall (called (meant U.meaning s.now) seat.0 u may_emit) u (λ x. result ≡ first_reply (bad_dep (meant U.meaning s.now).rows groups.now ∷ []) Reply.Emitted) result }
-{
-    answer_emit(s, seat, u, groups)
 }

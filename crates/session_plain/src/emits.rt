@@ -1,58 +1,20 @@
-ghost use Rattle.std.specs.Prelude.{◌≡◌, ◌<◌, ℕ, ◌==◌, true, length, map, slice_get, Some, OnOk, OnErr, IfOk};
+ghost use Rattle.std.specs.Prelude.{◌≡◌, ◌<◌, ℕ, ◌==◌, true, length, map, slice_get, Some, OnOk, IfOk, unwrap_or};
 ghost use Rattle.std.specs.List.{list_any};
 ghost use Rattle.orc_ids.specs.declared.ids.InstId.{InstId};
-ghost use Rattle.session_model.specs.Lists.{numbered, changed_at, first_some};
-ghost use Rattle.session_model.specs.Plain.{is_owned};
-ghost use Rattle.session_model.specs.Change.{changed, deps_in, Emit, Resolve};
+ghost use Rattle.session_model.specs.Lists.{numbered, first_some};
+ghost use Rattle.session_model.specs.Plain.{is_owned, UnitRow};
+ghost use Rattle.session_model.specs.Change.{deps_in, emitted, emitted_row, resolved, resolved_row, resolved_unit};
 ghost use Rattle.session_model.specs.declared.rows.InstRow.{InstRow};
 ghost use Rattle.session_plain.specs.Meant.{meant, unit_row, OffersFit};
-ghost use Rattle.session_plain.specs.Rows.{emitted_row, resolved_row, resolved_rows, group_deps};
-ghost use Rattle.session_plain.specs.Work.{done_unit, linking_unit};
+ghost use Rattle.session_plain.specs.Rows.{group_deps};
 
+use crate::calls::unit_at;
 use crate::phases::{address_of, owned};
 use crate::plain::{PlainSession, PlainUnit};
+use crate::units::{Step, alias, bound_to, step_in};
 use orc_ids::{Group, InstId, InstList, Items, UnitId};
-use session_model::{DepList, InstRow, Phase, UnitKind, UnitPhase};
+use session_model::{DepList, InstRow, Phase, UnitKind};
 use std::alloc::{AllocError, Global};
-
-fn copy_deps(alloc: Global, deps: &[InstId]) -> Result<InstList, AllocError>
-    ensures { IfOk result (λ copy. copy ≡ deps.now) }
-{
-    Ok(Items::from_vec(deps.to_vec(alloc)?))
-}
-
-fn copy_phase(phase: &Phase) -> Result<Phase, AllocError>
-    ensures { IfOk result (λ copy. copy ≡ phase.now) }
-{
-    match phase {
-        Phase::Unsearched => Ok(Phase::Unsearched),
-        Phase::Claimed => Ok(Phase::Claimed),
-        Phase::Resolved(address) => Ok(Phase::Resolved(*address)),
-        Phase::Emitted(address, deps) => { Ok(Phase::Emitted(*address, deps.share()?)) }
-        Phase::Failed => Ok(Phase::Failed),
-    }
-}
-
-fn with_phase(row: &InstRow, phase: Phase) -> InstRow
-    ensures { result ≡ record row.now { phase = phase } }
-{
-    InstRow {
-        dylib: row.dylib,
-        name: row.name,
-        flags: row.flags,
-        unit: row.unit,
-        offer: row.offer,
-        present: row.present,
-        phase,
-    }
-}
-
-/// Another row like this one.
-pub fn copy_row(row: &InstRow) -> Result<InstRow, AllocError>
-    ensures { IfOk result (λ copy. copy ≡ row.now) }
-{
-    Ok(with_phase(row, copy_phase(&row.phase)?))
-}
 
 fn is_member(members: &[InstId], i: usize) -> bool
     ensures { result ≡ list_any (λ (j : InstId). j.0 == i) members.now }
@@ -70,7 +32,7 @@ fn deps_in_group(alloc: Global, group: &Group, i: usize) -> Result<Option<InstLi
     ensures { IfOk result (λ found. found ≡ group_deps i group.now) }
 {
     if is_member(group.members.as_slice(), i) {
-        Ok(Some(copy_deps(alloc, group.deps.as_slice())?))
+        Ok(Some(Items::from_vec(group.deps.as_slice().to_vec(alloc)?)))
     } else {
         Ok(None)
     }
@@ -98,55 +60,36 @@ fn deps_of(alloc: Global, groups: &[Group], i: usize) -> Result<InstList, AllocE
     }
 }
 
-/// The row as it is once its unit is emitted with these groups.
-fn row_emitted(
+/// The row's instance is Emitted, if it is the unit's.
+fn emit_row(
     alloc: Global,
-    row: &InstRow,
+    row: &mut InstRow,
     u: UnitId,
     groups: &[Group],
     i: usize,
-) -> Result<InstRow, AllocError>
-    ensures { IfOk result (λ new. new ≡ emitted_row u.0 groups.now i row.now) }
+) -> Result<(), AllocError>
+    ensures { OnOk result (row.new ≡ emitted_row u.0 groups.now i row.old) }
 {
     if owned(u.0, row) {
-        let deps = deps_of(alloc, groups, i)?;
+        let deps = DepList::from_items(alloc, deps_of(alloc, groups, i)?)?;
         let address = address_of(&row.phase).unwrap_or(0);
-        let deps = DepList::from_items(alloc, deps)?;
-        Ok(with_phase(row, Phase::Emitted(address, deps)))
-    } else {
-        copy_row(row)
+        row.phase = Phase::Emitted(address, deps);
     }
+    Ok(())
 }
 
-fn rows_emitted(
+fn emit_rows(
     alloc: Global,
-    rows: &[InstRow],
+    rows: &mut [InstRow],
     u: UnitId,
     groups: &[Group],
-) -> Result<Vec<InstRow>, AllocError>
-    ensures { IfOk result (λ new. new.items ≡ numbered (emitted_row u.0 groups.now) 0 rows.now) }
+) -> Result<(), AllocError>
+    ensures { OnOk result (rows.new ≡ numbered (emitted_row u.0 groups.now) 0 rows.old) }
 {
-    let mut new = Vec::new(alloc);
-    for (k, row) in rows.iter().enumerate() {
-        new.push(row_emitted(alloc, row, u, groups, k)?)?;
+    for (k, row) in rows.iter_mut().enumerate() {
+        emit_row(alloc, row, u, groups, k)?;
     }
-    Ok(new)
-}
-
-fn end_unit<U: UnitKind>(x: &mut PlainUnit<U>)
-    ensures { unit_row U.meaning x.new ≡ done_unit (unit_row U.meaning x.old) }
-{
-    x.phase = UnitPhase::Done;
-    x.seat = None;
-}
-
-#[tactic(auto, using(crate::proofs::ListLemmas::map_set, crate::proofs::ListLemmas::map_past))]
-fn end_in<U: UnitKind>(units: &mut Vec<PlainUnit<U>>, u: UnitId)
-    ensures { map (unit_row U.meaning) units.new.items ≡ changed_at u.0 done_unit (map (unit_row U.meaning) units.old.items) }
-{
-    if (u.0 as usize) < units.as_slice().len() {
-        end_unit(&mut units[u.0 as usize]);
-    }
+    Ok(())
 }
 
 /// Each of the unit's instances is Emitted, with its group's dependencies.
@@ -156,93 +99,59 @@ pub fn emit<U: UnitKind>(
     u: UnitId,
     groups: &[Group],
 ) -> Result<(), AllocError>
-    ensures emitted { OnOk result (meant U.meaning s.new ≡ changed (Emit u.0 groups.now) (meant U.meaning s.old)) }
-    ensures err { OnErr result (meant U.meaning s.new ≡ meant U.meaning s.old) }
+    ensures { OnOk result (meant U.meaning s.new ≡ emitted u.0 groups.now (meant U.meaning s.old)) }
 {
-    let rows = rows_emitted(alloc, &s.rows, u, groups)?;
-    s.rows = rows;
-    end_in(&mut s.units, u);
+    emit_rows(alloc, &mut s.rows, u, groups)?;
+    step_in(&mut s.units, u, Step::End);
     Ok(())
 }
 
-/// The row as it is once its unit is resolved at this base.
-fn row_resolved<U: UnitKind>(
-    alloc: Global,
-    row: &InstRow,
-    u: UnitId,
-    unit: &U,
-    base: u64,
-) -> Result<InstRow, AllocError>
-    requires { is_owned u.0 row.now ≡ true → row.now.offer < length (U.meaning unit.now).offers }
-    ensures { IfOk result (λ new. new ≡ resolved_row u.0 (λ k. (U.meaning unit.now).address k base) row.now) }
+/// The unit's base once it is resolved.
+fn resolved_base<U: UnitKind>(x: &PlainUnit<U>) -> u64
+    ensures { result ≡ unwrap_or (resolved_unit (unit_row U.meaning x.now)).base 0 }
+{
+    if alias(x) {
+        bound_to(x)
+    } else {
+        x.base.unwrap_or(0)
+    }
+}
+
+/// The row's instance gets its address, if it is the unit's.
+fn resolve_row<U: UnitKind>(row: &mut InstRow, u: UnitId, x: &PlainUnit<U>, base: u64)
+    requires offered { is_owned u.0 row.old ≡ true → row.old.offer < length (U.meaning x.now.unit).offers }
+    requires base { base ≡ unwrap_or (resolved_unit (unit_row U.meaning x.now)).base 0 }
+    ensures { row.new ≡ resolved_row u.0 (resolved_unit (unit_row U.meaning x.now)) row.old }
 {
     if owned(u.0, row) {
-        Ok(with_phase(row, Phase::Resolved(unit.address(row.offer, base))))
-    } else {
-        copy_row(row)
+        row.phase = Phase::Resolved(x.unit.address(row.offer, base));
     }
 }
 
-/// The rows as they are once the unit is resolved at this base.
-pub fn rows_resolved<U: UnitKind>(
-    alloc: Global,
-    rows: &[InstRow],
-    u: UnitId,
-    unit: &U,
-    base: u64,
-) -> Result<Vec<InstRow>, AllocError>
-    requires { (i : ℕ) (r : InstRow) → slice_get rows.now i ≡ Some r → is_owned u.0 r ≡ true → r.offer < length (U.meaning unit.now).offers }
-    ensures { IfOk result (λ new. new.items ≡ map (resolved_row u.0 (λ k. (U.meaning unit.now).address k base)) rows.now) }
+fn resolve_rows<U: UnitKind>(rows: &mut [InstRow], u: UnitId, x: &PlainUnit<U>)
+    requires { (i : ℕ) (r : InstRow) → slice_get rows.old i ≡ Some r → is_owned u.0 r ≡ true → r.offer < length (U.meaning x.now.unit).offers }
+    ensures { rows.new ≡ map (resolved_row u.0 (resolved_unit (unit_row U.meaning x.now))) rows.old }
 {
-    let mut new = Vec::new(alloc);
-    for row in rows {
-        new.push(row_resolved(alloc, row, u, unit, base)?)?;
+    let base = resolved_base(x);
+    for row in rows.iter_mut() {
+        resolve_row(row, u, x, base);
     }
-    Ok(new)
 }
 
-fn rows_at<U: UnitKind>(
-    alloc: Global,
-    rows: &[InstRow],
-    u: UnitId,
-    x: &PlainUnit<U>,
-) -> Result<Vec<InstRow>, AllocError>
-    requires { (i : ℕ) (r : InstRow) → slice_get rows.now i ≡ Some r → is_owned u.0 r ≡ true → r.offer < length (U.meaning x.now.unit).offers }
-    ensures { IfOk result (λ new. new.items ≡ resolved_rows u.0 (unit_row U.meaning x.now) rows.now) }
+fn resolve_all<U: UnitKind>(rows: &mut Vec<InstRow>, u: UnitId, x: &PlainUnit<U>)
+    requires { (i : ℕ) (r : InstRow) → slice_get rows.old.items i ≡ Some r → is_owned u.0 r ≡ true → r.offer < length (U.meaning x.now.unit).offers }
+    ensures { rows.new.items ≡ map (resolved_row u.0 (resolved_unit (unit_row U.meaning x.now))) rows.old.items }
 {
-    rows_resolved(alloc, rows, u, &x.unit, x.base.unwrap_or(0))
-}
-
-fn resolve_unit<U: UnitKind>(x: &mut PlainUnit<U>)
-    ensures { unit_row U.meaning x.new ≡ linking_unit (unit_row U.meaning x.old) }
-{
-    x.phase = UnitPhase::Linking;
-}
-
-#[tactic(auto, using(crate::proofs::ListLemmas::map_set, crate::proofs::ListLemmas::map_past))]
-fn resolve_in<U: UnitKind>(units: &mut Vec<PlainUnit<U>>, u: UnitId)
-    ensures { map (unit_row U.meaning) units.new.items ≡ changed_at u.0 linking_unit (map (unit_row U.meaning) units.old.items) }
-{
-    if (u.0 as usize) < units.as_slice().len() {
-        resolve_unit(&mut units[u.0 as usize]);
-    }
+    resolve_rows(rows, u, x);
 }
 
 /// Each of the unit's instances gets its address.
-pub fn resolve<U: UnitKind>(
-    alloc: Global,
-    s: &mut PlainSession<U>,
-    u: UnitId,
-) -> Result<(), AllocError>
+pub fn resolve<U: UnitKind>(s: &mut PlainSession<U>, u: UnitId)
     requires { OffersFit U.meaning s.old.units.items s.old.rows.items }
-    ensures resolved { OnOk result (meant U.meaning s.new ≡ changed (Resolve u.0) (meant U.meaning s.old)) }
-    ensures err { OnErr result (meant U.meaning s.new ≡ meant U.meaning s.old) }
+    ensures { meant U.meaning s.new ≡ resolved u.0 (meant U.meaning s.old) }
 {
-    let rows = match s.units.get(u.0 as usize) {
-        None => return Ok(()),
-        Some(x) => rows_at(alloc, &s.rows, u, x)?,
-    };
-    s.rows = rows;
-    resolve_in(&mut s.units, u);
-    Ok(())
+    if let Some(x) = unit_at(&s.units, u) {
+        resolve_all(&mut s.rows, u, x);
+        step_in(&mut s.units, u, Step::Resolve);
+    }
 }

@@ -1,17 +1,16 @@
-ghost use Rattle.std.specs.Prelude.{◌≡◌, ◌<◌, ◌&&◌, Bool, ℕ, true, false, length, map, not, filter, OnOk, OnErr, IfOk, if◌then◌else◌, ◌++◌, ◌∷◌, [], ◌==◌, ◌||◌, slice_get};
-ghost use Rattle.std.specs.Option.{option_map_or};
+ghost use Rattle.std.specs.Prelude.{◌≡◌, ◌&&◌, Bool, ℕ, true, false, map, not, filter, OnOk, IfOk, if◌then◌else◌, ◌++◌, ◌∷◌, []};
 ghost use Rattle.session_model.specs.Lists.{numbered, changed_at};
-ghost use Rattle.session_model.specs.Plain.{is_owned};
-ghost use Rattle.session_model.specs.Change.{changed, Fail, Move, Remove, unit_roots, hits_failed, job_unit};
+ghost use Rattle.session_model.specs.Plain.{is_owned_at};
+ghost use Rattle.session_model.specs.Change.{failed, moved, removed, hits_failed, job_unit, removed_unit, removed_generator, moved_unit, moved_generator, gone_tracker};
 ghost use Rattle.session_model.specs.declared.rows.Phase.TheVariants as phase;
-ghost use Rattle.session_plain.specs.Marks.{mark_at, AreTests, AreWithin, MarksUnready};
+ghost use Rattle.session_plain.specs.Marks.{mark_at};
 ghost use Rattle.session_plain.specs.Meant.{meant, unit_row, gen_row};
-ghost use Rattle.session_plain.specs.Rows.{hit_row, is_tracked_row, is_tracked, hidden_row, tracked_roots, removed_rows};
-ghost use Rattle.session_plain.specs.Work.{failed_unit, removed_unit, spent_by, moved_unit, moved_gen, gone_track, stays_listed};
+ghost use Rattle.session_plain.specs.Rows.{marked_row, is_tracked_row, is_tracked, hidden_row, tracked_roots, removed_rows, stays_listed};
 
-use crate::phases::owned;
 use crate::plain::{PlainGenerator, PlainSession, PlainUnit};
-use crate::reach::{reaching, unready};
+use crate::reach::{reaching_by_deps, unready};
+use crate::rows::unit_rows;
+use crate::units::{Step, step_in};
 use orc_ids::{TrackId, UnitId};
 use session_model::{InstRow, Job, Phase, Track, UnitKind, UnitPhase};
 use std::alloc::{AllocError, Global};
@@ -38,7 +37,7 @@ fn both_marked(unready: &[bool], reaching: &[bool], k: usize) -> bool
 
 /// The rows that both have marked fail.
 fn fail_rows(rows: &mut [InstRow], unready: &[bool], reaching: &[bool])
-    ensures { rows.new ≡ numbered (hit_row unready.now reaching.now) 0 rows.old }
+    ensures { rows.new ≡ numbered (marked_row unready.now reaching.now) 0 rows.old }
 {
     for (k, row) in rows.iter_mut().enumerate() {
         fail_row(row, both_marked(unready, reaching, k));
@@ -54,11 +53,11 @@ struct Hits {
 
 /// What a failure of the unit takes along.
 fn unit_hits(alloc: Global, rows: &[InstRow], u: UnitId) -> Result<Hits, AllocError>
-    ensures { IfOk result (λ hits. numbered (hit_row hits.unready.items hits.reaching.items) 0 rows.now ≡ hits_failed (unit_roots u.0 rows.now) rows.now) }
+    ensures { IfOk result (λ hits. numbered (marked_row hits.unready.items hits.reaching.items) 0 rows.now ≡ hits_failed (is_owned_at u.0 rows.now) rows.now) }
 {
     let waiting = unready(alloc, rows)?;
     let roots = unit_rows(alloc, rows, u)?;
-    let hit = reaching(alloc, rows, &roots, false)?;
+    let hit = reaching_by_deps(alloc, rows, &roots, false)?;
     Ok(Hits {
         unready: waiting,
         reaching: hit,
@@ -105,44 +104,15 @@ fn tracker_hits<U: UnitKind>(
     units: &[PlainUnit<U>],
     t: TrackId,
 ) -> Result<Hits, AllocError>
-    ensures { IfOk result (λ hits. numbered (hit_row hits.unready.items hits.reaching.items) 0 rows.now ≡ hits_failed (tracked_roots (map (unit_row U.meaning) units.now) t.0 rows.now) rows.now) }
+    ensures { IfOk result (λ hits. numbered (marked_row hits.unready.items hits.reaching.items) 0 rows.now ≡ hits_failed (tracked_roots (map (unit_row U.meaning) units.now) t.0 rows.now) rows.now) }
 {
     let waiting = unready(alloc, rows)?;
     let roots = tracker_rows(alloc, rows, units, t, &waiting)?;
-    let hit = reaching(alloc, rows, &roots, false)?;
+    let hit = reaching_by_deps(alloc, rows, &roots, false)?;
     Ok(Hits {
         unready: waiting,
         reaching: hit,
     })
-}
-
-/// For each row whether it is one of the unit's.
-fn unit_rows(alloc: Global, rows: &[InstRow], u: UnitId) -> Result<Vec<bool>, AllocError>
-    ensures { IfOk result (λ marks. marks.items ≡ map (is_owned u.0) rows.now) }
-{
-    let mut marks = Vec::new(alloc);
-    for row in rows {
-        marks.push(owned(u.0, row))?;
-    }
-    Ok(marks)
-}
-
-fn fail_unit<U: UnitKind>(x: &mut PlainUnit<U>)
-    ensures { unit_row U.meaning x.new ≡ failed_unit (unit_row U.meaning x.old) }
-{
-    x.phase = UnitPhase::Failed;
-    x.seat = None;
-    x.base = None;
-}
-
-/// The unit is given up, if there is one of this number.
-#[tactic(auto, using(crate::proofs::ListLemmas::map_set, crate::proofs::ListLemmas::map_past))]
-fn fail_in<U: UnitKind>(units: &mut Vec<PlainUnit<U>>, u: UnitId)
-    ensures { map (unit_row U.meaning) units.new.items ≡ changed_at u.0 failed_unit (map (unit_row U.meaning) units.old.items) }
-{
-    if (u.0 as usize) < units.as_slice().len() {
-        fail_unit(&mut units[u.0 as usize]);
-    }
 }
 
 /// The unit is given up, and with it go the unready instances that reach one of its own.
@@ -151,12 +121,11 @@ pub fn fail<U: UnitKind>(
     s: &mut PlainSession<U>,
     u: UnitId,
 ) -> Result<(), AllocError>
-    ensures failed { OnOk result (meant U.meaning s.new ≡ changed (Fail u.0) (meant U.meaning s.old)) }
-    ensures err { OnErr result (meant U.meaning s.new ≡ meant U.meaning s.old) }
+    ensures { OnOk result (meant U.meaning s.new ≡ failed u.0 (meant U.meaning s.old)) }
 {
     let hits = unit_hits(alloc, &s.rows, u)?;
     fail_rows(&mut s.rows, &hits.unready, &hits.reaching);
-    fail_in(&mut s.units, u);
+    step_in(&mut s.units, u, Step::Fail);
     Ok(())
 }
 
@@ -236,7 +205,7 @@ fn remove_units<U: UnitKind>(units: &mut [PlainUnit<U>], t: TrackId)
 }
 
 fn spend_one<U: UnitKind>(g: &mut PlainGenerator<U>, t: TrackId)
-    ensures { gen_row U.meaning g.new ≡ spent_by t.0 (gen_row U.meaning g.old) }
+    ensures { gen_row U.meaning g.new ≡ removed_generator t.0 (gen_row U.meaning g.old) }
 {
     if g.tracker == t.0 {
         g.spent = true;
@@ -245,7 +214,7 @@ fn spend_one<U: UnitKind>(g: &mut PlainGenerator<U>, t: TrackId)
 
 /// The tracker's generators are spent.
 fn spend_all<U: UnitKind>(generators: &mut [PlainGenerator<U>], t: TrackId)
-    ensures { map (gen_row U.meaning) generators.new ≡ map (spent_by t.0) (map (gen_row U.meaning) generators.old) }
+    ensures { map (gen_row U.meaning) generators.new ≡ map (removed_generator t.0) (map (gen_row U.meaning) generators.old) }
 {
     for g in generators.iter_mut() {
         spend_one(g, t);
@@ -253,7 +222,7 @@ fn spend_all<U: UnitKind>(generators: &mut [PlainGenerator<U>], t: TrackId)
 }
 
 fn end_track(x: &mut Track)
-    ensures { x.new ≡ gone_track x.old }
+    ensures { x.new ≡ gone_tracker x.old }
 {
     x.gone = true;
 }
@@ -261,7 +230,7 @@ fn end_track(x: &mut Track)
 /// The tracker is gone.
 #[tactic(auto, using(crate::proofs::ListLemmas::set_changed, crate::proofs::ListLemmas::changed_past))]
 fn end_tracker(trackers: &mut Vec<Track>, t: TrackId)
-    ensures { trackers.new.items ≡ changed_at t.0 gone_track trackers.old.items }
+    ensures { trackers.new.items ≡ changed_at t.0 gone_tracker trackers.old.items }
 {
     if (t.0 as usize) < trackers.len() {
         end_track(&mut trackers[t.0 as usize]);
@@ -275,8 +244,7 @@ fn remove_rows<U: UnitKind>(
     units: &[PlainUnit<U>],
     t: TrackId,
 ) -> Result<(), AllocError>
-    ensures removed { OnOk result (rows.new.items ≡ removed_rows (map (unit_row U.meaning) units.now) t.0 rows.old.items) }
-    ensures err { OnErr result (rows.new.items ≡ rows.old.items) }
+    ensures { OnOk result (rows.new.items ≡ removed_rows (map (unit_row U.meaning) units.now) t.0 rows.old.items) }
 {
     let hits = tracker_hits(alloc, rows, units, t)?;
     fail_rows(rows, &hits.unready, &hits.reaching);
@@ -291,8 +259,7 @@ fn remove_jobs<U: UnitKind>(
     units: &[PlainUnit<U>],
     t: TrackId,
 ) -> Result<(), AllocError>
-    ensures removed { OnOk result (jobs.new.items ≡ filter (stays_listed (map (unit_row U.meaning) units.now) t.0) jobs.old.items) }
-    ensures err { OnErr result (jobs.new.items ≡ jobs.old.items) }
+    ensures { OnOk result (jobs.new.items ≡ filter (stays_listed (map (unit_row U.meaning) units.now) t.0) jobs.old.items) }
 {
     let left = jobs_left(alloc, jobs, units, t)?;
     *jobs = left;
@@ -305,7 +272,7 @@ fn remove_from_lists<U: UnitKind>(
     s: &mut PlainSession<U>,
     t: TrackId,
 ) -> Result<(), AllocError>
-    ensures removed { OnOk result (meant U.meaning s.new ≡ record (meant U.meaning s.old) { rows = removed_rows (map (unit_row U.meaning) s.old.units.items) t.0 s.old.rows.items; jobs = filter (stays_listed (map (unit_row U.meaning) s.old.units.items) t.0) s.old.jobs.items }) }
+    ensures { OnOk result (meant U.meaning s.new ≡ record (meant U.meaning s.old) { rows = removed_rows (map (unit_row U.meaning) s.old.units.items) t.0 s.old.rows.items; jobs = filter (stays_listed (map (unit_row U.meaning) s.old.units.items) t.0) s.old.jobs.items }) }
 {
     remove_rows(alloc, &mut s.rows, &s.units, t)?;
     remove_jobs(alloc, &mut s.jobs, &s.units, t)
@@ -313,20 +280,20 @@ fn remove_from_lists<U: UnitKind>(
 
 /// The tracker, its units and its generators are gone.
 fn remove_owners<U: UnitKind>(s: &mut PlainSession<U>, t: TrackId)
-    ensures { meant U.meaning s.new ≡ record (meant U.meaning s.old) { units = map (removed_unit t.0) (map (unit_row U.meaning) s.old.units.items); generators = map (spent_by t.0) (map (gen_row U.meaning) s.old.generators.items); trackers = changed_at t.0 gone_track s.old.trackers.items } }
+    ensures { meant U.meaning s.new ≡ record (meant U.meaning s.old) { units = map (removed_unit t.0) (map (unit_row U.meaning) s.old.units.items); generators = map (removed_generator t.0) (map (gen_row U.meaning) s.old.generators.items); trackers = changed_at t.0 gone_tracker s.old.trackers.items } }
 {
     remove_units(&mut s.units, t);
     spend_all(&mut s.generators, t);
     end_tracker(&mut s.trackers, t);
 }
 
-/// All that the tracker has is removed. After an error the session is part way there.
+/// All that the tracker has is removed.
 pub fn remove<U: UnitKind>(
     alloc: Global,
     s: &mut PlainSession<U>,
     t: TrackId,
 ) -> Result<(), AllocError>
-    ensures { OnOk result (meant U.meaning s.new ≡ changed (Remove t.0) (meant U.meaning s.old)) }
+    ensures { OnOk result (meant U.meaning s.new ≡ removed t.0 (meant U.meaning s.old)) }
 {
     remove_from_lists(alloc, s, t)?;
     remove_owners(s, t);
@@ -351,7 +318,7 @@ fn move_units<U: UnitKind>(units: &mut [PlainUnit<U>], t: TrackId, to: TrackId)
 }
 
 fn move_one<U: UnitKind>(g: &mut PlainGenerator<U>, t: TrackId, to: TrackId)
-    ensures { gen_row U.meaning g.new ≡ moved_gen t.0 to.0 (gen_row U.meaning g.old) }
+    ensures { gen_row U.meaning g.new ≡ moved_generator t.0 to.0 (gen_row U.meaning g.old) }
 {
     if g.tracker == t.0 {
         g.tracker = to.0;
@@ -360,7 +327,7 @@ fn move_one<U: UnitKind>(g: &mut PlainGenerator<U>, t: TrackId, to: TrackId)
 
 /// The generators of the first tracker are the second's.
 fn move_all<U: UnitKind>(generators: &mut [PlainGenerator<U>], t: TrackId, to: TrackId)
-    ensures { map (gen_row U.meaning) generators.new ≡ map (moved_gen t.0 to.0) (map (gen_row U.meaning) generators.old) }
+    ensures { map (gen_row U.meaning) generators.new ≡ map (moved_generator t.0 to.0) (map (gen_row U.meaning) generators.old) }
 {
     for g in generators.iter_mut() {
         move_one(g, t, to);
@@ -369,7 +336,7 @@ fn move_all<U: UnitKind>(generators: &mut [PlainGenerator<U>], t: TrackId, to: T
 
 /// All that the first tracker has is the second's.
 pub fn move_tracker<U: UnitKind>(s: &mut PlainSession<U>, t: TrackId, to: TrackId)
-    ensures { meant U.meaning s.new ≡ changed (Move t.0 to.0) (meant U.meaning s.old) }
+    ensures { meant U.meaning s.new ≡ moved t.0 to.0 (meant U.meaning s.old) }
 {
     if t.0 != to.0 {
         move_units(&mut s.units, t, to);

@@ -1,7 +1,6 @@
-ghost use Rattle.std.specs.Prelude.{◌≡◌, ◌<◌, ◌^◌, map, length, option_map, slice_get, false};
-ghost use Rattle.std.specs.List.{position_from};
+ghost use Rattle.std.specs.Prelude.{◌≡◌, ◌<◌, ◌^◌, map, length, slice_get, false};
 ghost use Rattle.std.specs.Option.{option_map_or};
-ghost use Rattle.session_model.specs.Match.{sees, first_row, offers_name, match_in, match_of};
+ghost use Rattle.session_model.specs.Match.{sees, row_of, offered_by, offers_name, match_in, match_of};
 ghost use Rattle.session_plain.specs.Meant.{gen_row, meant, IsSmall};
 ghost use Rattle.session_plain.specs.Find.{is_named, is_offer, is_offering};
 
@@ -28,7 +27,7 @@ fn named(row: &InstRow, d: DylibId, name: NameId) -> bool
 /// The present row of a name in a dylib.
 pub fn find_row(rows: &[InstRow], d: DylibId, name: NameId) -> Option<Row>
     requires { length rows.now < 2 ^ 32 }
-    ensures { result ≡ first_row (is_named d.0 name.0) 0 rows.now }
+    ensures { result ≡ row_of rows.now d.0 name.0 }
 {
     for (k, row) in rows.iter().enumerate() {
         if named(row, d, name) {
@@ -77,7 +76,7 @@ pub fn find_offer<U: UnitKind>(
     scope: Scope,
 ) -> Option<GenId>
     requires { length generators.now < 2 ^ 32 }
-    ensures { result ≡ option_map (λ g. record { 0 = g }) (position_from (is_offering d.0 name.0 scope) 0 (map (gen_row U.meaning) generators.now)) }
+    ensures { result ≡ offered_by (map (gen_row U.meaning) generators.now) d.0 name.0 scope }
 {
     for (k, g) in generators.iter().enumerate() {
         if offering(g, d, name, scope) {

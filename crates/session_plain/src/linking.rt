@@ -1,38 +1,126 @@
-ghost use Rattle.std.specs.Prelude.{◌≡◌, length, slice_get, IfOk};
-ghost use Rattle.orc_ids.specs.declared.lookup.Level.TheVariants as level;
-ghost use Rattle.session_model.specs.Answer.{AnswersCall, answer_lookup, called, is_stage};
-ghost use Rattle.session_model.specs.Change.{link_order};
-ghost use Rattle.session_model.specs.declared.rows.UnitPhase.TheVariants as stage;
-ghost use Rattle.session_plain.specs.Linking.{link_reply, link_unit_reply, link_answer};
+ghost use Rattle.std.specs.Prelude.{◌≡◌, ◌++◌, ◌∷◌, [], drop, length, IfOk};
+ghost use Rattle.session_model.specs.Answer.{AnswersCall, answer_link, called, can_link, refused_lookup};
+ghost use Rattle.session_model.specs.Change.{itself_then, link_order, link_matches};
+ghost use Rattle.session_plain.specs.Linking.{link_reply, link_unit_reply, tracker_order};
 ghost use Rattle.session_plain.specs.Meant.{meant, unit_row, IsSmall, LiveFit};
 
-use crate::calls::turn_away;
-use crate::lodging::sought;
-use crate::lookups::reply_lookup;
+use crate::calls::{link_is_next, turn_away};
+use crate::chains::cycle_reply;
+use crate::lookups::{matches, refusal, reply_lodged};
 use crate::plain::{PlainSession, PlainUnit};
-use orc_ids::{Level, SeatNo, UnitId};
-use session_model::{Reply, UnitKind, UnitPhase};
+use orc_ids::{DylibId, InstId, Level, OrderItem, Scope, SeatNo, UnitId, Wanted};
+use session_model::{Reply, UnitKind};
 use std::alloc::{AllocError, Global};
 
-/// What looking a unit's externals up is answered.
+/// The order that begins with the dylib itself.
+pub fn order_from(
+    alloc: Global,
+    d: DylibId,
+    order: &[OrderItem],
+) -> Result<Vec<OrderItem>, AllocError>
+    ensures { IfOk result (λ all. all.items ≡ itself_then d.0 order.now) }
+{
+    let mut all = Vec::new(alloc);
+    all.push(OrderItem {
+        dylib: d,
+        scope: Scope::All,
+    })?;
+    all.extend_from_slice(order)?;
+    Ok(all)
+}
+
+/// The order of the dylib of a unit's tracker.
+fn dylib_order<U: UnitKind>(
+    alloc: Global,
+    s: &PlainSession<U>,
+    x: &PlainUnit<U>,
+) -> Result<Vec<OrderItem>, AllocError>
+    ensures { IfOk result (λ order. order.items ≡ tracker_order (meant U.meaning s.now) x.now.tracker) }
+{
+    match s.trackers.get(x.tracker as usize) {
+        None => Ok(Vec::new(alloc)),
+        Some(t) => match s.dylibs.get(t.dylib as usize) {
+            None => Ok(Vec::new(alloc)),
+            Some(d) => Ok(d.order.as_slice().to_vec(alloc)?),
+        },
+    }
+}
+
+/// Where a unit's externals are looked up.
+fn order_of<U: UnitKind>(
+    alloc: Global,
+    s: &PlainSession<U>,
+    x: &PlainUnit<U>,
+) -> Result<Vec<OrderItem>, AllocError>
+    ensures { IfOk result (λ order. order.items ≡ link_order (meant U.meaning s.now) (unit_row U.meaning x.now)) }
+{
+    match x.unit.source() {
+        Some(d) => order_from(alloc, d, &[]),
+        None => dylib_order(alloc, s, x),
+    }
+}
+
+/// What a unit looks up, in symbol order.
+fn externals<U: UnitKind>(alloc: Global, unit: &U, live: &[bool]) -> Result<Vec<Wanted>, AllocError>
+    requires { length live.now ≡ length (U.meaning unit.now).offers }
+    ensures { IfOk result (λ wanted. wanted.items ≡ (U.meaning unit.now).externals live.now) }
+{
+    let mut wanted = Vec::new(alloc);
+    for k in 0..unit.external_count(live) {
+        wanted.push(unit.external(live, k))?;
+    }
+    Ok(wanted)
+}
+
+/// What a unit's externals match.
+pub fn unit_matches<U: UnitKind>(
+    alloc: Global,
+    s: &PlainSession<U>,
+    x: &PlainUnit<U>,
+) -> Result<Vec<Option<InstId>>, AllocError>
+    requires small { IsSmall s.now }
+    requires live { length x.now.live ≡ length (U.meaning x.now.unit).offers }
+    ensures { IfOk result (λ found. found.items ≡ link_matches (meant U.meaning s.now) (unit_row U.meaning x.now)) }
+{
+    let order = order_of(alloc, s, x)?;
+    let wanted = externals(alloc, &x.unit, x.live.as_slice())?;
+    matches(alloc, s, &order, &wanted)
+}
+
+/// Why the unit's externals can't be asked for, if they can't.
+fn unit_refusal<U: UnitKind>(
+    alloc: Global,
+    s: &PlainSession<U>,
+    x: &PlainUnit<U>,
+) -> Result<Option<Reply>, AllocError>
+    requires small { IsSmall s.now }
+    requires live { length x.now.live ≡ length (U.meaning x.now.unit).offers }
+    ensures { IfOk result (λ reply. reply ≡ refused_lookup (meant U.meaning s.now) (link_order (meant U.meaning s.now) (unit_row U.meaning x.now)) ((U.meaning x.now.unit).externals x.now.live)) }
+{
+    let order = order_of(alloc, s, x)?;
+    let wanted = externals(alloc, &x.unit, x.live.as_slice())?;
+    Ok(refusal(s, &order, &wanted))
+}
+
+/// What looking a unit's externals up is answered, once the call is right.
 fn external_reply<U: UnitKind>(
     alloc: Global,
     s: &PlainSession<U>,
+    u: UnitId,
     x: &PlainUnit<U>,
 ) -> Result<Reply, AllocError>
     requires small { IsSmall s.now }
     requires live { length x.now.live ≡ length (U.meaning x.now.unit).offers }
-    ensures { IfOk result (λ reply. reply ≡ link_answer (meant U.meaning s.now) (unit_row U.meaning x.now)) }
+    ensures { IfOk result (λ reply. reply ≡ answer_link (meant U.meaning s.now) u.0 (unit_row U.meaning x.now)) }
 {
-    let (order, wanted) = sought(alloc, s, x)?;
-    let reply = reply_lookup(alloc, s, &order, &wanted, Level::Resolved)?;
-    Ok(reply)
-}
-
-fn is_linking(phase: UnitPhase) -> bool
-    ensures { result ≡ is_stage stage.Linking phase }
-{
-    matches!(phase, UnitPhase::Linking)
+    if let Some(reply) = unit_refusal(alloc, s, x)? {
+        return Ok(reply);
+    }
+    let found = unit_matches(alloc, s, x)?;
+    if let Some(reply) = cycle_reply(alloc, s, u, x, &found)? {
+        return Ok(reply);
+    }
+    reply_lodged(alloc, s, Level::Resolved, &found)
 }
 
 fn unit_link<U: UnitKind>(
@@ -46,13 +134,13 @@ fn unit_link<U: UnitKind>(
     requires live { length x.now.live ≡ length (U.meaning x.now.unit).offers }
     ensures { IfOk result (λ reply. reply ≡ link_unit_reply (meant U.meaning s.now) seat.0 u (unit_row U.meaning x.now)) }
 {
-    match turn_away(x, seat, u, is_linking(x.phase)) {
+    match turn_away(x, seat, u, link_is_next(x)) {
         Some(reply) => Ok(reply),
-        None => external_reply(alloc, s, x),
+        None => external_reply(alloc, s, u, x),
     }
 }
 
-fn answer_link<U: UnitKind>(
+fn answer_of_link<U: UnitKind>(
     alloc: Global,
     s: &PlainSession<U>,
     seat: SeatNo,
@@ -77,8 +165,8 @@ pub fn reply_link<U: UnitKind>(
 ) -> Result<Reply, AllocError>
     requires small { IsSmall s.now }
     requires live { LiveFit U.meaning s.now.units.items }
-    ensures { IfOk result (λ reply. AnswersCall (called (meant U.meaning s.now) seat.0 u (λ x. is_stage stage.Linking x.phase)) u (λ x. reply ≡ answer_lookup (meant U.meaning s.now) (link_order (meant U.meaning s.now) x) (x.meaning.externals x.live) level.Resolved) reply) }
+    ensures { IfOk result (λ reply. AnswersCall (called (meant U.meaning s.now) seat.0 u can_link) u (λ x. reply ≡ answer_link (meant U.meaning s.now) u.0 x) reply) }
 {
-    let reply = answer_link(alloc, s, seat, u)?;
+    let reply = answer_of_link(alloc, s, seat, u)?;
     Ok(reply)
 }

@@ -1,16 +1,16 @@
 ghost use Rattle.std.specs.Prelude.{◌≡◌, IfOk, option_map};
 ghost use Rattle.session_model.specs.Match.{match_of};
 ghost use Rattle.session_model.specs.Change.{matched, instance_of};
-ghost use Rattle.session_model.specs.Answer.{error_of, answer_lookup, answer_ask};
+ghost use Rattle.session_model.specs.Answer.{error_of, refused_lookup, lodged_reply, answer_lookup, answer_ask};
 ghost use Rattle.session_plain.specs.Meant.{meant, IsSmall};
-ghost use Rattle.session_plain.specs.Lookups.{first_offer, first_in_error, first_missing, lodged_answer};
+ghost use Rattle.session_plain.specs.Lookups.{first_offer, first_in_error, first_missing};
 
 use crate::answers::order_unknown;
 use crate::find::find_match;
+use crate::levels::all_are_at;
 use crate::plain::PlainSession;
 use crate::query::row_failed;
 use crate::reach::unready;
-use crate::settle::all_are_at;
 use orc_ids::{InstId, Level, OrderItem, QueryId, Wanted};
 use session_model::{Match, Reply, UnitKind};
 use std::alloc::{AllocError, Global};
@@ -115,8 +115,47 @@ pub fn matches<U: UnitKind>(
     Ok(found)
 }
 
+/// Why the names can't be asked for in this order, if they can't.
+pub fn refusal<U: UnitKind>(
+    s: &PlainSession<U>,
+    order: &[OrderItem],
+    wanted: &[Wanted],
+) -> Option<Reply>
+    requires { IsSmall s.now }
+    ensures { result ≡ refused_lookup (meant U.meaning s.now) order.now wanted.now }
+{
+    let offer = offer_reply(s, order, wanted);
+    if offer.is_some() {
+        return offer;
+    }
+    let error = error_reply(s, order, wanted);
+    if error.is_some() {
+        return error;
+    }
+    missing_reply(s, order, wanted)
+}
+
+/// The answer Done where all matched instances are at the level, else Pending.
+pub fn reply_lodged<U: UnitKind>(
+    alloc: Global,
+    s: &PlainSession<U>,
+    level: Level,
+    found: &[Option<InstId>],
+) -> Result<Reply, AllocError>
+    requires { IsSmall s.now }
+    ensures { IfOk result (λ reply. reply ≡ lodged_reply (meant U.meaning s.now) level found.now) }
+{
+    let marks = unready(alloc, &s.rows)?;
+    let q = QueryId(s.queries.len() as u32);
+    if all_are_at(&s.rows, &marks, level, found) {
+        Ok(Reply::Done(q))
+    } else {
+        Ok(Reply::Pending(q))
+    }
+}
+
 /// What a lookup is answered, its order aside.
-pub fn reply_lookup<U: UnitKind>(
+fn reply_lookup<U: UnitKind>(
     alloc: Global,
     s: &PlainSession<U>,
     order: &[OrderItem],
@@ -126,37 +165,11 @@ pub fn reply_lookup<U: UnitKind>(
     requires { IsSmall s.now }
     ensures { IfOk result (λ reply. reply ≡ answer_lookup (meant U.meaning s.now) order.now wanted.now level) }
 {
-    if let Some(reply) = offer_reply(s, order, wanted) {
+    if let Some(reply) = refusal(s, order, wanted) {
         return Ok(reply);
     }
-    if let Some(reply) = error_reply(s, order, wanted) {
-        return Ok(reply);
-    }
-    if let Some(reply) = missing_reply(s, order, wanted) {
-        return Ok(reply);
-    }
-    lodged_reply(alloc, s, order, wanted, level)
-}
-
-/// The answer Done where all matched instances are at the level, else Pending.
-fn lodged_reply<U: UnitKind>(
-    alloc: Global,
-    s: &PlainSession<U>,
-    order: &[OrderItem],
-    wanted: &[Wanted],
-    level: Level,
-) -> Result<Reply, AllocError>
-    requires { IsSmall s.now }
-    ensures { IfOk result (λ reply. reply ≡ lodged_answer (meant U.meaning s.now) order.now wanted.now level) }
-{
     let found = matches(alloc, s, order, wanted)?;
-    let marks = unready(alloc, &s.rows)?;
-    let q = QueryId(s.queries.len() as u32);
-    if all_are_at(&s.rows, &marks, level, &found) {
-        Ok(Reply::Done(q))
-    } else {
-        Ok(Reply::Pending(q))
-    }
+    reply_lodged(alloc, s, level, &found)
 }
 
 /// What an ask is answered.

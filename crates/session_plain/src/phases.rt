@@ -1,7 +1,7 @@
 ghost use Rattle.std.specs.Prelude.{◌≡◌};
-ghost use Rattle.session_model.specs.Plain.{is_unsearched, is_failed, is_emitted, phase_address, is_owned, is_defunct};
+ghost use Rattle.session_model.specs.Plain.{is_unsearched, is_failed, is_emitted, phase_address, is_owned, is_owned};
 
-use session_model::{InstRow, Phase, UnitPhase};
+use session_model::{InstRow, Phase};
 
 /// Whether no lookup has asked for the instance.
 pub fn phase_unsearched(phase: &Phase) -> bool
@@ -40,11 +40,4 @@ pub fn owned(u: u32, row: &InstRow) -> bool
     ensures { result ≡ is_owned u row.now }
 {
     row.present && row.unit.0 == u
-}
-
-/// Whether the unit was removed.
-pub fn unit_defunct(phase: UnitPhase) -> bool
-    ensures { result ≡ is_defunct phase }
-{
-    matches!(phase, UnitPhase::Defunct)
 }

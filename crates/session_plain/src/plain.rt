@@ -1,5 +1,5 @@
 use orc_ids::Items;
-use session_model::{Dylib, InstRow, Job, Matches, Query, Range, Track, UnitPhase};
+use session_model::{Dylib, InstRow, Job, Matches, Query, Track, UnitPhase};
 
 /// A unit of a plain session.
 #[derive(Drop)]
@@ -34,5 +34,4 @@ pub struct PlainSession<U> {
     pub generators: Vec<PlainGenerator<U>>,
     pub queries: Vec<Query>,
     pub jobs: Vec<Job>,
-    pub taken: Vec<Range>,
 }

@@ -1,12 +1,12 @@
-ghost use Rattle.std.specs.Prelude.{◌≡◌, ℕ, ◌<◌, ◌^◌, ◌||◌, not, map, length, Bool, IfOk, slice_get, true, false, unwrap_or};
+ghost use Rattle.std.specs.Prelude.{◌≡◌, ℕ, not, map, length, Bool, IfOk, true};
 ghost use Rattle.std.specs.List.{list_any};
-ghost use Rattle.session_model.specs.Plain.{phase_deps, emitted_at};
-ghost use Rattle.session_model.specs.Reach.{within, reaches_some, is_ready};
-ghost use Rattle.session_plain.specs.Marks.{mark_at, marked, next_marks, AreWithin, AreTests, MarksUnready};
-ghost use Rattle.orc_ids.specs.declared.ids.InstId.{InstId};
+ghost use Rattle.session_model.specs.Plain.{emitted_at};
+ghost use Rattle.session_model.specs.Reach.{deps_at};
+ghost use Rattle.session_model.specs.declared.rows.InstRow.{InstRow};
+ghost use Rattle.session_plain.specs.Marks.{mark_at, marked, next_marks, numbers, edges_at, dep_list, AreWithin, AreTests, MarksUnready};
 
 use crate::phases::phase_emitted;
-use orc_ids::InstId;
+use orc_ids::{InstId, InstList, Items};
 use session_model::{InstRow, Phase};
 use std::alloc::{AllocError, Global};
 
@@ -17,10 +17,10 @@ pub fn mark(marks: &[bool], other: bool, i: InstId) -> bool
     marks.get(i.0 as usize).copied().unwrap_or(other)
 }
 
-fn some_marked(deps: &[InstId], marks: &[bool], other: bool) -> bool
-    ensures { result ≡ list_any (mark_at marks.now other) (map (λ (i : InstId). i.0) deps.now) }
+fn some_marked(to: &[InstId], marks: &[bool], other: bool) -> bool
+    ensures { result ≡ list_any (mark_at marks.now other) (numbers to.now) }
 {
-    for i in deps {
+    for i in to {
         if mark(marks, other, *i) {
             return true;
         }
@@ -28,32 +28,26 @@ fn some_marked(deps: &[InstId], marks: &[bool], other: bool) -> bool
     false
 }
 
-fn row_marked(row: &InstRow, marks: &[bool], other: bool, first: bool) -> bool
-    ensures { result ≡ marked marks.now other row.now first }
+fn is_marked(to: &[InstId], marks: &[bool], other: bool, first: bool) -> bool
+    ensures { result ≡ marked marks.now other to.now first }
 {
-    if first {
-        return true;
-    }
-    match &row.phase {
-        Phase::Emitted(_, deps) => some_marked(deps.as_slice(), marks, other),
-        _ => false,
-    }
+    first || some_marked(to, marks, other)
 }
 
 /// The marks after one more step.
 fn step_marks(
     alloc: Global,
-    rows: &[InstRow],
+    edges: &[InstList],
     firsts: &[bool],
     marks: &[bool],
     other: bool,
 ) -> Result<Vec<bool>, AllocError>
-    requires { length firsts.now ≡ length rows.now }
-    ensures { IfOk result (λ next. next.items ≡ next_marks marks.now other rows.now firsts.now) }
+    requires { length firsts.now ≡ length edges.now }
+    ensures { IfOk result (λ next. next.items ≡ next_marks marks.now other edges.now firsts.now) }
 {
     let mut next = Vec::new(alloc);
-    for (k, row) in rows.iter().enumerate() {
-        next.push(row_marked(row, marks, other, firsts[k]))?;
+    for (k, to) in edges.iter().enumerate() {
+        next.push(is_marked(to.as_slice(), marks, other, firsts[k]))?;
     }
     Ok(next)
 }
@@ -64,26 +58,61 @@ fn copy_marks(alloc: Global, marks: &[bool]) -> Result<Vec<bool>, AllocError>
     Ok(marks.to_vec(alloc)?)
 }
 
-/// The marks of all instances that reach one that is marked at first.
+/// The marks of all that reach one that is marked at first, over what follows each.
 pub fn reaching(
+    alloc: Global,
+    edges: &[InstList],
+    firsts: &[bool],
+    other: bool,
+) -> Result<Vec<bool>, AllocError>
+    requires { length firsts.now ≡ length edges.now }
+    ensures { IfOk result (λ marks. (test : ℕ → Bool) → AreTests (length edges.now) test firsts.now other → AreWithin (length edges.now) (length edges.now) (edges_at edges.now) test marks.items other) }
+{
+    let mut marks = copy_marks(alloc, firsts)?;
+    for round in 0..edges.len() {
+        marks = step_marks(alloc, edges, firsts, &marks, other)?;
+    }
+    Ok(marks)
+}
+
+fn deps_of(alloc: Global, phase: &Phase) -> Result<InstList, AllocError>
+    ensures { IfOk result (λ deps. deps ≡ dep_list phase.now) }
+{
+    match phase {
+        Phase::Emitted(_, deps) => Ok(Items::from_vec(deps.as_slice().to_vec(alloc)?)),
+        _ => Ok(Items::new(alloc)),
+    }
+}
+
+/// The dependencies recorded for each instance.
+fn dep_edges(alloc: Global, rows: &[InstRow]) -> Result<Vec<InstList>, AllocError>
+    ensures { IfOk result (λ edges. edges.items ≡ map (λ (r : InstRow). dep_list r.phase) rows.now) }
+{
+    let mut edges = Vec::new(alloc);
+    for row in rows {
+        edges.push(deps_of(alloc, &row.phase)?)?;
+    }
+    Ok(edges)
+}
+
+/// The marks of all instances that reach one that is marked at first, by recorded dependencies.
+pub fn reaching_by_deps(
     alloc: Global,
     rows: &[InstRow],
     firsts: &[bool],
     other: bool,
 ) -> Result<Vec<bool>, AllocError>
     requires { length firsts.now ≡ length rows.now }
-    ensures { IfOk result (λ marks. (test : ℕ → Bool) → AreTests rows.now test firsts.now other → AreWithin (length rows.now) rows.now test marks.items other) }
+    ensures { IfOk result (λ marks. (test : ℕ → Bool) → AreTests (length rows.now) test firsts.now other → AreWithin (length rows.now) (length rows.now) (deps_at rows.now) test marks.items other) }
 {
-    let mut marks = copy_marks(alloc, firsts)?;
-    for round in 0..rows.len() {
-        marks = step_marks(alloc, rows, firsts, &marks, other)?;
-    }
+    let edges = dep_edges(alloc, rows)?;
+    let marks = reaching(alloc, &edges, firsts, other)?;
     Ok(marks)
 }
 
 /// For each instance whether it isn't emitted.
 fn unemitted(alloc: Global, rows: &[InstRow]) -> Result<Vec<bool>, AllocError>
-    ensures { IfOk result (λ marks. AreTests rows.now (λ j. not (emitted_at rows.now j)) marks.items true) }
+    ensures { IfOk result (λ marks. AreTests (length rows.now) (λ j. not (emitted_at rows.now j)) marks.items true) }
 {
     let mut marks = Vec::new(alloc);
     for row in rows {
@@ -97,6 +126,6 @@ pub fn unready(alloc: Global, rows: &[InstRow]) -> Result<Vec<bool>, AllocError>
     ensures { IfOk result (λ marks. MarksUnready rows.now marks.items) }
 {
     let firsts = unemitted(alloc, rows)?;
-    let marks = reaching(alloc, rows, &firsts, true)?;
+    let marks = reaching_by_deps(alloc, rows, &firsts, true)?;
     Ok(marks)
 }

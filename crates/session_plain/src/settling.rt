@@ -4,18 +4,17 @@ ghost use Rattle.session_plain.specs.Marks.{MarksUnready};
 ghost use Rattle.session_plain.specs.Settling.{met_link, settle_link};
 ghost use Rattle.session_plain.specs.Meant.{meant};
 
+use crate::jobs::list_finish;
+use crate::levels::query_met;
 use crate::plain::PlainSession;
 use crate::reach::unready;
-use crate::settle::query_met;
-use crate::work::list_finish;
 use orc_ids::UnitId;
 use session_model::{UnitKind, UnitPhase};
 use std::alloc::{AllocError, Global};
 
 /// Whether the unit waits for the query of this number.
 fn waits<U: UnitKind>(s: &PlainSession<U>, u: UnitId, k: usize) -> bool
-    ensures waits { result ≡ waits_for (meant U.meaning s.now) u.0 k }
-    ensures within { IsTrue result → u.0 < length s.now.units.items }
+    ensures { result ≡ waits_for (meant U.meaning s.now) u.0 k }
 {
     match s.units.get(u.0 as usize) {
         None => false,
@@ -79,7 +78,7 @@ fn settle_at<U: UnitKind>(
 }
 
 /// Each unit that waits for a query that is met is linked, in rising query number.
-pub fn settle_queries<U: UnitKind>(alloc: Global, s: &mut PlainSession<U>) -> Result<(), AllocError>
+pub fn settle<U: UnitKind>(alloc: Global, s: &mut PlainSession<U>) -> Result<(), AllocError>
     ensures { OnOk result (meant U.meaning s.new ≡ settled (meant U.meaning s.old)) }
 {
     let marks = unready(alloc, &s.rows)?;
@@ -87,16 +86,5 @@ pub fn settle_queries<U: UnitKind>(alloc: Global, s: &mut PlainSession<U>) -> Re
     for k in 0..count {
         settle_at(s, &marks, k)?;
     }
-    Ok(())
-}
-
-/// The session settles, and counts one more entry. After an error it is part way there.
-pub fn advance<U: UnitKind>(alloc: Global, s: &mut PlainSession<U>) -> Result<(), AllocError>
-    requires { s.old.entries + 1 < 2 ^ 64 }
-    ensures { OnOk result (meant U.meaning s.new ≡ record (settled (meant U.meaning s.old)) { entries = s.old.entries + 1 }) }
-{
-    let entries = s.entries + 1;
-    settle_queries(alloc, s)?;
-    s.entries = entries;
     Ok(())
 }

@@ -1,5 +1,6 @@
 -- A whole run makes the calls of a lookup, and copies the memory.
-use Rattle.std.proofs.Common.{◌≡◌, ℕ, zero, suc, ◌≤◌, true, false, List, [], ◌∷◌, ◌++◌, length, take, slice_get, refl, sym, ap, subst, ◌∙◌, arith, inr, Option, Some, None, unwrap_or, is_some}
+use Rattle.std.proofs.Common.{◌≡◌, ℕ, zero, suc, ◌≤◌, Bool, true, false, List, [], ◌∷◌, ◌++◌, length, take, slice_get, refl, sym, ap, subst, ◌∙◌, arith, inr, Option, Some, None, unwrap_or, is_some}
+use Rattle.std.specs.Bool.{if◌then◌else◌}
 use Rattle.std.specs.Option.{option_map_or}
 use Rattle.std.proofs.lemmas.Bool.{both_ways}
 use Rattle.std.proofs.lemmas.Option.{none-some}
@@ -9,17 +10,17 @@ use Rattle.orc_ids.specs.declared.ids.NameId.{NameId}
 use Rattle.orc_ids.specs.declared.ids.UnitId.{UnitId}
 use Rattle.orc_ids.specs.declared.place.Shape.{Shape}
 use Rattle.session_model.specs.Meaning.{Meaning}
-use Rattle.session_model.specs.Plain.{Plain}
+use Rattle.session_model.specs.Plain.{Plain, UnitRow, is_alias, unit_shape}
 use Rattle.session_model.specs.Query.{is_met}
 use Rattle.session_model.specs.State.{state, IsOpen}
-use Rattle.session_model.specs.Calls.{Links, lookup_event, Looks, Works, IsJob, is_shaped, refusal_of}
-use Rattle.session_model.specs.Answer.{CODE_START}
+use Rattle.session_model.specs.Calls.{Links, lookup_event, Looks, Works, IsJob, unit_test, refusal_of}
+use Rattle.orc_ids.specs.declared.limits.TheConstants.{CODE_START}
 use Rattle.session_model.specs.declared.entry.Entry.{Entry}
 use Rattle.session_model.specs.declared.entry.Event.{Event}
 use Rattle.session_model.specs.declared.entry.Event.TheVariants as event
 use Rattle.session_model.specs.declared.entry.Finishing.TheVariants.{Bound}
 use Rattle.session_model.specs.declared.entry.Reply.TheVariants as reply
-use Rattle.session_run.specs.Lone.{IsLone}
+use Rattle.session_run.specs.Lone.{all_live, IsLone}
 use Rattle.session_core.specs.Given.{IsLowest}
 use Rattle.session_run.specs.Run.{lookup_of, IsRun, PlacesLowest}
 use Rattle.session_run.specs.Whole.{said, so_far, setup_entries, found_entries, instances_from, whole_run, offer_named, client_entries}
@@ -27,6 +28,9 @@ use Rattle.session_run.specs.Stages.{entry_query}
 use Rattle.session_run.proofs.Named.{found_at}
 use Rattle.session_run.proofs.Onward.{IsFoundAt, state_4, state_5, state_8, state_9}
 use Rattle.session_run.proofs.Runs.{legal_12, legal_missing, unmet_before}
+
+abbrev is_shaped : UnitRow → Bool
+is_shaped x = is_some (unit_shape x)
 
 abbrev the_unit : UnitId
 the_unit = record { 0 = 0 }
@@ -48,13 +52,20 @@ entry_there : (unit : Meaning) (shape : Shape) (main entry : NameId) (i : ℕ) �
 entry_there unit shape main entry i f = ap (λ (m : Plain). slice_get m.queries 0) (state_4 unit shape main entry i f)
 
 entry_still : (unit : Meaning) (shape : Shape) (main entry : NameId) (i : ℕ) → IsFoundAt unit main entry i → IsLone unit shape → slice_get (state (so_far 8 unit shape main entry i)).queries 0 ≡ Some (entry_query i)
-entry_still unit shape main entry i f l = ap (λ (m : Plain). slice_get m.queries 0) (state_8 unit shape main entry i f l.alone)
+entry_still unit shape main entry i f l = ap (λ (m : Plain). slice_get m.queries 0) (state_8 unit shape main entry i f l)
 
-needs_memory : (unit : Meaning) (shape : Shape) (main entry : NameId) (i : ℕ) → IsFoundAt unit main entry i → IsLone unit shape → is_shaped (state (so_far 5 unit shape main entry i)) the_unit ≡ true
-needs_memory unit shape main entry i f l = ap (λ (m : Plain). is_shaped m the_unit) (state_5 unit shape main entry i f) ∙ ap is_some l.shaped
+-- it is no alias
+no_alias_5 : (unit : Meaning) (shape : Shape) (main entry : NameId) (i : ℕ) → IsFoundAt unit main entry i → IsLone unit shape → unit_test is_alias (state (so_far 5 unit shape main entry i)) the_unit ≡ false
+no_alias_5 unit shape main entry i f l = ap (λ (m : Plain). unit_test is_alias m the_unit) (state_5 unit shape main entry i f) ∙ ap is_some l.own
+
+no_alias_9 : (unit : Meaning) (shape : Shape) (main entry : NameId) (i : ℕ) → IsFoundAt unit main entry i → IsLone unit shape → unit_test is_alias (state (so_far 9 unit shape main entry i)) the_unit ≡ false
+no_alias_9 unit shape main entry i f l = ap (λ (m : Plain). unit_test is_alias m the_unit) (state_9 unit shape main entry i f l) ∙ ap is_some l.own
+
+needs_memory : (unit : Meaning) (shape : Shape) (main entry : NameId) (i : ℕ) → IsFoundAt unit main entry i → IsLone unit shape → unit_test is_shaped (state (so_far 5 unit shape main entry i)) the_unit ≡ true
+needs_memory unit shape main entry i f l = ap (λ (m : Plain). unit_test is_shaped m the_unit) (state_5 unit shape main entry i f) ∙ (ap (λ (b : Bool). is_some (if b then None else unit.shape (all_live unit))) (ap is_some l.own) ∙ ap is_some l.shaped)
 
 in_range : (unit : Meaning) (shape : Shape) (main entry : NameId) (i : ℕ) → IsFoundAt unit main entry i → IsLone unit shape → refusal_of (state (so_far 9 unit shape main entry i)) the_unit ≡ None
-in_range unit shape main entry i f l = ap (λ (m : Plain). refusal_of m the_unit) (state_9 unit shape main entry i f l.alone) ∙ l.allowed
+in_range unit shape main entry i f l = ap (λ (m : Plain). refusal_of m the_unit) (state_9 unit shape main entry i f l) ∙ l.allowed
 
 -- the entries of the two jobs
 start_entries : Shape → List (ℕ × Entry Meaning)
@@ -76,21 +87,21 @@ emit_entry unit = (10, said 1 (event.Emit (record { 0 = 0 }) (record { members =
 collect_entry : Meaning → ℕ → ℕ × Entry Meaning
 collect_entry unit i = (11, said 1 (event.Collect (record { 0 = 0 })) (reply.Found 10 (Some (record { 0 = i }, unit.address i CODE_START) ∷ [])))
 
-start_job : (shape : Shape) (h : List (Entry Meaning)) → is_shaped (state (take 5 h)) the_unit ≡ true → IsJob h (start_entries shape ++ link_entry ∷ [])
+start_job : (shape : Shape) (h : List (Entry Meaning)) → unit_test is_alias (state (take 5 h)) the_unit ≡ false → unit_test is_shaped (state (take 5 h)) the_unit ≡ true → IsJob h (start_entries shape ++ link_entry ∷ [])
 unfolding start_entries link_entry
-start_job shape h s = (refl, rw s (inr (refl, inr (refl, Links.Ends _ [] refl refl))))
+start_job shape h none s = (refl, rw (none, s) (inr (refl, inr (refl, Links.Ends _ [] refl refl))))
 
-finish_job : (unit : Meaning) (h : List (Entry Meaning)) → refusal_of (state (take 9 h)) the_unit ≡ None → IsJob h (finish_entries ++ emit_entry unit ∷ [])
+finish_job : (unit : Meaning) (h : List (Entry Meaning)) → unit_test is_alias (state (take 9 h)) the_unit ≡ false → refusal_of (state (take 9 h)) the_unit ≡ None → IsJob h (finish_entries ++ emit_entry unit ∷ [])
 unfolding finish_entries emit_entry
-finish_job unit h s = (refl, inr (rw s (refl, refl)))
+finish_job unit h none s = (refl, rw none (inr (rw s (refl, refl))))
 
 -- both jobs are done while the lookup is open, and then its end is collected
 works : (unit : Meaning) (shape : Shape) (main entry : NameId) (i : ℕ) → IsFoundAt unit main entry i → IsLone unit shape →
     Works (so_far 12 unit shape main entry i) (record { 0 = 0 }) 4 (start_entries shape ++ link_entry ∷ (finish_entries ++ emit_entry unit ∷ collect_entry unit i ∷ []))
 unfolding start_entries link_entry finish_entries emit_entry collect_entry
 works unit shape main entry i f l =
-    Works.Job 4 8 (entry_query i) link_entry (start_entries shape) (finish_entries ++ emit_entry unit ∷ collect_entry unit i ∷ []) (entry_there unit shape main entry i f) (open_4 unit shape main entry i f l) (start_job shape (so_far 12 unit shape main entry i) (needs_memory unit shape main entry i f l))
-    (Works.Job 8 10 (entry_query i) (emit_entry unit) finish_entries (collect_entry unit i ∷ []) (entry_still unit shape main entry i f l) (open_8 unit shape main entry i f l) (finish_job unit (so_far 12 unit shape main entry i) (in_range unit shape main entry i f l))
+    Works.Job 4 8 (entry_query i) link_entry (start_entries shape) (finish_entries ++ emit_entry unit ∷ collect_entry unit i ∷ []) (entry_there unit shape main entry i f) (open_4 unit shape main entry i f l) (start_job shape (so_far 12 unit shape main entry i) (no_alias_5 unit shape main entry i f l) (needs_memory unit shape main entry i f l))
+    (Works.Job 8 10 (entry_query i) (emit_entry unit) finish_entries (collect_entry unit i ∷ []) (entry_still unit shape main entry i f l) (open_8 unit shape main entry i f l) (finish_job unit (so_far 12 unit shape main entry i) (no_alias_9 unit shape main entry i f l) (in_range unit shape main entry i f l))
     (Works.Collects 10 11 (said 1 (event.Collect (record { 0 = 0 })) (reply.Found 10 (Some (record { 0 = i }, unit.address i CODE_START) ∷ []))) refl refl))
 
 -- Places
@@ -123,7 +134,7 @@ lowest_found unit shape main entry i f l (suc (suc (suc (suc (suc zero))))) e u 
     the_place : IsLowest (state (so_far 5 unit shape main entry i)) s e.reply
     the_place = subst (λ (x : Entry Meaning). IsLowest (state (so_far 5 unit shape main entry i)) s x.reply) same
         (subst (λ (x : Shape). IsLowest (state (so_far 5 unit shape main entry i)) x (reply.Placed CODE_START)) shape_is
-        (subst (λ (m : Plain). IsLowest m shape (reply.Placed CODE_START)) (sym (state_5 unit shape main entry i f)) (sym l.starts)))
+        (subst (λ (m : Plain). IsLowest m shape (reply.Placed CODE_START)) (sym (state_5 unit shape main entry i f)) (λ other free. free.starts)))
 lowest_found unit shape main entry i f l (suc (suc (suc (suc (suc (suc zero)))))) e u s t is = not_place e (slice_get (so_far 12 unit shape main entry i) 6) u s refl t is
 lowest_found unit shape main entry i f l (suc (suc (suc (suc (suc (suc (suc zero))))))) e u s t is = not_place e (slice_get (so_far 12 unit shape main entry i) 7) u s refl t is
 lowest_found unit shape main entry i f l (suc (suc (suc (suc (suc (suc (suc (suc zero)))))))) e u s t is = not_place e (slice_get (so_far 12 unit shape main entry i) 8) u s refl t is
@@ -163,9 +174,9 @@ found_run jmax unit shape main entry i e l = let f = found_at main entry unit i 
     }
 
 -- a run whose lookup doesn't
-missing_run : (jmax : ℕ) (main entry : NameId) (unit : Meaning) → length unit.offers ≤ 262144 → offer_named entry unit ≡ None → IsRun jmax unit main entry (setup_entries main unit ++ said 1 (lookup_event (lookup_of entry)) (reply.Missing entry) ∷ [])
-missing_run jmax main entry unit few e = record {
-  legal = legal_missing jmax main entry unit few e;
+missing_run : (jmax : ℕ) (main entry : NameId) (unit : Meaning) → unit.source ≡ None → length unit.offers ≤ 262144 → offer_named entry unit ≡ None → IsRun jmax unit main entry (setup_entries main unit ++ said 1 (lookup_event (lookup_of entry)) (reply.Missing entry) ∷ [])
+missing_run jmax main entry unit own few e = record {
+  legal = legal_missing jmax main entry unit own few e;
   setup = setup_entries main unit;
   client = said 1 (lookup_event (lookup_of entry)) (reply.Missing entry) ∷ [];
   parts = refl;
@@ -186,4 +197,4 @@ whole_is_run jmax unit shape main entry l = split (offer_named entry unit) refl
   where
     split : (o : Option ℕ) → offer_named entry unit ≡ o → IsRun jmax unit main entry (setup_entries main unit ++ client_entries unit shape entry o)
     split (Some i) e = found_run jmax unit shape main entry i e l
-    split None e = missing_run jmax main entry unit l.few e
+    split None e = missing_run jmax main entry unit l.own l.few e

@@ -1,5 +1,6 @@
 -- Each call of a `Run`, by what the session promises of it.
-use Rattle.std.proofs.Common.{◌≡◌, ℕ, zero, suc, Bool, true, false, cond, List, [], ◌∷◌, take, slice_get, refl, sym, ap, subst, ◌∙◌, Option, Some, None, unwrap_or, is_some}
+use Rattle.std.proofs.Common.{◌≡◌, ℕ, zero, suc, Bool, true, false, ◌||◌, not, cond, List, [], ◌∷◌, take, slice_get, refl, sym, ap, subst, ◌∙◌, Option, Some, None, unwrap_or, is_some}
+use Rattle.std.specs.Bool.{if◌then◌else◌}
 use Rattle.std.specs.Prelude.{Result, Ok, Err, IfErr, IfOk, OnOk, OnErr, count_by, ℤ}
 use Rattle.std.proofs.lemmas.Bool.{both_ways}
 use Rattle.std.proofs.lemmas.Option.{none-some}
@@ -21,7 +22,9 @@ use Rattle.session_model.specs.Meaning.{Meaning}
 use Rattle.session_model.specs.Plain.{Plain, UnitRow, own_rows}
 use Rattle.session_model.specs.State.{state, plain_history}
 use Rattle.session_model.specs.Memory.{memory}
-use Rattle.session_model.specs.Answer.{Called, Right, Wrong, called, unit_shape, CODE_START}
+use Rattle.session_model.specs.Answer.{Called, Right, Wrong, called}
+use Rattle.session_model.specs.Plain.{unit_shape}
+use Rattle.orc_ids.specs.declared.limits.TheConstants.{CODE_START}
 use Rattle.session_model.specs.declared.entry.Entry.{Entry}
 use Rattle.session_model.specs.declared.entry.Event.TheVariants as event
 use Rattle.session_model.specs.declared.entry.Finishing.TheVariants.{Bound}
@@ -140,7 +143,7 @@ pub finish_gives : (jmax : ℕ) (run : Run) (old new : List (Entry ObjectUnit)) 
 finish_gives jmax run old new result taken l o at p given =
     let i = there_is (entry_match run) o in
     let f = found_at run.main run.entry (unit_of run) i.0 i.1 in
-    let s = in_session run old (so_far 8 (unit_of run) (its_shape (unit_of run)) run.main run.entry i.0) (linked run.main (unit_of run) (its_shape (unit_of run)) i.0) (is_so_far run i.0 8 old i.1 at) (state_8 (unit_of run) (its_shape (unit_of run)) run.main run.entry i.0 f l.alone) in
+    let s = in_session run old (so_far 8 (unit_of run) (its_shape (unit_of run)) run.main run.entry i.0) (linked run.main (unit_of run) (its_shape (unit_of run)) i.0) (is_so_far run i.0 8 old i.1 at) (state_8 (unit_of run) (its_shape (unit_of run)) run.main run.entry i.0 f l) in
     gives_finish (state_of meaning_of old) (unit_of run) result taken (instances_from 0 (unit_of run).offers) (record { meaning = unit_of run; tracker = 0; live = all_live (unit_of run); phase = stage.Linked; seat = None; base = Some CODE_START; query = Some 1; bound = None })
     (ap (λ (m : Plain). m.units) s) (ap (λ (m : Plain). own_rows 0 0 m.rows) s ∙ rows_own (resolved (unit_of run)) 0 (unit_of run).offers)
     (reply_of jmax 8 9 run new (reply.Finish (record { 0 = 0 }) (Bound [])) result (finish_goes jmax run old new result l o at p)) given
@@ -163,8 +166,8 @@ place_allowed run old shape l o is at x c =
     let i = there_is (entry_match run) o in
     let f = found_at run.main run.entry (unit_of run) i.0 i.1 in
     let s = in_session run old (so_far 5 (unit_of run) (its_shape (unit_of run)) run.main run.entry i.0) (started run.main (unit_of run) i.0) (is_so_far run i.0 5 old i.1 at) (state_5 (unit_of run) (its_shape (unit_of run)) run.main run.entry i.0 f) in
-    let here = right_is (record { meaning = unit_of run; tracker = 0; live = all_live (unit_of run); phase = stage.Started; seat = Some 1; base = None; query = None; bound = None }) x (is_some ((unit_of run).shape (all_live (unit_of run)))) (ap (λ m. called m 1 (record { 0 = 0 }) may_place) (sym s) ∙ c) in
-    ap unit_shape (sym here) ∙ (l.shaped ∙ ap Some (sym is))
+    let here = right_is (record { meaning = unit_of run; tracker = 0; live = all_live (unit_of run); phase = stage.Started; seat = Some 1; base = None; query = None; bound = None }) x (is_some (if is_some (unit_of run).source then None else (unit_of run).shape (all_live (unit_of run)))) (ap (λ m. called m 1 (record { 0 = 0 }) may_place) (sym s) ∙ c) in
+    ap unit_shape (sym here) ∙ (ap (λ (b : Bool). if b then None else (unit_of run).shape (all_live (unit_of run))) (ap is_some l.own) ∙ (l.shaped ∙ ap Some (sym is)))
 
 pub place_goes : (jmax : ℕ) (run : Run) (shape : Shape) (old new : List (Entry ObjectUnit)) (result : Result Reply Stop) → IsLoneRun run → is_offered run ≡ true → shape ≡ its_shape (unit_of run) → IsAt 5 run old → IfOk result (λ r. IsLowest (state_of meaning_of old) shape r) → Performs meaning_of jmax old new one_seat (event.Place (record { 0 = 0 }) shape) result → Went 5 6 jmax run new (reply.Placed CODE_START) result
 place_goes jmax run shape old new result l o is at low p = let i = there_is (entry_match run) o in
@@ -189,8 +192,8 @@ pub emit_allowed : (run : Run) (old : List (Entry ObjectUnit)) (groups : List Gr
 emit_allowed run old groups bytes l o g b at x c =
     let i = there_is (entry_match run) o in
     let f = found_at run.main run.entry (unit_of run) i.0 i.1 in
-    let s = in_session run old (so_far 9 (unit_of run) (its_shape (unit_of run)) run.main run.entry i.0) (finishing run.main (unit_of run) (its_shape (unit_of run)) i.0) (is_so_far run i.0 9 old i.1 at) (state_9 (unit_of run) (its_shape (unit_of run)) run.main run.entry i.0 f l.alone) in
-    let here = right_is (record { meaning = unit_of run; tracker = 0; live = all_live (unit_of run); phase = stage.Finishing; seat = Some 1; base = Some CODE_START; query = Some 1; bound = Some [] }) x true (ap (λ m. called m 1 (record { 0 = 0 }) may_emit) (sym s) ∙ c) in
+    let s = in_session run old (so_far 9 (unit_of run) (its_shape (unit_of run)) run.main run.entry i.0) (finishing run.main (unit_of run) (its_shape (unit_of run)) i.0) (is_so_far run i.0 9 old i.1 at) (state_9 (unit_of run) (its_shape (unit_of run)) run.main run.entry i.0 f l) in
+    let here = right_is (record { meaning = unit_of run; tracker = 0; live = all_live (unit_of run); phase = stage.Finishing; seat = Some 1; base = Some CODE_START; query = Some 1; bound = Some [] }) x (not (is_some (unit_of run).source) || true) (ap (λ m. called m 1 (record { 0 = 0 }) may_emit) (sym s) ∙ c) in
     subst (λ (y : UnitRow). IsFinish (state_of meaning_of old) (record { 0 = 0 }) y groups bytes) here record {
       groups_are = g ∙ sym (ap (λ own. (unit_of run).groups (all_live (unit_of run)) CODE_START [] own) (ap (λ (m : Plain). own_rows 0 0 m.rows) s ∙ rows_own (resolved (unit_of run)) 0 (unit_of run).offers));
       allowed = l.allowed;
@@ -278,8 +281,8 @@ pub found_all : (run : Run) (before after : List (Entry ObjectUnit)) (address : 
 found_all run before after address image l o at_11 at_12 its copy =
     let i = there_is (entry_match run) o in
     let f = found_at run.main run.entry (unit_of run) i.0 i.1 in
-    let old = in_session run before (so_far 11 (unit_of run) (its_shape (unit_of run)) run.main run.entry i.0) (done 11 run.main (unit_of run) (its_shape (unit_of run)) i.0) (is_so_far run i.0 11 before i.1 at_11) (state_11 (unit_of run) (its_shape (unit_of run)) run.main run.entry i.0 f l.alone) in
-    let new = in_session run after (so_far 12 (unit_of run) (its_shape (unit_of run)) run.main run.entry i.0) (done 12 run.main (unit_of run) (its_shape (unit_of run)) i.0) (is_so_far run i.0 12 after i.1 at_12) (state_12 (unit_of run) (its_shape (unit_of run)) run.main run.entry i.0 f l.alone) in
+    let old = in_session run before (so_far 11 (unit_of run) (its_shape (unit_of run)) run.main run.entry i.0) (done 11 run.main (unit_of run) (its_shape (unit_of run)) i.0) (is_so_far run i.0 11 before i.1 at_11) (state_11 (unit_of run) (its_shape (unit_of run)) run.main run.entry i.0 f l) in
+    let new = in_session run after (so_far 12 (unit_of run) (its_shape (unit_of run)) run.main run.entry i.0) (done 12 run.main (unit_of run) (its_shape (unit_of run)) i.0) (is_so_far run i.0 12 after i.1 at_12) (state_12 (unit_of run) (its_shape (unit_of run)) run.main run.entry i.0 f l) in
     record {
       whole = is_so_far run i.0 12 after i.1 at_12 ∙ whole_found (unit_of run) (its_shape (unit_of run)) run.main run.entry i.0 i.1;
       offer = i.0;

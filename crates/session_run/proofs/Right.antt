@@ -1,6 +1,7 @@
 -- Each entry of a run has the right reply.
 use Rattle.std.proofs.Common.{◌≡◌, ℕ, zero, suc, ◌+◌, ◌<◌, ◌≤◌, Bool, true, false, cond, ◌&&◌, not, List, [], ◌∷◌, length, slice_get, refl, sym, ap, ap₂, subst, ◌∙◌, arith, Option, Some, None, is_some}
-use Rattle.std.specs.Prelude.{count_by, nat_lt}
+use Rattle.std.specs.Prelude.{count_by, nat_lt, All, IfSome}
+use Rattle.orc_ids.specs.declared.ids.DylibId.{DylibId}
 use Rattle.std.specs.Option.{option_map_or}
 use Rattle.std.proofs.lemmas.List.Elements.{All-nil}
 use Rattle.std.proofs.lemmas.Bool.{le-ltb}
@@ -12,14 +13,16 @@ use Rattle.orc_ids.specs.declared.lookup.Scope.TheVariants.{All as AllScope}
 use Rattle.orc_ids.specs.declared.place.Shape.{Shape}
 use Rattle.session_model.specs.Lists.{first_some, only_if}
 use Rattle.session_model.specs.Meaning.{Meaning}
-use Rattle.session_model.specs.Plain.{Plain, UnitRow, empty, emitted_at, failed_at, present_at, address_at, is_emitted, is_failed, phase_address, own_rows}
+use Rattle.session_model.specs.Plain.{Plain, UnitRow, empty, emitted_at, failed_at, present_at, address_at, has_dylib, placements, is_emitted, is_failed, phase_address, own_rows}
 use Rattle.session_model.specs.Query.{is_met, is_lost}
 use Rattle.session_model.specs.Reach.{is_ready, deps_at}
 use Rattle.session_model.specs.State.{state, after, IsEnd}
 use Rattle.session_model.specs.Calls.{lookup_event}
 use Rattle.session_model.specs.Change as change
 use Rattle.session_model.specs.Match.{match_of}
-use Rattle.session_model.specs.Answer.{Answers, AnswersCall, AnswersPlace, Called, Right, Wrong, Apart, called, is_stage, unit_shape, first_reply, clash, answer_lookup, CODE_START}
+use Rattle.session_model.specs.Answer.{Answers, AnswersCall, AnswersPlace, HasSource, IsFree, can_place, Called, Right, Wrong, Apart, called, is_stage, first_reply, clash, answer_lookup}
+use Rattle.session_model.specs.Plain.{unit_shape}
+use Rattle.orc_ids.specs.declared.limits.TheConstants.{CODE_START}
 use Rattle.session_model.specs.declared.entry.Entry.{Entry}
 use Rattle.session_model.specs.declared.entry.Event.TheVariants as event
 use Rattle.session_model.specs.declared.entry.Finishing.TheVariants.{Bound}
@@ -34,8 +37,8 @@ use Rattle.session_run.specs.Lone.{all_live, IsLone}
 use Rattle.session_run.specs.Run.{lookup_of}
 use Rattle.session_run.specs.Whole.{said, so_far, instances_from}
 use Rattle.session_run.specs.Stages.{row_as, rows_as, unsearched, claimed, resolved, made, defined, asked, started, placed, linking, linked, finishing, entry_query, link_query}
-use Rattle.session_run.proofs.Rows.{row_at, rows_own, found_here, ends_here}
-use Rattle.session_run.proofs.Onward.{IsFoundAt, state_4, state_5, state_6, state_7, state_8, state_9}
+use Rattle.session_run.proofs.Rows.{names_kept, row_at, rows_own, found_here, ends_here}
+use Rattle.session_run.proofs.Onward.{own, as_own, IsFoundAt, state_4, state_5, state_6, state_7, state_8, state_9}
 
 -- The set-up
 
@@ -45,7 +48,7 @@ right_dylib jmax main = refl
 pub right_tracker : (jmax : ℕ) (past : List (Entry Meaning)) (main : NameId) → Answers jmax past (after empty (said 0 (event.Dylib main) (reply.Made (record { 0 = 0 })))) 0 (event.Tracker (record { 0 = 0 })) (reply.Tracker (record { 0 = 0 }))
 right_tracker jmax past main = refl
 
-no_clash : (main : NameId) (os : List (NameId × SymFlags)) → first_some (λ (offer : NameId × SymFlags). clash offer.0 (change.verdict (made main) 0 offer)) os ≡ None
+no_clash : (main : NameId) (os : List (NameId × SymFlags)) → first_some (λ (offer : NameId × SymFlags). clash offer.0 (change.verdict (made main).rows 0 offer)) os ≡ None
 no_clash main [] = refl
 no_clash main (o ∷ os) = no_clash main os
 
@@ -55,10 +58,17 @@ not_over n b = le-ltb 262144 (0 + n) (omega (arith, b))
 defined_reply : Bool → Option Reply → ℕ → Reply
 defined_reply over clashes n = first_reply (only_if over reply.TooMany ∷ clashes ∷ []) (reply.Defined (record { 0 = 0 }) (record { 0 = 0 }) n)
 
-pub right_define : (jmax : ℕ) (past : List (Entry Meaning)) (main : NameId) (unit : Meaning) → length unit.offers ≤ 262144 →
+no_source : (m : Plain) (unit : Meaning) → unit.source ≡ None → HasSource m unit
+no_source m unit own = subst (λ o. IfSome o (λ (d : DylibId). has_dylib m d.0 ≡ true)) (sym own) tt
+
+pub right_define : (jmax : ℕ) (past : List (Entry Meaning)) (main : NameId) (unit : Meaning) → unit.source ≡ None → length unit.offers ≤ 262144 →
     Answers jmax past (made main) 0 (event.Define (record { 0 = 0 }) (record { 0 = 0 }) unit) (reply.Defined (record { 0 = 0 }) (record { 0 = 0 }) (count_by (λ (b : Bool). b) (all_live unit)))
 unfolding defined_reply
-right_define jmax past main unit few = sym (ap₂ (λ over clashes. defined_reply over clashes (count_by (λ (b : Bool). b) (all_live unit))) (not_over (length unit.offers) few) (no_clash main unit.offers))
+right_define jmax past main unit own few = (
+  no_source (made main) unit own,
+  sym (ap (λ (live : List Bool). defined_reply (nat_lt 262144 (0 + length unit.offers)) (first_some (λ (offer : NameId × SymFlags). clash offer.0 (change.verdict (made main).rows 0 offer)) unit.offers) (count_by (λ (b : Bool). b) live)) (names_kept main unit.offers)
+      ∙ ap₂ (λ over clashes. defined_reply over clashes (count_by (λ (b : Bool). b) (all_live unit))) (not_over (length unit.offers) few) (no_clash main unit.offers)),
+)
 
 -- The entry's lookup
 
@@ -98,11 +108,11 @@ waits its os i o e a b = unmet (rows_as its 0 os) i (unready (rows_as its 0 os) 
 
 pub right_ask : (jmax : ℕ) (past : List (Entry Meaning)) (main entry : NameId) (unit : Meaning) (i : ℕ) (o : NameId × SymFlags) → slice_get unit.offers i ≡ Some o → match_of (defined main unit) (lookup_of entry).order entry.0 ≡ Some (Instance (record { 0 = i })) →
     Answers jmax past (defined main unit) 1 (lookup_event (lookup_of entry)) (reply.Pending (record { 0 = 0 }))
-right_ask jmax past main entry unit i o e m = rw (m, failed_is unsearched unit.offers i o e, unready (rows_as unsearched 0 unit.offers) i (emitted_is unsearched unit.offers i o e)) refl
+right_ask jmax past main entry unit i o e m = ((omega arith), (omega arith), rw (m, failed_is unsearched unit.offers i o e, unready (rows_as unsearched 0 unit.offers) i (emitted_is unsearched unit.offers i o e)) refl)
 
 pub right_missing : (jmax : ℕ) (past : List (Entry Meaning)) (main entry : NameId) (unit : Meaning) → match_of (defined main unit) (lookup_of entry).order entry.0 ≡ None →
     Answers jmax past (defined main unit) 1 (lookup_event (lookup_of entry)) (reply.Missing entry)
-right_missing jmax past main entry unit m = rw m refl
+right_missing jmax past main entry unit m = ((omega arith), (omega arith), rw m refl)
 
 -- The unit's jobs
 
@@ -116,34 +126,39 @@ call_right c u P r x e p = subst (λ (d : Called). AnswersCall d u P r) (sym e) 
 started_unit : Meaning → UnitRow
 started_unit unit = record { meaning = unit; tracker = 0; live = all_live unit; phase = stage.Started; seat = Some 1; base = None; query = None; bound = None }
 
+-- a range of code memory
+pub base_free : (units : List UnitRow) (unit : Meaning) (shape : Shape) → IsLone unit shape → placements units ≡ [] → IsFree units shape CODE_START
+base_free units unit shape l none = record { aligned = l.divides; starts = omega arith; ends = l.fits; apart = subst (All (λ r. Apart r CODE_START shape.need)) (sym none) (All-nil (λ r. Apart r CODE_START shape.need)) }
+
 pub right_base : (main : NameId) (unit : Meaning) (shape : Shape) (i : ℕ) → IsLone unit shape → AnswersPlace (started main unit i) shape (reply.Placed CODE_START)
-right_base main unit shape i l = (
-  omega (arith, l.starts, l.fits),
-  l.divides,
-  omega arith,
-  l.fits,
-  All-nil (λ r. Apart r CODE_START shape.need),
-)
+right_base main unit shape i l = base_free (started main unit i).units unit shape l refl
+
+own_place : (jmax : ℕ) (past : List (Entry Meaning)) (main : NameId) (unit : Meaning) (shape : Shape) (i : ℕ) → IsLone (own unit) shape → Answers jmax past (started main (own unit) i) 1 (event.Place (record { 0 = 0 }) shape) (reply.Placed CODE_START)
+unfolding started_unit
+own_place jmax past main unit shape i l = call_right
+    (called (started main (own unit) i) 1 (record { 0 = 0 }) can_place) (record { 0 = 0 })
+    (λ x. (unit_shape x ≡ Some shape) × AnswersPlace (started main (own unit) i) shape (reply.Placed CODE_START)) (reply.Placed CODE_START) (started_unit (own unit))
+    (ap (λ o. cond (is_some o) (Right (started_unit (own unit))) Wrong) l.shaped)
+    (l.shaped, right_base main (own unit) shape i l)
 
 pub right_place : (jmax : ℕ) (past : List (Entry Meaning)) (main : NameId) (unit : Meaning) (shape : Shape) (i : ℕ) → IsLone unit shape → Answers jmax past (started main unit i) 1 (event.Place (record { 0 = 0 }) shape) (reply.Placed CODE_START)
-unfolding started_unit
-right_place jmax past main unit shape i l = call_right
-    (called (started main unit i) 1 (record { 0 = 0 }) (λ x. is_stage stage.Started x.phase && is_some (unit_shape x))) (record { 0 = 0 })
-    (λ x. (unit_shape x ≡ Some shape) × AnswersPlace (started main unit i) shape (reply.Placed CODE_START)) (reply.Placed CODE_START) (started_unit unit)
-    (ap (λ o. cond (is_some o) (Right (started_unit unit)) Wrong) l.shaped)
-    (l.shaped, right_base main unit shape i l)
+right_place jmax past main unit shape i l = subst (λ (v : Meaning). Answers jmax past (started main v i) 1 (event.Place (record { 0 = 0 }) shape) (reply.Placed CODE_START)) (sym (as_own unit l.own))
+    (own_place jmax past main unit shape i (subst (λ (v : Meaning). IsLone v shape) (as_own unit l.own) l))
 
-pub right_resolve : (jmax : ℕ) (past : List (Entry Meaning)) (main : NameId) (unit : Meaning) (shape : Shape) (i : ℕ) → Answers jmax past (placed main unit shape i) 1 (event.Resolve (record { 0 = 0 })) reply.Resolved
-right_resolve jmax past main unit shape i = refl
+pub right_resolve : (jmax : ℕ) (past : List (Entry Meaning)) (main : NameId) (unit : Meaning) (shape : Shape) (i : ℕ) → IsLone unit shape → Answers jmax past (placed main unit shape i) 1 (event.Resolve (record { 0 = 0 })) reply.Resolved
+right_resolve jmax past main unit shape i l = subst (λ (v : Meaning). Answers jmax past (placed main v shape i) 1 (event.Resolve (record { 0 = 0 })) reply.Resolved) (sym (as_own unit l.own)) refl
+
+pub own_link : (jmax : ℕ) (past : List (Entry Meaning)) (main : NameId) (unit : Meaning) (shape : Shape) (i : ℕ) → unit.externals (all_live unit) ≡ [] → Answers jmax past (linking main (own unit) shape i) 1 (event.Link (record { 0 = 0 })) (reply.Done (record { 0 = 1 }))
+own_link jmax past main unit shape i e = rw e refl
 
 pub right_link : (jmax : ℕ) (past : List (Entry Meaning)) (main : NameId) (unit : Meaning) (shape : Shape) (i : ℕ) → IsLone unit shape → Answers jmax past (linking main unit shape i) 1 (event.Link (record { 0 = 0 })) (reply.Done (record { 0 = 1 }))
-right_link jmax past main unit shape i l = sym (ap (λ wanted. answer_lookup (linking main unit shape i) (record { dylib = record { 0 = 0 }; scope = AllScope } ∷ []) wanted Resolved) l.alone)
+right_link jmax past main unit shape i l = subst (λ (v : Meaning). Answers jmax past (linking main v shape i) 1 (event.Link (record { 0 = 0 })) (reply.Done (record { 0 = 1 }))) (sym (as_own unit l.own)) (own_link jmax past main unit shape i l.alone)
 
 -- the link query is met at once
 link_ended : (unit : Meaning) (shape : Shape) (main entry : NameId) (i : ℕ) → IsFoundAt unit main entry i → IsLone unit shape → IsEnd (so_far 8 unit shape main entry i) 1 8 (Found [])
 link_ended unit shape main entry i f l = record {
   query = link_query;
-  there = ap (λ (m : Plain). slice_get m.queries 1) (state_8 unit shape main entry i f l.alone);
+  there = ap (λ (m : Plain). slice_get m.queries 1) (state_8 unit shape main entry i f l);
   ends = refl;
   settles = record { from = omega arith; here = omega arith; met = refl; first = λ k a b. absurd (omega (arith, a, b)) };
 }
@@ -151,12 +166,16 @@ link_ended unit shape main entry i f l = record {
 pub right_finish : (jmax : ℕ) (unit : Meaning) (shape : Shape) (main entry : NameId) (i : ℕ) → IsFoundAt unit main entry i → IsLone unit shape → Answers jmax (so_far 8 unit shape main entry i) (linked main unit shape i) 1 event.Take (reply.Finish (record { 0 = 0 }) (Bound []))
 right_finish jmax unit shape main entry i f l = (refl, record { unit = _; there = refl; query = 1; its = refl; at = 8; ended = link_ended unit shape main entry i f l })
 
-pub right_emit : (jmax : ℕ) (past : List (Entry Meaning)) (main : NameId) (unit : Meaning) (shape : Shape) (i : ℕ) → IsLone unit shape → Answers jmax past (finishing main unit shape i) 1 (event.Emit (record { 0 = 0 }) (record { members = instances_from 0 unit.offers; deps = [] } ∷ [])) reply.Emitted
-right_emit jmax past main unit shape i l = (
-  sym (l.grouped (own_rows 0 0 (rows_as (resolved unit) 0 unit.offers)) ∙ ap (λ own. record { members = own; deps = [] } ∷ []) (rows_own (resolved unit) 0 unit.offers)),
+own_emit : (jmax : ℕ) (past : List (Entry Meaning)) (main : NameId) (unit : Meaning) (shape : Shape) (i : ℕ) → IsLone (own unit) shape → Answers jmax past (finishing main (own unit) shape i) 1 (event.Emit (record { 0 = 0 }) (record { members = instances_from 0 unit.offers; deps = [] } ∷ [])) reply.Emitted
+own_emit jmax past main unit shape i l = (
+  sym (l.grouped (own_rows 0 0 (rows_as (resolved (own unit)) 0 unit.offers)) ∙ ap (λ rows. record { members = rows; deps = [] } ∷ []) (rows_own (resolved (own unit)) 0 unit.offers)),
   l.allowed,
   refl,
 )
+
+pub right_emit : (jmax : ℕ) (past : List (Entry Meaning)) (main : NameId) (unit : Meaning) (shape : Shape) (i : ℕ) → IsLone unit shape → Answers jmax past (finishing main unit shape i) 1 (event.Emit (record { 0 = 0 }) (record { members = instances_from 0 unit.offers; deps = [] } ∷ [])) reply.Emitted
+right_emit jmax past main unit shape i l = subst (λ (v : Meaning). Answers jmax past (finishing main v shape i) 1 (event.Emit (record { 0 = 0 }) (record { members = instances_from 0 v.offers; deps = [] } ∷ [])) reply.Emitted) (sym (as_own unit l.own))
+    (own_emit jmax past main unit shape i (subst (λ (v : Meaning). IsLone v shape) (as_own unit l.own) l))
 
 -- The end of the entry's lookup
 
@@ -164,7 +183,7 @@ pub unmet_at : (unit : Meaning) (shape : Shape) (main entry : NameId) (i j : ℕ
 unmet_at unit shape main entry i zero f l b = ap (λ (m : Plain). is_met m.rows (entry_query i)) (state_4 unit shape main entry i f) ∙ waits claimed unit.offers i f.offer f.there refl refl
 unmet_at unit shape main entry i (suc zero) f l b = ap (λ (m : Plain). is_met m.rows (entry_query i)) (state_5 unit shape main entry i f) ∙ waits claimed unit.offers i f.offer f.there refl refl
 unmet_at unit shape main entry i (suc (suc zero)) f l b = ap (λ (m : Plain). is_met m.rows (entry_query i)) (state_6 unit shape main entry i f) ∙ waits claimed unit.offers i f.offer f.there refl refl
-unmet_at unit shape main entry i (suc (suc (suc zero))) f l b = ap (λ (m : Plain). is_met m.rows (entry_query i)) (state_7 unit shape main entry i f) ∙ waits (resolved unit) unit.offers i f.offer f.there refl refl
-unmet_at unit shape main entry i (suc (suc (suc (suc zero)))) f l b = ap (λ (m : Plain). is_met m.rows (entry_query i)) (state_8 unit shape main entry i f l.alone) ∙ waits (resolved unit) unit.offers i f.offer f.there refl refl
-unmet_at unit shape main entry i (suc (suc (suc (suc (suc zero))))) f l b = ap (λ (m : Plain). is_met m.rows (entry_query i)) (state_9 unit shape main entry i f l.alone) ∙ waits (resolved unit) unit.offers i f.offer f.there refl refl
+unmet_at unit shape main entry i (suc (suc (suc zero))) f l b = ap (λ (m : Plain). is_met m.rows (entry_query i)) (state_7 unit shape main entry i f l) ∙ waits (resolved unit) unit.offers i f.offer f.there refl refl
+unmet_at unit shape main entry i (suc (suc (suc (suc zero)))) f l b = ap (λ (m : Plain). is_met m.rows (entry_query i)) (state_8 unit shape main entry i f l) ∙ waits (resolved unit) unit.offers i f.offer f.there refl refl
+unmet_at unit shape main entry i (suc (suc (suc (suc (suc zero))))) f l b = ap (λ (m : Plain). is_met m.rows (entry_query i)) (state_9 unit shape main entry i f l) ∙ waits (resolved unit) unit.offers i f.offer f.there refl refl
 unmet_at unit shape main entry i (suc (suc (suc (suc (suc (suc j)))))) f l b = absurd (omega (arith, b))

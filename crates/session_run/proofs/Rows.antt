@@ -8,9 +8,10 @@ use Rattle.std.specs.List.{list_any}
 use Rattle.session_model.specs.Lists.{numbered, only_if, or_else}
 use Rattle.session_model.specs.Meaning.{Meaning}
 use Rattle.session_model.specs.Plain.{is_owned, is_unsearched, own_rows, phase_address}
-use Rattle.session_model.specs.Reach.{within, deps_at}
-use Rattle.session_model.specs.Change.{new_rows, deps_in}
-use Rattle.session_model.specs.Answer.{CODE_START}
+use Rattle.graph_walks.specs.Walks.{within}
+use Rattle.session_model.specs.Reach.{deps_at}
+use Rattle.session_model.specs.Change.{kept_names, new_rows, verdicts, deps_in}
+use Rattle.orc_ids.specs.declared.limits.TheConstants.{CODE_START}
 use Rattle.session_model.specs.declared.rows.InstRow.{InstRow}
 use Rattle.session_model.specs.declared.rows.Phase.{Phase}
 use Rattle.session_model.specs.declared.rows.Phase.TheVariants as phase
@@ -18,9 +19,14 @@ use Rattle.session_run.specs.Stages.{row_as, rows_as, unsearched, claimed, resol
 use Rattle.session_run.specs.Whole.{instances_from}
 
 -- the rows of a definition in a session without rows
-pub rows_new : (main : NameId) (k : ℕ) (os : List (NameId × SymFlags)) → new_rows (made main) 0 0 k os ≡ rows_as unsearched k os
+pub rows_new : (main : NameId) (k : ℕ) (os : List (NameId × SymFlags)) → new_rows 0 0 k os (verdicts (made main).rows 0 os) ≡ rows_as unsearched k os
 rows_new main k [] = refl
 rows_new main k (o ∷ os) = ap (λ rs. row_as phase.Unsearched k o ∷ rs) (rows_new main (k + 1) os)
+
+-- all its names are kept
+pub names_kept : (main : NameId) (os : List (NameId × SymFlags)) → kept_names (verdicts (made main).rows 0 os) ≡ map (λ o. true) os
+names_kept main [] = refl
+names_kept main (o ∷ os) = ap (λ bs. true ∷ bs) (names_kept main os)
 
 pub rows_claimed : (k : ℕ) (os : List (NameId × SymFlags)) → map (λ (r : InstRow). record r { phase = cond (is_owned 0 r && is_unsearched r.phase) phase.Claimed r.phase }) (rows_as unsearched k os) ≡ rows_as claimed k os
 rows_claimed k [] = refl
@@ -57,13 +63,13 @@ row_at its k zero (x ∷ os) o e = subst (λ n. slice_get (rows_as its k (x ∷ 
 row_at its k (suc i) (x ∷ os) o e = subst (λ n. slice_get (rows_as its (k + 1) os) i ≡ Some (row_as (its n) n o)) (omega arith) (row_at its (k + 1) i os o e)
 
 -- what a walk finds at its first row
-pub found_here : (n : ℕ) (rows : List InstRow) (test : ℕ → Bool) (i : ℕ) → test i ≡ true → within n rows test i ≡ true
+pub found_here : (n : ℕ) (rows : List InstRow) (test : ℕ → Bool) (i : ℕ) → test i ≡ true → within n (deps_at rows) test i ≡ true
 unfolding within
 found_here zero rows test i h = h
 found_here (suc n) rows test i h = rw h refl
 
 -- a row without dependencies leads nowhere
-pub ends_here : (n : ℕ) (rows : List InstRow) (test : ℕ → Bool) (i : ℕ) → test i ≡ false → deps_at rows i ≡ [] → within n rows test i ≡ false
+pub ends_here : (n : ℕ) (rows : List InstRow) (test : ℕ → Bool) (i : ℕ) → test i ≡ false → deps_at rows i ≡ [] → within n (deps_at rows) test i ≡ false
 unfolding within
 ends_here zero rows test i h d = h
 ends_here (suc n) rows test i h d = rw (h, d) refl

@@ -11,7 +11,7 @@ use Rattle.session_model.specs.Meaning.{Meaning}
 use Rattle.session_model.specs.Plain.{Plain}
 use Rattle.session_model.specs.State.{state, plain_history, IsOpen}
 use Rattle.session_model.specs.Calls.{lookup_event}
-use Rattle.session_model.specs.Answer.{CODE_START}
+use Rattle.orc_ids.specs.declared.limits.TheConstants.{CODE_START}
 use Rattle.session_model.specs.declared.entry.Entry.{Entry}
 use Rattle.session_model.specs.declared.entry.Event.TheVariants as event
 use Rattle.session_model.specs.declared.entry.Finishing.TheVariants.{Bound}
@@ -55,7 +55,7 @@ went_tracker means jmax unit shape main entry old new result at p = went_on mean
 pub went_define : {U : Type 0} (means : U → Meaning) (jmax : ℕ) (share : U) (shape : Shape) (main entry : NameId) (old new : List (Entry U)) (result : Result Reply Stop) → IsLone (means share) shape →
     plain_history means old ≡ take 2 (whole_run (means share) shape main entry) → Performs means jmax old new setup_seat (event.Define (record { 0 = 0 }) (record { 0 = 0 }) share) result →
     WentOn jmax (take 2 (whole_run (means share) shape main entry)) (take 3 (whole_run (means share) shape main entry)) (plain_history means new) (reply.Defined (record { 0 = 0 }) (record { 0 = 0 }) (count_by (λ (b : Bool). b) (all_live (means share)))) result
-went_define means jmax share shape main entry old new result l at p = went_on means jmax (made_entries main) (setup_entries main (means share)) setup_seat (event.Define (record { 0 = 0 }) (record { 0 = 0 }) share) (reply.Defined (record { 0 = 0 }) (record { 0 = 0 }) (count_by (λ (b : Bool). b) (all_live (means share)))) old new result at refl (λ r x a. one_define jmax main (means share) r l.few a) (few_define jmax (made_entries main) main (means share) (after_made main)) p
+went_define means jmax share shape main entry old new result l at p = went_on means jmax (made_entries main) (setup_entries main (means share)) setup_seat (event.Define (record { 0 = 0 }) (record { 0 = 0 }) share) (reply.Defined (record { 0 = 0 }) (record { 0 = 0 }) (count_by (λ (b : Bool). b) (all_live (means share)))) old new result at refl (λ r x a. one_define jmax main (means share) r l.own l.few a) (few_define jmax (made_entries main) main (means share) (after_made main)) p
 
 -- The lookup
 
@@ -102,7 +102,7 @@ pub takes_start : {U : Type 0} (means : U → Meaning) (jmax : ℕ) (unit : Mean
 takes_start means jmax unit shape main entry i old new result f here p = takes_performs means jmax old new client_seat result (some_job (state_of means old) (job.Start (record { 0 = 0 })) (ap (λ h. (state h).jobs) here ∙ ap (λ (m : Plain). m.jobs) (state_4 unit shape main entry i f))) p
 
 pub takes_finish : {U : Type 0} (means : U → Meaning) (jmax : ℕ) (unit : Meaning) (shape : Shape) (main entry : NameId) (i : ℕ) (old new : List (Entry U)) (result : Result Reply Stop) → IsFoundAt unit main entry i → IsLone unit shape → plain_history means old ≡ so_far 8 unit shape main entry i → Takes means jmax old new client_seat result → Performs means jmax old new client_seat event.Take result
-takes_finish means jmax unit shape main entry i old new result f l here p = takes_performs means jmax old new client_seat result (some_job (state_of means old) (job.Finish (record { 0 = 0 })) (ap (λ h. (state h).jobs) here ∙ ap (λ (m : Plain). m.jobs) (state_8 unit shape main entry i f l.alone))) p
+takes_finish means jmax unit shape main entry i old new result f l here p = takes_performs means jmax old new client_seat result (some_job (state_of means old) (job.Finish (record { 0 = 0 })) (ap (λ h. (state h).jobs) here ∙ ap (λ (m : Plain). m.jobs) (state_8 unit shape main entry i f l))) p
 
 pub went_start : {U : Type 0} (means : U → Meaning) (jmax : ℕ) (unit : Meaning) (shape : Shape) (main entry : NameId) (i : ℕ) (old new : List (Entry U)) (result : Result Reply Stop) → IsLone unit shape → offer_named entry unit ≡ Some i →
     plain_history means old ≡ take 4 (whole_run unit shape main entry) → Takes means jmax old new client_seat result →
@@ -116,32 +116,32 @@ pub went_resolve : {U : Type 0} (means : U → Meaning) (jmax : ℕ) (unit : Mea
     WentOn jmax (take 6 (whole_run unit shape main entry)) (take 7 (whole_run unit shape main entry)) (plain_history means new) reply.Resolved result
 went_resolve means jmax unit shape main entry i old new result l e at p = let f = found_at main entry unit i e in
     in_whole means jmax 6 7 unit shape main entry i reply.Resolved old new result e
-    (λ here. went_on means jmax (so_far 6 unit shape main entry i) (so_far 7 unit shape main entry i) client_seat (event.Resolve (record { 0 = 0 })) reply.Resolved old new result here refl (λ r x a. one_resolve jmax unit shape main entry i r f a) (few_resolve jmax (so_far 6 unit shape main entry i) main unit shape i (state_6 unit shape main entry i f)) p) at
+    (λ here. went_on means jmax (so_far 6 unit shape main entry i) (so_far 7 unit shape main entry i) client_seat (event.Resolve (record { 0 = 0 })) reply.Resolved old new result here refl (λ r x a. one_resolve jmax unit shape main entry i r f l a) (few_resolve jmax (so_far 6 unit shape main entry i) main unit shape i (state_6 unit shape main entry i f)) p) at
 
 pub went_link : {U : Type 0} (means : U → Meaning) (jmax : ℕ) (unit : Meaning) (shape : Shape) (main entry : NameId) (i : ℕ) (old new : List (Entry U)) (result : Result Reply Stop) → IsLone unit shape → offer_named entry unit ≡ Some i →
     plain_history means old ≡ take 7 (whole_run unit shape main entry) → Performs means jmax old new client_seat (event.Link (record { 0 = 0 })) result →
     WentOn jmax (take 7 (whole_run unit shape main entry)) (take 8 (whole_run unit shape main entry)) (plain_history means new) (reply.Done (record { 0 = 1 })) result
 went_link means jmax unit shape main entry i old new result l e at p = let f = found_at main entry unit i e in
     in_whole means jmax 7 8 unit shape main entry i (reply.Done (record { 0 = 1 })) old new result e
-    (λ here. went_on means jmax (so_far 7 unit shape main entry i) (so_far 8 unit shape main entry i) client_seat (event.Link (record { 0 = 0 })) (reply.Done (record { 0 = 1 })) old new result here refl (λ r x a. one_link jmax unit shape main entry i r f l a) (few_link jmax (so_far 7 unit shape main entry i) main unit shape i (state_7 unit shape main entry i f)) p) at
+    (λ here. went_on means jmax (so_far 7 unit shape main entry i) (so_far 8 unit shape main entry i) client_seat (event.Link (record { 0 = 0 })) (reply.Done (record { 0 = 1 })) old new result here refl (λ r x a. one_link jmax unit shape main entry i r f l a) (few_link jmax (so_far 7 unit shape main entry i) main unit shape i (state_7 unit shape main entry i f l)) p) at
 
 pub went_finish : {U : Type 0} (means : U → Meaning) (jmax : ℕ) (unit : Meaning) (shape : Shape) (main entry : NameId) (i : ℕ) (old new : List (Entry U)) (result : Result Reply Stop) → IsLone unit shape → offer_named entry unit ≡ Some i →
     plain_history means old ≡ take 8 (whole_run unit shape main entry) → Takes means jmax old new client_seat result →
     WentOn jmax (take 8 (whole_run unit shape main entry)) (take 9 (whole_run unit shape main entry)) (plain_history means new) (reply.Finish (record { 0 = 0 }) (Bound [])) result
 went_finish means jmax unit shape main entry i old new result l e at p = let f = found_at main entry unit i e in
     in_whole means jmax 8 9 unit shape main entry i (reply.Finish (record { 0 = 0 }) (Bound [])) old new result e
-    (λ here. went_on means jmax (so_far 8 unit shape main entry i) (so_far 9 unit shape main entry i) client_seat event.Take (reply.Finish (record { 0 = 0 }) (Bound [])) old new result here refl (λ r x a. one_finish jmax unit shape main entry i r f l a) (few_finish jmax (so_far 8 unit shape main entry i) main unit shape i (state_8 unit shape main entry i f l.alone)) (takes_finish means jmax unit shape main entry i old new result f l here p)) at
+    (λ here. went_on means jmax (so_far 8 unit shape main entry i) (so_far 9 unit shape main entry i) client_seat event.Take (reply.Finish (record { 0 = 0 }) (Bound [])) old new result here refl (λ r x a. one_finish jmax unit shape main entry i r f l a) (few_finish jmax (so_far 8 unit shape main entry i) main unit shape i (state_8 unit shape main entry i f l)) (takes_finish means jmax unit shape main entry i old new result f l here p)) at
 
 pub went_emit : {U : Type 0} (means : U → Meaning) (jmax : ℕ) (unit : Meaning) (shape : Shape) (main entry : NameId) (i : ℕ) (old new : List (Entry U)) (result : Result Reply Stop) → IsLone unit shape → offer_named entry unit ≡ Some i →
     plain_history means old ≡ take 9 (whole_run unit shape main entry) → Performs means jmax old new client_seat (event.Emit (record { 0 = 0 }) (record { members = instances_from 0 unit.offers; deps = [] } ∷ [])) result →
     WentOn jmax (take 9 (whole_run unit shape main entry)) (take 10 (whole_run unit shape main entry)) (plain_history means new) reply.Emitted result
 went_emit means jmax unit shape main entry i old new result l e at p = let f = found_at main entry unit i e in
     in_whole means jmax 9 10 unit shape main entry i reply.Emitted old new result e
-    (λ here. went_on means jmax (so_far 9 unit shape main entry i) (so_far 10 unit shape main entry i) client_seat (event.Emit (record { 0 = 0 }) (record { members = instances_from 0 unit.offers; deps = [] } ∷ [])) reply.Emitted old new result here refl (λ r x a. one_emit jmax unit shape main entry i r f l a) (few_emit jmax (so_far 9 unit shape main entry i) main unit shape i (record { members = instances_from 0 unit.offers; deps = [] } ∷ []) (state_9 unit shape main entry i f l.alone)) p) at
+    (λ here. went_on means jmax (so_far 9 unit shape main entry i) (so_far 10 unit shape main entry i) client_seat (event.Emit (record { 0 = 0 }) (record { members = instances_from 0 unit.offers; deps = [] } ∷ [])) reply.Emitted old new result here refl (λ r x a. one_emit jmax unit shape main entry i r f l a) (few_emit jmax (so_far 9 unit shape main entry i) main unit shape i (record { members = instances_from 0 unit.offers; deps = [] } ∷ []) (state_9 unit shape main entry i f l)) p) at
 
 -- the lookup is there, and settled, when it is collected
 entry_at_10 : (unit : Meaning) (shape : Shape) (main entry : NameId) (i : ℕ) → IsFoundAt unit main entry i → IsLone unit shape → slice_get (state (so_far 10 unit shape main entry i)).queries 0 ≡ Some (entry_query i)
-entry_at_10 unit shape main entry i f l = ap (λ (m : Plain). slice_get m.queries 0) (state_10 unit shape main entry i f l.alone)
+entry_at_10 unit shape main entry i f l = ap (λ (m : Plain). slice_get m.queries 0) (state_10 unit shape main entry i f l)
 
 settled_then : {U : Type 0} (means : U → Meaning) (unit : Meaning) (shape : Shape) (main entry : NameId) (i : ℕ) (h : List (Entry U)) → IsFoundAt unit main entry i → IsLone unit shape → plain_history means h ≡ so_far 10 unit shape main entry i → HasOpen means h (record { 0 = 0 }) → ⊥
 settled_then means unit shape main entry i h f l here o = not_open unit shape main entry i f l (subst (λ q. IsOpen (so_far 10 unit shape main entry i) q) same (subst (λ x. IsOpen x o.query) here o.unsettled))
@@ -160,14 +160,14 @@ pub went_collect : {U : Type 0} (means : U → Meaning) (jmax : ℕ) (unit : Mea
     WentOn jmax (take 10 (whole_run unit shape main entry)) (take 11 (whole_run unit shape main entry)) (plain_history means new) (reply.Found 10 (Some (record { 0 = i }, unit.address i CODE_START) ∷ [])) result
 went_collect means jmax unit shape main entry i old new result l e at p = let f = found_at main entry unit i e in
     in_whole means jmax 10 11 unit shape main entry i (reply.Found 10 (Some (record { 0 = i }, unit.address i CODE_START) ∷ [])) old new result e
-    (λ here. went_on means jmax (so_far 10 unit shape main entry i) (so_far 11 unit shape main entry i) client_seat (event.Collect (record { 0 = 0 })) (reply.Found 10 (Some (record { 0 = i }, unit.address i CODE_START) ∷ [])) old new result here refl (λ r x a. one_collect jmax unit shape main entry i r f l a) (few_collect jmax (so_far 10 unit shape main entry i) main unit shape i (state_10 unit shape main entry i f l.alone)) (collects_performs means jmax old new client_seat (record { 0 = 0 }) result (settled_then means unit shape main entry i old f l here) p)) at
+    (λ here. went_on means jmax (so_far 10 unit shape main entry i) (so_far 11 unit shape main entry i) client_seat (event.Collect (record { 0 = 0 })) (reply.Found 10 (Some (record { 0 = i }, unit.address i CODE_START) ∷ [])) old new result here refl (λ r x a. one_collect jmax unit shape main entry i r f l a) (few_collect jmax (so_far 10 unit shape main entry i) main unit shape i (state_10 unit shape main entry i f l)) (collects_performs means jmax old new client_seat (record { 0 = 0 }) result (settled_then means unit shape main entry i old f l here) p)) at
 
 pub went_image : {U : Type 0} (means : U → Meaning) (jmax : ℕ) (unit : Meaning) (shape : Shape) (main entry : NameId) (i : ℕ) (old new : List (Entry U)) (result : Result Reply Stop) → IsLone unit shape → offer_named entry unit ≡ Some i →
     plain_history means old ≡ take 11 (whole_run unit shape main entry) → Performs means jmax old new client_seat event.Image result →
     WentOn jmax (take 11 (whole_run unit shape main entry)) (take 12 (whole_run unit shape main entry)) (plain_history means new) reply.Image result
 went_image means jmax unit shape main entry i old new result l e at p = let f = found_at main entry unit i e in
     in_whole means jmax 11 12 unit shape main entry i reply.Image old new result e
-    (λ here. went_on means jmax (so_far 11 unit shape main entry i) (so_far 12 unit shape main entry i) client_seat event.Image reply.Image old new result here refl (λ r x a. a) (few_image jmax (so_far 11 unit shape main entry i) main unit shape i (state_11 unit shape main entry i f l.alone)) p) at
+    (λ here. went_on means jmax (so_far 11 unit shape main entry i) (so_far 12 unit shape main entry i) client_seat event.Image reply.Image old new result here refl (λ r x a. a) (few_image jmax (so_far 11 unit shape main entry i) main unit shape i (state_11 unit shape main entry i f l)) p) at
 
 -- a place that gives the lowest base
 abbrev pub LowestOf : Plain → Shape → Result Reply Stop → Type 0

@@ -17,7 +17,7 @@ use Rattle.session_run.specs.Lone.{all_live, IsLone}
 use Rattle.session_run.specs.Whole.{whole_run, offer_named}
 use Rattle.code_memory.specs.Mapped.{byte_at}
 use Rattle.code_memory.specs.declared.image.Segment.{Segment}
-use Rattle.session_model.specs.Answer.{CODE_START}
+use Rattle.orc_ids.specs.declared.limits.TheConstants.{CODE_START}
 use Rattle.session_model.specs.Memory.{memory}
 use Rattle.session_core.specs.Performs.{state_of}
 use Rattle.session_run.specs.declared.run.Run.{Run}

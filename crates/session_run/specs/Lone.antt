@@ -3,21 +3,21 @@ use Rattle.std.specs.Prelude.{◌≡◌, ◌+◌, ◌≤◌, ◌%◌, Bool, true
 use Rattle.orc_ids.specs.declared.ids.InstId.{InstId}
 use Rattle.orc_ids.specs.declared.place.Shape.{Shape}
 use Rattle.session_model.specs.Meaning.{Meaning, IsLawful}
-use Rattle.session_model.specs.Answer.{CODE_START, CODE_END, aligned}
+use Rattle.orc_ids.specs.declared.limits.TheConstants.{CODE_START, CODE_END}
 use Rattle.session_core.specs.Strong.{AreStrong}
 
 -- all names that it offers are its own
 abbrev pub all_live : Meaning → List Bool
 all_live unit = map (λ o. true) unit.offers
 
--- Its names are strong and exported; it fits code memory from its start on; it looks nothing up; its one group depends
--- on nothing; and no edge of it is out of range there.
+-- Its names are strong and exported, and it is no alias; it fits code memory from its start on; it
+-- looks nothing up; its one group depends on nothing; and no edge of it is out of range there.
 pub record IsLone (unit : Meaning) (shape : Shape) : Type 0 where
   pub lawful : IsLawful unit
   pub strong : AreStrong unit.offers
   pub few : length unit.offers ≤ 262144
   pub shaped : unit.shape (all_live unit) ≡ Some shape
-  pub starts : aligned CODE_START shape.align ≡ CODE_START
+  pub own : unit.source ≡ None
   pub divides : CODE_START % shape.align ≡ 0
   pub fits : CODE_START + shape.need ≤ CODE_END
   pub alone : unit.externals (all_live unit) ≡ []

@@ -1,7 +1,7 @@
 //! The calls of a run, one by one. Each is answered by the run's next entry, or stopped.
 
 ghost use Rattle.std.specs.Prelude.{◌≡◌, ◌∷◌, [], ℕ, true, Some, None, OnOk, IfOk, IfErr};
-ghost use Rattle.session_model.specs.Answer.{CODE_START};
+ghost use Rattle.orc_ids.specs.declared.limits.TheConstants.{CODE_START};
 ghost use Rattle.object_unit.specs.Units.{meaning_of};
 ghost use Rattle.session_core.specs.Performs.{state_of};
 ghost use Rattle.session_model.specs.Memory.{memory};

@@ -3,7 +3,7 @@ ghost use Rattle.code_memory.specs.Mapped.{byte_at};
 ghost use Rattle.session_model.specs.Memory.{memory};
 ghost use Rattle.session_model.specs.State.{plain_history};
 ghost use Rattle.session_core.specs.Performs.{state_of};
-ghost use Rattle.session_model.specs.Answer.{CODE_START};
+ghost use Rattle.orc_ids.specs.declared.limits.TheConstants.{CODE_START};
 ghost use Rattle.object_unit.specs.Units.{meaning_of, StandsAlone};
 ghost use Rattle.session_run.specs.Drive.{IsLoneRun, IsAloneRun, main_of, entry_of, IsAt, IsStopped, HasLooked, entry_match, is_offered, unit_of};
 ghost use Rattle.session_run.specs.Lone.{all_live};

@@ -77,6 +77,14 @@ fn units_that_are_handed_in(rt: HostRuntime) -> Result<(), Fail> {
         Reply::NoDylib(d),
         b"1 s12 define d1 t2 a0 = nodylib d1\n",
     )?;
+    let alias = Event::Define(d, t, Named(UnitName::Alias(12)));
+    says(
+        &rt,
+        alloc,
+        alias,
+        Reply::Defined(UnitId(1), InstId(1), 1),
+        b"1 s12 define d1 t2 l12 = defined u1 i1 1\n",
+    )?;
     let generate = Event::Generate(GenId(5));
     says(
         &rt,
@@ -193,6 +201,7 @@ fn causes_of_a_failure(rt: HostRuntime) -> Result<(), Fail> {
         ),
         (Why::Missing(NOSUCH), b"missing nosuch"),
         (Why::InError(InstId(3)), b"inerror i3"),
+        (Why::AliasCycle(InstId(0)), b"aliascycle i0"),
         (Why::BadDep(InstId(2)), b"baddep i2"),
         (Why::NoRoom(48), b"noroom 48"),
         (Why::NoMemory, b"nomemory"),

@@ -44,6 +44,7 @@ fn of_lookups(rt: HostRuntime) -> Result<(), Fail> {
     let (q, i) = (QueryId(9), InstId(0));
     replies(&rt, alloc, Reply::Offer(GenId(0)), b"offer g0")?;
     replies(&rt, alloc, Reply::InError(i), b"inerror i0")?;
+    replies(&rt, alloc, Reply::AliasCycle(InstId(7)), b"aliascycle i7")?;
     replies(&rt, alloc, Reply::Unknown(q), b"unknown q9")?;
     replies(&rt, alloc, Reply::Open, b"open")?;
     replies(&rt, alloc, Reply::Lost(25, i), b"failed 25 i0")?;

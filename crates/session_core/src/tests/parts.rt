@@ -34,6 +34,7 @@ impl UnitKind for Part {
       offers = (u.name, record { weak = false; common = false; exported = true; callable = true }) ∷ [];
       shape = λ live. Some (record { need = u.mebibytes * 1048576 + 1; align = 16 });
       address = λ k base. base;
+      source = None;
       externals = λ live. record { name = u.wants; weak = false } ∷ [];
       image = λ live base bound. replicate (u.mebibytes * 1048576 + 1) 7;
       groups = λ live base bound own. record { members = own; deps = [] } ∷ [];
@@ -54,6 +55,10 @@ impl UnitKind for Part {
             callable: true,
         };
         (self.name, flags)
+    }
+
+    fn source(&self) -> Option<DylibId> {
+        None
     }
 
     fn share(&self, _alloc: Global) -> Result<Part, AllocError> {

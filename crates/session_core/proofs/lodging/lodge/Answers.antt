@@ -15,7 +15,6 @@ returns g c =
       entries = refl;
       dylibs = refl;
       trackers = refl;
-      taken = refl;
       held = refl;
       search = refl;
       claims = rw c.deref.ensures.value at (e.claims (meant means c.args.t.now));

@@ -1,6 +1,6 @@
 use Rattle.session_model.specs.declared.entry.Event.TheVariants as event
 use Rattle.session_core.specs.Meant.{meant}
-use Rattle.session_core.proofs.PlacedUnits.{same_steps, still_stored, turned_lowest}
+use Rattle.session_core.proofs.PlacedUnits.{still_stored, turned_lowest}
 use Rattle.session_core.proofs.stores.step_place.Goals as goal
 
 pub returns-in_ok-step_turned_away-in-Some-clause-lowest : goal.returns-in_ok-step_turned_away-in-Some-clause-lowest
@@ -8,6 +8,3 @@ returns-in_ok-step_turned_away-in-Some-clause-lowest g c = turned_lowest (meant 
 
 pub returns-in_ok-step_turned_away-in-Some-clause-stored : goal.returns-in_ok-step_turned_away-in-Some-clause-stored
 returns-in_ok-step_turned_away-in-Some-clause-stored g c = still_stored g.U.UnitKind.meaning c.args.s (event.Place c.args.u c.args.shape) c.in_ok-step_turned_away-in-Some.field-0.reply c.args.t.now c.step_turned_away.new.self c.args.space.now c.requires.ends c.in_ok-step_turned_away-in-Some.ensures.steps c.in_ok-step_turned_away-in-Some.ensures.keeps c.requires.stored
-
-pub returns-in_ok-place_unit-in-None-clause-steps : goal.returns-in_ok-place_unit-in-None-clause-steps
-returns-in_ok-place_unit-in-None-clause-steps g c = same_steps g.U.UnitKind.meaning c.args.s (event.Place c.args.u c.args.shape) c.in_ok-place_unit-in-None.field-0.reply c.args.t.now c.room_to_place.new.self c.place_unit.new.t c.room_to_place.ensures.same c.in_ok-place_unit-in-None.ensures.steps

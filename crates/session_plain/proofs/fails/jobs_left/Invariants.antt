@@ -1,6 +1,6 @@
 use Rattle.std.proofs.Common.{◌≡◌, ◌++◌, drop, map, filter}
 use Rattle.session_plain.specs.Meant.{unit_row}
-use Rattle.session_plain.specs.Work.{stays_listed}
+use Rattle.session_plain.specs.Rows.{stays_listed}
 use Rattle.session_plain.proofs.fails.jobs_left.Given as goal
 
 abbrev pub invariant-loop-job : goal.invariant-loop-job

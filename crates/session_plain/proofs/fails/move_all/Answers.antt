@@ -1,8 +1,8 @@
 use Rattle.std.proofs.Common.{rules}
 use Rattle.session_plain.specs.Meant.{gen_row}
-use Rattle.session_plain.specs.Work.{moved_gen}
+use Rattle.session_model.specs.Change.{moved_generator}
 use Rattle.session_plain.proofs.ListLemmas.{seen_more}
 use Rattle.session_plain.proofs.fails.move_all.Goals as goal
 
 pub loop-g-preserved : goal.loop-g-preserved
-loop-g-preserved g c = seen_more (gen_row g.U.UnitKind.meaning) (moved_gen c.args.t.0 c.args.to.0) c.loop-g.g-index c.args.generators.now c.loop-g.generators c.g-item.result c.move_one.new.g c.loop-g.invariant (search rules) (search (rules, c.move_one.ensures))
+loop-g-preserved g c = seen_more (gen_row g.U.UnitKind.meaning) (moved_generator c.args.t.0 c.args.to.0) c.loop-g.g-index c.args.generators.now c.loop-g.generators c.g-item.result c.move_one.new.g c.loop-g.invariant (search rules) (search (rules, c.move_one.ensures))

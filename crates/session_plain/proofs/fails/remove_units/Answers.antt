@@ -1,6 +1,6 @@
 use Rattle.std.proofs.Common.{rules}
 use Rattle.session_plain.specs.Meant.{unit_row}
-use Rattle.session_plain.specs.Work.{removed_unit}
+use Rattle.session_model.specs.Change.{removed_unit}
 use Rattle.session_plain.proofs.ListLemmas.{seen_more}
 use Rattle.session_plain.proofs.fails.remove_units.Goals as goal
 

@@ -1,6 +1,6 @@
 use Rattle.std.proofs.Common.{◌≡◌, ◌++◌, take, drop, map}
 use Rattle.session_plain.specs.Meant.{unit_row}
-use Rattle.session_plain.specs.Work.{removed_unit}
+use Rattle.session_model.specs.Change.{removed_unit}
 use Rattle.session_plain.proofs.fails.remove_units.Given as goal
 
 abbrev pub invariant-loop-x : goal.invariant-loop-x

@@ -1,9 +1,9 @@
 use Rattle.std.proofs.Common.{◌≡◌, ◌++◌, take, drop, map}
 use Rattle.session_plain.specs.Meant.{gen_row}
-use Rattle.session_plain.specs.Work.{spent_by}
+use Rattle.session_model.specs.Change.{removed_generator}
 use Rattle.session_plain.proofs.fails.spend_all.Given as goal
 
 abbrev pub invariant-loop-g : goal.invariant-loop-g
 invariant-loop-g g l =
     let seen = gen_row g.U.UnitKind.meaning in
-    map seen l.generators ≡ map (spent_by l.t.0) (map seen (take l.g-index l.initial.generators)) ++ map seen (drop l.g-index l.initial.generators)
+    map seen l.generators ≡ map (removed_generator l.t.0) (map seen (take l.g-index l.initial.generators)) ++ map seen (drop l.g-index l.initial.generators)

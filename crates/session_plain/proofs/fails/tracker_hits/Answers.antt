@@ -11,8 +11,8 @@ returns g c =
     (unready_tests c.args.rows.now test c.in_ok-waiting.waiting.items c.in_ok-roots.roots.items c.in_ok-waiting.ensures (rw c.deref.ensures.value at c.in_ok-roots.ensures))
     (λ t a. c.in_ok-hit.ensures t (rw c.deref-2.ensures.value a))
 
-pub reaching-requires : goal.reaching-requires
-reaching-requires g c =
+pub reaching_by_deps-requires : goal.reaching_by_deps-requires
+reaching_by_deps-requires g c =
     let test = is_tracked_row (map (unit_row g.U.UnitKind.meaning) c.args.units.now) c.args.t.0 in
     rw c.deref-2.ensures.value
     (unready_tests c.args.rows.now test c.in_ok-waiting.waiting.items c.in_ok-roots.roots.items c.in_ok-waiting.ensures (rw c.deref.ensures.value at c.in_ok-roots.ensures)).inside

@@ -1,26 +1,101 @@
--- The next base is aligned and at the end of the ranges or above it.
-use Rattle.std.proofs.Common.{◌≡◌, ◌∙◌, ◌++◌, ◌∷◌, [], Some, None, length, sym, ap, refl, subst, arith}
-use Rattle.std.specs.Prelude.{find}
-use Rattle.code_memory.specs.Places.{is_of, placement_of}
-use Rattle.code_memory.specs.Slots.{kept}
-use Rattle.code_memory.proofs.Tied.{IsAdded, tied_push, shown_push, if_not_err}
+-- The first gap that the shape fits into gives the lowest free base, and the range comes out of it.
+use Rattle.std.proofs.Common.{◌≡◌, ◌∙◌, ◌+◌, ◌<◌, ℕ, List, Some, None, refl, sym, ap, subst, arith}
+use Rattle.std.specs.Prelude.{vec_capacity}
+use Rattle.std.specs.Int.{IsPowerOfTwo}
+use Rattle.std.specs.Map.{values_of}
+use Rattle.orc_ids.specs.declared.limits.TheConstants.{CODE_START}
+use Rattle.orc_ids.specs.declared.place.Shape.{Shape}
+use Rattle.code_memory.specs.declared.gaps.Gap.{Gap}
+use Rattle.code_memory.specs.declared.placement.Placement.{Placement}
+use Rattle.code_memory.specs.Gaps.{first_fit, with_rest}
+use Rattle.code_memory.specs.Kept.{AreGaps}
+use Rattle.code_memory.specs.Places.{placement_of, AreLaidOut, IsFull, IsLowestFree}
+use Rattle.code_memory.proofs.Fits.{IsFit, lowest_free}
+use Rattle.code_memory.proofs.Tied.{found, missed, new, fit_cut, shown_place, tied_place, gaps_few, power_some, fit_within, if_not_err}
 use Rattle.code_memory.proofs.space.Space.place.Goals as goal
 
-pub invariant_of-self-2 : goal.invariant_of-self-2
-invariant_of-self-2 c =
-    let slots = c.self.inside.slots in
-    let free : find (is_of c.args.u) (kept slots.items) ≡ None = subst (λ m. placement_of m c.args.u ≡ None) (sym c.self.view_is) c.requires.absent in
-    let updates = if_not_err c.insert.result _ c.insert.ensures.updates (sym c.is_err-else-is_err.ensures.value ∙ c.if-is_err-2.false) in
-    let len : c.len-slot.result ≡ length slots.items = omega (arith, c.len-slot.ensures, slots.ok.0) in
-    let added : IsAdded c.args.u.0 (length slots.items) c.self.inside.index c.insert.new.self = subst (λ n. IsAdded c.args.u.0 n c.self.inside.index c.insert.new.self) len updates.0 in
-    rw (c.push_reserved.ensures.items, c.reserve.ensures.items)
-    (tied_push (record { unit = c.args.u; base = c.next_multiple_of-base.result; shape = c.args.shape; bytes = None }) slots.items c.self.inside.index c.insert.new.self c.self.inside.end c.self.invariant free refl
-    c.next_multiple_of-base.ensures.lower_bound c.requires.need (omega arith) c.next_multiple_of-base.ensures.multiple added)
+-- what the search for a gap told
+fit : (gaps now : List Gap) (last : ℕ) (ps : List Placement) (shape : Shape) (at base : ℕ) → AreLaidOut ps → AreGaps gaps last ps → 0 < shape.need → IsPowerOfTwo shape.align → now ≡ gaps → Some (at, base) ≡ first_fit shape 0 (with_rest now last) → IsFit CODE_START ps shape 0 at base
+fit gaps now last ps shape at base laid filled some align same is =
+    found gaps last ps shape at base laid filled some (power_some shape.align align) (ap (λ gs. first_fit shape 0 (with_rest gs last)) (sym same) ∙ sym is)
+
+pub returns-in_default-clause-refused : goal.returns-in_default-clause-refused
+returns-in_default-clause-refused c =
+    let s = c.self.inside in
+    let none : first_fit c.args.shape 0 (with_rest s.gaps.items s.last) ≡ None = ap (λ gs. first_fit c.args.shape 0 (with_rest gs s.last)) (sym c.as_slice.ensures.value) ∙ sym c.in_default.ensures in
+    (refl, subst (λ m. IsFull m c.args.shape) c.self.view_is (missed s.gaps.items s.last (values_of s.placed.entries) c.args.shape c.self.invariant.laid_out c.self.invariant.filled c.requires.need (power_some c.args.shape.align c.requires.align) none))
+
+pub overflow_sub-room : goal.overflow_sub-room
+overflow_sub-room c =
+    let s = c.self.inside in
+    omega (arith, gaps_few s.placed.entries s.bases s.gaps.items (vec_capacity s.gaps) s.last c.self.invariant, s.gaps.ok.0)
+
+pub returns-then-is_err-clause-refused : goal.returns-then-is_err-clause-refused
+returns-then-is_err-clause-refused c =
+    let s = c.self.inside in
+    let f = fit s.gaps.items c.as_slice.result.now s.last (values_of s.placed.entries) c.args.shape c.in-Some.at c.in-Some.base c.self.invariant.laid_out c.self.invariant.filled c.requires.need c.requires.align c.as_slice.ensures.value c.in-Some.ensures in
+    (c.in-Some.base, (subst (λ m. IsLowestFree m c.args.shape c.in-Some.base) c.self.view_is (lowest_free (values_of s.placed.entries) c.args.shape c.in-Some.at c.in-Some.base c.self.invariant.laid_out.apart f)).free)
+
+pub returns-then-is_err-2-clause-refused : goal.returns-then-is_err-2-clause-refused
+returns-then-is_err-2-clause-refused c =
+    let s = c.self.inside in
+    let f = fit s.gaps.items c.as_slice.result.now s.last (values_of s.placed.entries) c.args.shape c.in-Some.at c.in-Some.base c.self.invariant.laid_out c.self.invariant.filled c.requires.need c.requires.align c.as_slice.ensures.value c.in-Some.ensures in
+    (c.in-Some.base, (subst (λ m. IsLowestFree m c.args.shape c.in-Some.base) c.self.view_is (lowest_free (values_of s.placed.entries) c.args.shape c.in-Some.at c.in-Some.base c.self.invariant.laid_out.apart f)).free)
+
+pub overflow_add-base : goal.overflow_add-base
+overflow_add-base c =
+    let s = c.self.inside in
+    let f = fit s.gaps.items c.as_slice.result.now s.last (values_of s.placed.entries) c.args.shape c.in-Some.at c.in-Some.base c.self.invariant.laid_out c.self.invariant.filled c.requires.need c.requires.align c.as_slice.ensures.value c.in-Some.ensures in
+    let w = fit_within (values_of s.placed.entries) c.args.shape s.gaps.items s.last c.in-Some.at c.in-Some.base c.self.invariant.laid_out c.self.invariant.filled f in
+    omega (arith, w.0)
+
+pub take_out-self-inside-requires-clause-at : goal.take_out-self-inside-requires-clause-at
+take_out-self-inside-requires-clause-at c =
+    let s = c.self.inside in
+    let f = fit s.gaps.items c.as_slice.result.now s.last (values_of s.placed.entries) c.args.shape c.in-Some.at c.in-Some.base c.self.invariant.laid_out c.self.invariant.filled c.requires.need c.requires.align c.as_slice.ensures.value c.in-Some.ensures in
+    let w = fit_within (values_of s.placed.entries) c.args.shape s.gaps.items s.last c.in-Some.at c.in-Some.base c.self.invariant.laid_out c.self.invariant.filled f in
+    omega (arith, w.2, s.gaps.ok.0, c.reserve.ensures.len)
+
+pub take_out-self-inside-requires-clause-room : goal.take_out-self-inside-requires-clause-room
+take_out-self-inside-requires-clause-room c =
+    let s = c.self.inside in
+    let room = if_not_err c.reserve.result _ c.reserve.ensures.ok (sym c.is_err.ensures.value ∙ c.if-is_err.false) in
+    omega (arith, room, c.reserve.ensures.len, c.len.ensures.len, c.len-2.ensures, gaps_few s.placed.entries s.bases s.gaps.items (vec_capacity s.gaps) s.last c.self.invariant, s.gaps.ok.0)
+
+pub returns-clause-lowest : goal.returns-clause-lowest
+returns-clause-lowest c =
+    let s = c.self.inside in
+    let f = fit s.gaps.items c.as_slice.result.now s.last (values_of s.placed.entries) c.args.shape c.in-Some.at c.in-Some.base c.self.invariant.laid_out c.self.invariant.filled c.requires.need c.requires.align c.as_slice.ensures.value c.in-Some.ensures in
+    subst (λ m. IsLowestFree m c.args.shape c.in-Some.base) c.self.view_is (lowest_free (values_of s.placed.entries) c.args.shape c.in-Some.at c.in-Some.base c.self.invariant.laid_out.apart f)
 
 pub returns-clause-ok : goal.returns-clause-ok
 returns-clause-ok c =
-    shown_push c.args.u c.args.shape c.self.inside.slots.items c.push_reserved.new.self.items c.self.inside.end c.next_multiple_of-base.result c.args.self.now c.self.view_is c.next_multiple_of-base.ensures.value
-    (c.push_reserved.ensures.items ∙ ap (λ xs. xs ++ Some (record { unit = c.args.u; base = c.next_multiple_of-base.result; shape = c.args.shape; bytes = None }) ∷ []) c.reserve.ensures.items)
+    let s = c.self.inside in
+    let f = fit s.gaps.items c.as_slice.result.now s.last (values_of s.placed.entries) c.args.shape c.in-Some.at c.in-Some.base c.self.invariant.laid_out c.self.invariant.filled c.requires.need c.requires.align c.as_slice.ensures.value c.in-Some.ensures in
+    let went = sym c.is_err-2.ensures.value ∙ c.if-is_err-2.false in
+    let stored = if_not_err c.record.result _ c.record.ensures.placed went in
+    let known = if_not_err c.record.result _ c.record.ensures.bases went in
+    let cut = fit_cut (values_of s.placed.entries) c.args.u c.args.shape c.in-Some.at c.in-Some.base (c.in-Some.base + c.args.shape.need) c.self.invariant.laid_out c.requires.need refl f in
+    let shown = shown_place c.args.u c.args.shape s.placed.entries c.record.new.placed.entries s.bases s.gaps.items (vec_capacity s.gaps) s.last c.in-Some.at c.in-Some.base (c.in-Some.base + c.args.shape.need) c.args.self.now c.self.invariant c.self.view_is f cut stored in
+    shown.1
+
+pub invariant_of-self-2 : goal.invariant_of-self-2
+invariant_of-self-2 c =
+    let s = c.self.inside in
+    let f = fit s.gaps.items c.as_slice.result.now s.last (values_of s.placed.entries) c.args.shape c.in-Some.at c.in-Some.base c.self.invariant.laid_out c.self.invariant.filled c.requires.need c.requires.align c.as_slice.ensures.value c.in-Some.ensures in
+    let w = fit_within (values_of s.placed.entries) c.args.shape s.gaps.items s.last c.in-Some.at c.in-Some.base c.self.invariant.laid_out c.self.invariant.filled f in
+    let went = sym c.is_err-2.ensures.value ∙ c.if-is_err-2.false in
+    let stored = if_not_err c.record.result _ c.record.ensures.placed went in
+    let known = if_not_err c.record.result _ c.record.ensures.bases went in
+    let cut = fit_cut (values_of s.placed.entries) c.args.u c.args.shape c.in-Some.at c.in-Some.base (c.in-Some.base + c.args.shape.need) c.self.invariant.laid_out c.requires.need refl f in
+    let shown = shown_place c.args.u c.args.shape s.placed.entries c.record.new.placed.entries s.bases s.gaps.items (vec_capacity s.gaps) s.last c.in-Some.at c.in-Some.base (c.in-Some.base + c.args.shape.need) c.args.self.now c.self.invariant c.self.view_is f cut stored in
+    let absent = subst (λ m. placement_of m c.args.u ≡ None) (sym c.self.view_is) c.requires.absent in
+    let gaps = subst (λ gs. AreGaps gs s.last (values_of s.placed.entries)) (sym c.reserve.ensures.items) c.self.invariant.filled in
+    let left = c.take_out-self-inside.ensures.gaps f.front (new c.args.u c.args.shape c.in-Some.base) f.back cut (subst (AreGaps c.reserve.new.self.items s.last) f.split gaps) w.1 in
+    let room = if_not_err c.reserve.result _ c.reserve.ensures.ok (sym c.is_err.ensures.value ∙ c.if-is_err.false) in
+    tied_place c.args.u c.args.shape s.placed.entries c.record.new.placed.entries s.bases c.record.new.bases s.gaps.items c.take_out-self-inside.new.gaps.items (vec_capacity s.gaps) (vec_capacity c.take_out-self-inside.new.gaps) s.last c.take_out-self-inside.result
+    c.in-Some.at c.in-Some.base (c.in-Some.base + c.args.shape.need) c.self.invariant absent f cut shown.0 known left
+    (omega (arith, room, c.take_out-self-inside.ensures.capacity, c.reserve.ensures.len, c.len.ensures.len, c.len-2.ensures, gaps_few s.placed.entries s.bases s.gaps.items (vec_capacity s.gaps) s.last c.self.invariant, s.gaps.ok.0))
 
 pub returns-clause-laid_out : goal.returns-clause-laid_out
 returns-clause-laid_out c = (invariant_of-self-2 c).laid_out

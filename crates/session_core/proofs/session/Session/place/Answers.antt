@@ -1,7 +1,8 @@
 use Rattle.std.proofs.Common.{◌≡◌, Some, subst, sym, refl, rules}
 use Rattle.session_model.specs.declared.entry.Event.TheVariants as event
 use Rattle.session_model.specs.Plain.{UnitRow}
-use Rattle.session_model.specs.Answer.{called, Right, unit_shape}
+use Rattle.session_model.specs.Answer.{called, Right}
+use Rattle.session_model.specs.Plain.{unit_shape}
 use Rattle.session_core.specs.Replies.{may_place}
 use Rattle.session_core.specs.Performs.{state_of}
 use Rattle.session_core.proofs.Counts.{can_be_numbered}

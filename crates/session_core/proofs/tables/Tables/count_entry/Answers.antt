@@ -1,5 +1,5 @@
 use Rattle.std.proofs.Common.{refl}
-use Rattle.session_model.specs.Change.{Nothing}
+use Rattle.session_model.specs.declared.change.Change.TheVariants.{Nothing}
 use Rattle.session_core.proofs.Calm.{waits_same}
 use Rattle.session_core.proofs.KeptUnits.{same_units}
 use Rattle.session_core.proofs.QuietSteps.{quiet_step}

@@ -35,4 +35,4 @@ returns-clause-moves g c =
     let deps = subst (λ n. HasDeps c.args.groups.now c.index-x.result.now.first n c.in_ok-table.table.items) (sym c.in_ok-table.ensures.inside) c.in_ok-table.ensures in
     let held = emit_held (meant g.U.UnitKind.meaning old) c.args.seat.0 c.args.u c.args.groups.now c.requires.answer in
     emit_moves g.U.UnitKind.meaning old (record old { entries = old.entries + 1; rows = c.emit_rows.new.rows; units = c.end_in.new.units; held = old.held - 1 }) c.settle.new.self c.args.seat.0 c.args.u c.args.groups.now c.requires.tied c.requires.reached c.requires.numbered c.requires.answer
-    (c.emit_rows.ensures c.args.groups.now deps) c.end_in.ensures.rows c.end_in.ensures.same refl refl refl refl refl refl refl (omega (arith, held, c.requires.tied.held)) c.settle.ensures
+    (c.emit_rows.ensures c.args.groups.now deps) c.end_in.ensures.rows c.end_in.ensures.same refl refl refl refl refl refl (omega (arith, held, c.requires.tied.held)) c.settle.ensures

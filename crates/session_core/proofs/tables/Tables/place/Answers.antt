@@ -1,8 +1,8 @@
 use Rattle.std.proofs.Common.{◌+◌, List, refl, ap, ◌∙◌}
 use Rattle.session_model.specs.Lists.{changed_at}
 use Rattle.session_model.specs.Plain.{Plain, UnitRow}
-use Rattle.session_model.specs.Change.{Place, changed}
-use Rattle.session_model.specs.declared.rows.Range.{Range}
+use Rattle.session_model.specs.Change.{changed}
+use Rattle.session_model.specs.declared.change.Change.TheVariants.{Place}
 use Rattle.session_core.specs.Meant.{meant}
 use Rattle.session_core.specs.Units.{placed_at}
 use Rattle.session_core.proofs.Calm.{waits_changed}
@@ -21,10 +21,9 @@ returns g c =
     let f = placed_at c.args.base in
     let m : Plain = meant g.U.UnitKind.meaning c.args.self.now in
     record {
-      moves = quiet_step g.U.UnitKind.meaning (Place u c.args.shape c.args.base) c.args.self.now _ t c.requires.reached
-          (ap (λ (us : List UnitRow). record m { entries = m.entries + 1; units = us; taken = c.push_reserved.new.self.items }) c.place_in.ensures.rows
-          ∙ ap (λ (ranges : List Range). record m { entries = m.entries + 1; units = changed_at u f m.units; taken = ranges }) c.push_reserved.ensures.items)
+      moves = quiet_step g.U.UnitKind.meaning (Place c.args.u c.args.base) c.args.self.now _ t c.requires.reached
+          (ap (λ (us : List UnitRow). record m { entries = m.entries + 1; units = us }) c.place_in.ensures.rows)
           refl refl (waits_changed m.units u f (λ y e. absurd cc)) c.place_in.ensures.same refl refl refl refl c.requires.numbered t.sized.trackers
-          (t.held ∙ kept_same m (changed (Place u c.args.shape c.args.base) m) u f x.0 refl x.1 refl)
+          (t.held ∙ kept_same m (changed (Place c.args.u c.args.base) m) u f x.0 refl x.1 refl)
           t.finishes;
     }

@@ -33,5 +33,5 @@ returns g c =
     record {
       moves = resolve_moves means old (record old { entries = old.entries + 1; rows = c.resolve_rows.new.rows; units = c.resolve_in.new.units }) c.settle.new.self c.args.seat.0 c.args.u c.index.result.now c.requires.tied c.requires.reached c.requires.numbered c.requires.answer there
           c.resolve_rows.ensures
-          c.resolve_in.ensures.rows c.resolve_in.ensures.same refl refl refl refl refl refl refl refl c.settle.ensures;
+          c.resolve_in.ensures.rows c.resolve_in.ensures.same refl refl refl refl refl refl refl c.settle.ensures;
     }

@@ -25,6 +25,6 @@ returns-clause-steps g c =
     let is : c.in_ok-said.said.reply ≡ answer_ask (meant means mid) c.args.order.now c.args.wanted.now c.args.level =
     c.in_ok-said.ensures.reply ∙ c.in_ok-reply.ensures.reply ∙ ap (λ (m : Plain). answer_ask m c.args.order.now c.args.wanted.now c.args.level) (sym same.meant) in
     steps_from_same means c.args.s (event.Ask c.args.order.now c.args.wanted.now c.args.level c.args.note) c.in_ok-said.said.reply c.args.self.now mid c.if-is_lodged.self same (elim c.if-is_lodged.branch [
-      | then-is_lodged+in_ok-ask w ↦ ask_made means c.args.s c.args.order.now c.args.wanted.now c.args.level c.args.note c.in_ok-said.said.reply mid c.if-is_lodged.self is (search rules) (search rules)
-      | else-is_lodged w ↦ ask_told means c.args.s c.args.order.now c.args.wanted.now c.args.level c.args.note c.in_ok-said.said.reply mid c.if-is_lodged.self is (search rules) (search rules)
+      | then-is_lodged+in_ok-ask w ↦ ask_made means c.args.s c.args.order.now c.args.wanted.now c.args.level c.args.note c.in_ok-said.said.reply mid c.if-is_lodged.self c.requires.order c.requires.wanted is (search rules) (search rules)
+      | else-is_lodged w ↦ ask_told means c.args.s c.args.order.now c.args.wanted.now c.args.level c.args.note c.in_ok-said.said.reply mid c.if-is_lodged.self c.requires.order c.requires.wanted is (search rules) (search rules)
     ])

@@ -13,4 +13,5 @@ returns c = record {
   deps = λ live base bound own fits. search rules;
   shape = λ live. ((omega arith), (4, refl));
   image = λ live base bound. length-replicate {A = ℕ} 48 7;
+  alias = tt;
 }

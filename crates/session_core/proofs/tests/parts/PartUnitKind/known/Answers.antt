@@ -13,4 +13,5 @@ returns c = record {
   deps = λ live base bound own fits. search rules;
   shape = λ live. ((omega arith), (4, refl));
   image = λ live base bound. length-replicate {A = ℕ} (c.args.self.now.mebibytes * 1048576 + 1) 7;
+  alias = tt;
 }

@@ -1,0 +1,122 @@
+ghost use Rattle.std.specs.Prelude.{◌≡◌, ℕ, List, ◌+◌, ◌<◌, ◌≤◌, ◌∷◌, [], ◌++◌, cond, Some, None, length, vec_len, vec_capacity, nat_eq, IsSome, IfOk, OnOk, OnErr};
+ghost use Rattle.std.specs.Ordering.{nat_cmp};
+ghost use Rattle.std.specs.List.Sorted.{IsNonDecreasingBy};
+ghost use Rattle.std.specs.HashMap.{get};
+ghost use Rattle.std.specs.Map.{remove_entry, set_value};
+ghost use Rattle.std.specs.BTreeMap as tree;
+ghost use Rattle.orc_ids.specs.declared.limits.TheConstants.{CODE_START, CODE_END};
+ghost use Rattle.code_memory.specs.Gaps.{gaps_below, last_end, end_of};
+ghost use Rattle.code_memory.specs.Kept.{AreGaps, IsCut};
+ghost use Rattle.code_memory.specs.Places.{AreBetween, deposits};
+ghost use Rattle.code_memory.specs.declared.placement.Placement.{Placement};
+
+use crate::gaps::{Gap, add_gap, count_below, take_ending, take_starting};
+use crate::image::Segment;
+use crate::placement::Placement;
+use orc_ids::Bytes;
+use std::alloc::{AllocError, Global};
+use std::collections::{BTreeMap, HashMap};
+
+/// Keeps a placement at its base, and the base at its unit.
+pub(crate) fn record(
+    placed: &mut BTreeMap<u64, Placement>,
+    bases: &mut HashMap<u32, u64>,
+    placement: Placement,
+) -> Result<(), AllocError>
+    ensures placed { OnOk result (placed.new.entries ≡ tree.insert_entry nat_cmp placed.old.entries placement.base placement) }
+    ensures bases { OnOk result ((u : ℕ) → get nat_eq bases.new u ≡ cond (nat_eq placement.unit.0 u) (Some placement.base) (get nat_eq bases.old u)) }
+    ensures err { OnErr result ((placed.new.entries ≡ placed.old.entries) × ((u : ℕ) → get nat_eq bases.new u ≡ get nat_eq bases.old u)) }
+{
+    let unit = placement.unit.0;
+    let base = placement.base;
+    bases.reserve(1)?;
+    placed.insert(base, placement)?;
+    bases.insert(unit, base)?;
+    Ok(())
+}
+
+/// Gives the placement at a base its bytes.
+pub(crate) fn fill(placed: &mut BTreeMap<u64, Placement>, base: u64, bytes: Bytes)
+    ensures { (p : Placement) → tree.get nat_cmp placed.old base ≡ Some p → placed.new.entries ≡ set_value (tree.is_at (nat_cmp base)) placed.old.entries (record p { bytes = Some bytes }) }
+{
+    if let Some(placement) = placed.get_mut(&base) {
+        placement.bytes = Some(bytes);
+    }
+}
+
+/// Takes out the placement at a base, and tells how long its range is.
+pub(crate) fn take_at(placed: &mut BTreeMap<u64, Placement>, base: u64) -> u64
+    ensures entries { placed.new.entries ≡ remove_entry (tree.is_at (nat_cmp base)) placed.old.entries }
+    ensures need { (p : Placement) → tree.get nat_cmp placed.old base ≡ Some p → result ≡ p.shape.need }
+{
+    match placed.remove(&base) {
+        Some(placement) => placement.shape.need,
+        None => 0,
+    }
+}
+
+/// Takes a range out of the gap number `at`, where the number after those of the gaps stands for
+/// what is above the last range. The answer is where the last range ends then.
+pub(crate) fn take_out(gaps: &mut Vec<Gap>, last: u64, at: usize, base: u64, end: u64) -> u64
+    requires at { at ≤ vec_len gaps.old }
+    requires room { vec_len gaps.old + 1 < vec_capacity gaps.old }
+    ensures gaps { (low : List Placement) (p : Placement) (high : List Placement) → IsCut low p high base end → AreGaps gaps.old.items last (low ++ high) → at ≡ length (gaps_below CODE_START low) → AreGaps gaps.new.items result (low ++ p ∷ high) }
+    ensures capacity { vec_capacity gaps.new ≡ vec_capacity gaps.old }
+{
+    if at == gaps.len() {
+        add_gap(gaps, at, last, base);
+        return end;
+    }
+    let gap = gaps.remove(at);
+    add_gap(gaps, at, end, gap.end);
+    add_gap(gaps, at, gap.start, base);
+    last
+}
+
+/// Gives a range back. The answer is where the last range that is left ends.
+pub(crate) fn give_back(gaps: &mut Vec<Gap>, last: u64, base: u64, end: u64) -> u64
+    requires room { vec_len gaps.old < vec_capacity gaps.old }
+    requires rising { IsNonDecreasingBy (λ g. g.end) gaps.old.items }
+    ensures gaps { (low : List Placement) (p : Placement) (high : List Placement) → IsCut low p high base end → AreGaps gaps.old.items last (low ++ p ∷ high) → AreGaps gaps.new.items result (low ++ high) }
+    ensures capacity { vec_capacity gaps.new ≡ vec_capacity gaps.old }
+{
+    let at = count_below(gaps.as_slice(), base);
+    let start = take_ending(gaps, at, base);
+    if end == last {
+        return start;
+    }
+    let top = take_starting(gaps, at, end);
+    add_gap(gaps, at, start, top);
+    last
+}
+
+/// The deposited ranges.
+pub(crate) fn copy_deposits(
+    alloc: Global,
+    placed: &BTreeMap<u64, Placement>,
+) -> Result<Vec<Segment>, AllocError>
+    ensures { IfOk result (λ copies. copies.items ≡ deposits (tree.values placed.now)) }
+{
+    let mut copies = Vec::new(alloc);
+    for placement in placed.values() {
+        push_copy(alloc, &mut copies, placement)?;
+    }
+    Ok(copies)
+}
+
+/// Adds the range of a placement, if it has bytes.
+fn push_copy(
+    alloc: Global,
+    copies: &mut Vec<Segment>,
+    placement: &Placement,
+) -> Result<(), AllocError>
+    ensures { IfOk result (λ _. copies.new.items ≡ copies.old.items ++ deposits (placement.now ∷ [])) }
+{
+    if let Some(bytes) = &placement.bytes {
+        copies.push(Segment {
+            base: placement.base,
+            bytes: Bytes::copy_of(alloc, bytes.as_slice())?,
+        })?;
+    }
+    Ok(())
+}

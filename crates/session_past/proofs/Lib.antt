@@ -1,0 +1,4 @@
+pub mod EndLemmas
+pub mod TakeLemmas
+pub mod CauseLemmas
+pub mod FitLemmas

@@ -1,5 +1,0 @@
-use Rattle.session_plain.proofs.FitLemmas.{empty_is_fit}
-use Rattle.session_plain.proofs.fits.empty_is_fit.Goals as goal
-
-pub returns : goal.returns
-returns c = empty_is_fit
