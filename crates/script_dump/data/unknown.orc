@@ -1,0 +1,2 @@
+client
+lookup ready main:all main

@@ -1,0 +1,10 @@
+pub mod Counts
+pub mod Cuts
+pub mod Digits
+pub mod FileNames
+pub mod LinesNext
+pub mod LinesRead
+pub mod NameNumbers
+pub mod Steps
+pub mod Tables
+pub mod TextNumbers

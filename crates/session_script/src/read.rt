@@ -1,0 +1,134 @@
+ghost use Rattle.std.specs.Prelude.{◌≡◌, ◌≢◌, ◌≤◌, map, Ok, Err, OnOk, IfOk, IfErr};
+ghost use Rattle.session_script.specs.declared.error.ScriptError.TheVariants as error;
+ghost use Rattle.session_script.specs.declared.limits.TheConstants.{LINE_LIMIT};
+ghost use Rattle.session_script.specs.Words.{lines_of};
+ghost use Rattle.session_script.specs.Known.{IsRefusal};
+ghost use Rattle.session_script.specs.Scripts.{worded_line, line_in, numbered_line, lines_from, script_of_known, script_of, error_of};
+
+use crate::error::{Refusal, ScriptError, ScriptWhy};
+use crate::limits::{LINE_LIMIT, SIZE_LIMIT};
+use crate::reader::Reader;
+use crate::script::Script;
+use crate::words::{cut, has_barred, is_skipped, is_spaced, split};
+use orc_ids::Items;
+use orc_names::NameHasher;
+use std::alloc::{AllocError, Global};
+
+/// The script of bytes, for a session that has so many notes. Names are found by the hash of a
+/// hasher whose seed strangers can't know, or by a fixed one.
+pub fn read_script(
+    alloc: Global,
+    bytes: &[u8],
+    notes: u32,
+    hasher: NameHasher,
+) -> Result<Script, ScriptError>
+    ensures read { IfOk result (λ script. script_of notes bytes.now ≡ Ok script) }
+    ensures refused { IfErr result (λ e. e ≢ error.NoMemory → script_of notes bytes.now ≡ Err e) }
+{
+    let mut reader = Reader::new(alloc, hasher, notes);
+    reader.read_lines(bytes)?;
+    let Ok(script) = reader.finish() else {
+        return Err(ScriptError::NoMemory);
+    };
+    Ok(script)
+}
+
+/// Why there is no script, where the line of this number wasn't read.
+fn error_of(number: u32, refusal: Refusal) -> ScriptError
+    ensures { result ≡ error_of number refusal }
+{
+    match refusal {
+        Refusal::Line(why) => ScriptError::BadLine(number, why),
+        Refusal::NoMemory => ScriptError::NoMemory,
+    }
+}
+
+impl Reader {
+    fn read_lines(&mut self, bytes: &[u8]) -> Result<(), ScriptError>
+        ensures read { OnOk result (lines_from self.old 0 0 (lines_of bytes.now) ≡ Ok self.new) }
+        ensures refused { IfErr result (λ e. e ≢ error.NoMemory → lines_from self.old 0 0 (lines_of bytes.now) ≡ Err e) }
+    {
+        let mut rest = bytes;
+        let mut number = 0;
+        while !rest.is_empty() {
+            let (line, after) = cut(rest, b'\n');
+            number += 1;
+            let size = bytes.len() - after.len();
+            if let Err(refusal) = self.read_numbered(number, size, line) {
+                return Err(error_of(number, refusal));
+            }
+            rest = after;
+        }
+        Ok(())
+    }
+
+    /// A line without its newline, with its number and the number of bytes up to its end.
+    fn read_numbered(&mut self, number: u32, size: usize, line: &[u8]) -> Result<(), Refusal>
+        ensures read { OnOk result (numbered_line self.old number size line.now ≡ Ok self.new) }
+        ensures few { OnOk result (number ≤ LINE_LIMIT) }
+        ensures refused { IfErr result (λ e. IsRefusal (numbered_line self.old number size line.now) e) }
+    {
+        if number > LINE_LIMIT || size > SIZE_LIMIT {
+            return Err(Refusal::Line(ScriptWhy::TooLong));
+        }
+        self.read_line(line)
+    }
+
+    fn read_line(&mut self, line: &[u8]) -> Result<(), Refusal>
+        ensures read { OnOk result (line_in self.old line.now ≡ Ok self.new) }
+        ensures refused { IfErr result (λ e. IsRefusal (line_in self.old line.now) e) }
+    {
+        if is_skipped(line) {
+            return Ok(());
+        }
+        let words = split(self.alloc, line, b' ')?;
+        if !(!has_barred(line) && is_spaced(&words)) {
+            return Err(Refusal::Line(ScriptWhy::Bytes));
+        }
+        self.read_words(&words)
+    }
+
+    fn read_words(&mut self, words: &[&[u8]]) -> Result<(), Refusal>
+        ensures read { OnOk result (worded_line self.old (map (λ w. w.now) words.now) ≡ Ok self.new) }
+        ensures refused { IfErr result (λ e. IsRefusal (worded_line self.old (map (λ w. w.now) words.now)) e) }
+    {
+        let [first, operands @ ..] = words else {
+            return Err(Refusal::Line(ScriptWhy::Word));
+        };
+        if *first == b"client".as_slice() {
+            return self.read_client(operands);
+        }
+        if self.begun {
+            self.read_call(first, operands)
+        } else {
+            self.read_setup(first, operands)
+        }
+    }
+
+    /// The script of what the lines said.
+    fn finish(self) -> Result<Script, AllocError>
+        ensures { IfOk result (λ script. script ≡ script_of_known self) }
+    {
+        let Reader {
+            alloc,
+            setup,
+            begun,
+            mut earlier,
+            current,
+            files,
+            names,
+            ..
+        } = self;
+        if !begun {
+            earlier = Vec::new(alloc);
+        } else {
+            earlier.push(Items::from_vec(current))?;
+        }
+        Ok(Script {
+            setup: Items::from_vec(setup),
+            clients: Items::from_vec(earlier),
+            files,
+            names,
+        })
+    }
+}
