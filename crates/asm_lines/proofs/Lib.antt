@@ -1,0 +1,5 @@
+pub mod Capped
+pub mod Fences
+pub mod Given
+pub mod Items
+pub mod Parts

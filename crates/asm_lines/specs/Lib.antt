@@ -1,0 +1,10 @@
+pub mod Words
+pub mod Lines
+pub mod Numbers
+pub mod Pieces
+pub mod Directives
+pub mod Insns
+pub mod Instructions
+pub mod Registers
+pub mod Statements
+pub mod Values
