@@ -1,21 +1,15 @@
 #!/bin/sh
 # Runs the proved program with the words, folder, streams and status of the caller. Where there is no
-# program yet, or a source is newer, it is proved and built first; only then are there messages of the
-# build, all on standard error.
+# program yet, or a source of it is newer, it is proved and built first; only then are there messages
+# of the build, all on standard error.
 here=$(CDPATH='' cd -- "$(dirname -- "$0")" && pwd) || exit 1
 program=$here/crates/orc/out/orc
 
+# (the crates that it was built from stand beside it)
 is_current() {
-    [ -x "$program" ] &&
-        [ -z "$(find "$here/crates.txt" "$here/crates" -name out -prune -o -type f -newer "$program" -print | head -n 1)" ]
+    [ -x "$program" ] && [ -r "$program.crates" ] &&
+        [ -z "$(cd "$here/crates" && find ../crates.txt $(cat "$program.crates") \( -name out -o -name must-fail \) -prune -o -type f -newer "$program" -print -quit)" ]
 }
 
-# `rt run` has no form that only builds, so the new program is run once without words.
-build() {
-    rm -f "$program"
-    (cd "$here/crates/orc" && rt run </dev/null 2>&1) | sed '/^end usage no command$/d' >&2
-    [ -x "$program" ]
-}
-
-is_current || build || exit 1
+is_current || "$here/tools/build_orc.py" || exit 1
 exec "$program" "$@"

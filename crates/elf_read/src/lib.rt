@@ -26,6 +26,3 @@ mod table;
 pub use error::{ElfError, NotBuiltKind};
 pub use object::{ElfObject, Reloc, Relocs, Section, Sections, SymPlace, Symbol, Symbols};
 pub use read::read_object;
-
-#[cfg(test)]
-mod tests;

@@ -40,7 +40,7 @@ fn knows_event<U: UnitKind>(names: &Names, event: &Event<U>) -> bool
 }
 
 /// Whether each name of a reply is one of the table.
-pub fn knows_reply(names: &Names, reply: &Reply) -> bool
+fn knows_reply(names: &Names, reply: &Reply) -> bool
     ensures { IsTrue result ↔ KnownReply names.now reply.now }
 {
     match reply {
@@ -62,7 +62,7 @@ fn are_given(names: &Names, wanted: &[Wanted]) -> bool
 }
 
 /// Whether a name is one of the table.
-pub fn is_given(names: &Names, name: NameId) -> bool
+fn is_given(names: &Names, name: NameId) -> bool
     ensures { IsTrue result ↔ IsGiven names.now name }
 {
     (name.0 as usize) < names.len()

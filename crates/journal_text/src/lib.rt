@@ -13,13 +13,9 @@
 mod events;
 mod known;
 mod lists;
-pub mod parts;
+mod parts;
 mod replies;
 mod text;
 
-pub use known::{are_known, is_given, knows_reply};
-pub use replies::put_reply;
+pub use known::are_known;
 pub use text::text_of;
-
-#[cfg(test)]
-mod tests;

@@ -8,14 +8,14 @@ use orc_names::Names;
 use std::alloc::{AllocError, Global};
 
 /// A text.
-pub fn put(out: &mut Vec<u8>, text: &[u8]) -> Result<(), AllocError>
+pub(crate) fn put(out: &mut Vec<u8>, text: &[u8]) -> Result<(), AllocError>
     ensures { OnOk result (out.new.items ≡ out.old.items ++ text.now) }
 {
     out.extend_from_slice(text)
 }
 
 /// A decimal number.
-pub fn put_decimal<I: Integer>(out: &mut Vec<u8>, number: I) -> Result<(), AllocError>
+pub(crate) fn put_decimal<I: Integer>(out: &mut Vec<u8>, number: I) -> Result<(), AllocError>
     ensures { OnOk result (out.new.items ≡ out.old.items ++ I.text number) }
 {
     let mut buffer = itoa::Buffer::new();
@@ -23,7 +23,11 @@ pub fn put_decimal<I: Integer>(out: &mut Vec<u8>, number: I) -> Result<(), Alloc
 }
 
 /// A text and a decimal number.
-pub fn put_numbered<I: Integer>(out: &mut Vec<u8>, text: &[u8], number: I) -> Result<(), AllocError>
+pub(crate) fn put_numbered<I: Integer>(
+    out: &mut Vec<u8>,
+    text: &[u8],
+    number: I,
+) -> Result<(), AllocError>
     ensures { OnOk result (out.new.items ≡ out.old.items ++ (text.now ++ I.text number)) }
 {
     put(out, text)?;
@@ -31,7 +35,7 @@ pub fn put_numbered<I: Integer>(out: &mut Vec<u8>, text: &[u8], number: I) -> Re
 }
 
 /// Two texts, each with a decimal number.
-pub fn put_pair<I: Integer, J: Integer>(
+pub(crate) fn put_pair<I: Integer, J: Integer>(
     out: &mut Vec<u8>,
     text: &[u8],
     number: I,
@@ -45,7 +49,12 @@ pub fn put_pair<I: Integer, J: Integer>(
 }
 
 /// A text and an address.
-pub fn put_at(alloc: Global, out: &mut Vec<u8>, text: &[u8], address: u64) -> Result<(), AllocError>
+pub(crate) fn put_at(
+    alloc: Global,
+    out: &mut Vec<u8>,
+    text: &[u8],
+    address: u64,
+) -> Result<(), AllocError>
     ensures { OnOk result (out.new.items ≡ out.old.items ++ (text.now ++ hex address)) }
 {
     let digits = format!(in alloc; "{address:x}")?;
@@ -54,7 +63,7 @@ pub fn put_at(alloc: Global, out: &mut Vec<u8>, text: &[u8], address: u64) -> Re
 }
 
 /// A text and a name.
-pub fn put_named(
+pub(crate) fn put_named(
     out: &mut Vec<u8>,
     text: &[u8],
     names: &Names,
@@ -68,7 +77,7 @@ pub fn put_named(
 }
 
 /// A text and what the journal calls a unit.
-pub fn put_unit(out: &mut Vec<u8>, text: &[u8], unit: UnitName) -> Result<(), AllocError>
+pub(crate) fn put_unit(out: &mut Vec<u8>, text: &[u8], unit: UnitName) -> Result<(), AllocError>
     ensures { OnOk result (out.new.items ≡ out.old.items ++ (text.now ++ unit_text unit)) }
 {
     put(out, text)?;
@@ -80,7 +89,7 @@ pub fn put_unit(out: &mut Vec<u8>, text: &[u8], unit: UnitName) -> Result<(), Al
 }
 
 /// The word for a level.
-pub fn level_word(level: Level) -> &'static [u8]
+pub(crate) fn level_word(level: Level) -> &'static [u8]
     ensures { result.now ≡ level_text level }
 {
     match level {
@@ -90,7 +99,7 @@ pub fn level_word(level: Level) -> &'static [u8]
 }
 
 /// A scope, with the colon before it.
-pub fn scope_word(scope: Scope) -> &'static [u8]
+pub(crate) fn scope_word(scope: Scope) -> &'static [u8]
     ensures { result.now ≡ scope_text scope }
 {
     match scope {

@@ -8,7 +8,7 @@ use session_model::{Finishing, Reply};
 use std::alloc::{AllocError, Global};
 
 /// The words of a reply.
-pub fn put_reply(
+pub(crate) fn put_reply(
     alloc: Global,
     out: &mut Vec<u8>,
     names: &Names,

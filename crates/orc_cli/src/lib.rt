@@ -18,8 +18,6 @@ mod finding;
 mod form;
 mod notes;
 mod running;
-#[cfg(test)]
-mod tests;
 mod texts;
 mod top;
 mod unit;

@@ -31,6 +31,3 @@ pub use notify::{Gate, Note, Notify, OpenGate};
 pub use real::{FolderFiles, StdSink, StdSource};
 pub use sink::Sink;
 pub use source::Source;
-
-#[cfg(test)]
-mod tests;

@@ -51,4 +51,3 @@ pub mod TakenJobs
 pub mod HeldCalls
 pub mod Growing
 pub mod EmittedUnits
-pub mod TestUnits

@@ -39,8 +39,6 @@ mod stores;
 mod tables;
 mod taken;
 mod taking;
-#[cfg(test)]
-mod tests;
 mod units;
 
 pub use holding::{Finished, Finishes, emit_taken, place_taken};

@@ -3,8 +3,8 @@ use Rattle.std.specs.Prelude.{IsPermutation}
 use Rattle.std.proofs.lemmas.List.{length-replicate}
 use Rattle.std.proofs.lemmas.List.Sorted.{IsPermutation-refl}
 use Rattle.orc_ids.specs.declared.ids.InstId.{InstId}
-use Rattle.session_core.proofs.TestUnits.{first_place}
-use Rattle.session_core.proofs.tests.MainUnitKind.known.Goals as goal
+use Rattle.session_core_tests.proofs.TestUnits.{first_place}
+use Rattle.session_core_tests.proofs.tests.MainUnitKind.known.Goals as goal
 
 pub returns : goal.returns
 returns c = record {

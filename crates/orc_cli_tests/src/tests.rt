@@ -3,9 +3,9 @@ ghost use Rattle.std.specs.Prelude.{◌≡◌, ◌≤◌, All, None, IfOk};
 mod common;
 mod hello;
 
-use super::*;
 use common::COMMON;
 use hello::HELLO;
+use orc_cli::{Ended, JOURNAL_LIMIT, orc, orc_sized};
 use orc_ids::Bytes;
 use orc_io::{Files, MemFiles, MemSink, Note, OpenGate, Sink, SureFiles, SureSink, SureSource};
 use std::alloc::{AllocError, Global};

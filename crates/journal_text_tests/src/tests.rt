@@ -6,7 +6,7 @@ mod events;
 mod hello;
 mod replies;
 
-use crate::{are_known, text_of};
+use journal_text::{are_known, text_of};
 use orc_ids::{
     DylibId, Group, InstId, Items, NameId, OrderItem, Scope, SeatNo, Shape, SymFlags, UnitName,
     Wanted,

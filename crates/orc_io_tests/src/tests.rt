@@ -1,7 +1,11 @@
 ghost use Rattle.std.specs.Prelude.{◌≡◌, None};
 
-use super::*;
 use orc_ids::{Bytes, End, Outcome, QueryId};
+use orc_io::{
+    FILE_LIMIT, Failed, FileError, Files, FolderFiles, Gate, MemFiles, MemSink, MemSource, Note,
+    Notify, OpenGate, ReadError, SCRIPT_LIMIT, Sink, Source, StdSink, StdSource, SureFiles,
+    SureSink, SureSource, read_source, write_all,
+};
 use std::fs;
 use std::test::Fail;
 

@@ -4,10 +4,10 @@ ghost use Rattle.std.specs.Prelude.{◌≡◌, ◌≤◌};
 
 use super::entries::are_lookup;
 use super::{Main, OTHER, SEAT, SETUP, asks, emits, resolves};
-use crate::{AnswerList, Call, Command, JOURNAL_LIMIT, Session, play};
 use orc_ids::{
     DylibId, Items, Level, NameId, OrderItem, QueryId, Scope, Stop, TrackId, UnitId, Wanted,
 };
+use session_core::{AnswerList, Call, Command, JOURNAL_LIMIT, Session, play};
 use session_model::{Order, WantedList};
 use std::alloc::{AllocError, Global};
 use std::test::Fail;

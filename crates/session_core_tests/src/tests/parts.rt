@@ -4,8 +4,8 @@ ghost use Rattle.std.specs.Prelude.{◌+◌, ◌*◌, false, true, [], ◌∷◌
 ghost use Rattle.orc_ids.specs.declared.ids.UnitName.TheVariants.{Absolute};
 
 use super::{SEAT, SETUP, lookup_waits, places, prepares, reads, resolves};
-use crate::Session;
 use orc_ids::{DylibId, NameId, Shape, SymFlags, TrackId, UnitId, UnitName, Wanted};
+use session_core::Session;
 use session_model::UnitKind;
 use std::alloc::{AllocError, Global};
 use std::test::Fail;

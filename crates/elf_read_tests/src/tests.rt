@@ -1,4 +1,4 @@
-use super::*;
+use elf_read::{ElfError, SymPlace, read_object};
 use std::test::Fail;
 
 /// What an assembler makes of `examples/hello.s`.

@@ -7,12 +7,12 @@ mod entries;
 mod lists;
 mod parts;
 
-use crate::{Finished, Finishes, Offered, Session, Taken, emit_taken, place_taken};
 use entries::are_lookup;
 use orc_ids::{
     Bytes, DylibId, Group, InstId, Items, Level, NameId, OrderItem, QueryId, Scope, SeatNo, Shape,
     Stop, SymFlags, TrackId, UnitId, UnitName, Wanted,
 };
+use session_core::{Finished, Finishes, Offered, Session, Taken, emit_taken, place_taken};
 use session_model::{Finishing, Reply, UnitKind};
 use std::alloc::{AllocError, Global};
 use std::test::Fail;
