@@ -1,4 +1,5 @@
 mod accepted;
+mod cycle;
 mod limits;
 mod refused;
 
