@@ -1,6 +1,7 @@
 //! Lists of calls, whose answers are read as they are printed.
 
-ghost use Rattle.std.specs.Prelude.{◌≡◌, ◌≤◌};
+ghost use Rattle.std.specs.Prelude.{◌≡◌, ◌≤◌, length, IfOk};
+ghost use Rattle.orc_ids.specs.declared.limits.TheConstants.{ORDER_LIMIT, WANTED_LIMIT};
 
 use super::entries::are_lookup;
 use super::{Main, OTHER, SEAT, SETUP, asks, emits, resolves};
@@ -71,7 +72,10 @@ fn other(command: Command<Main>) -> Call<Main>
 }
 
 /// The first dylib, and `main`.
-fn lookup(alloc: Global) -> Result<(Order, WantedList), AllocError> {
+fn lookup(alloc: Global) -> Result<(Order, WantedList), AllocError>
+    ensures order { IfOk result (λ l. length l.0 ≤ ORDER_LIMIT) }
+    ensures wanted { IfOk result (λ l. length l.1 ≤ WANTED_LIMIT) }
+{
     let item = OrderItem {
         dylib: DylibId(0),
         scope: Scope::All,
