@@ -1,0 +1,15 @@
+pub mod Depending
+pub mod Ends
+pub mod Fields
+pub mod Finishes
+pub mod Histories
+pub mod Lasting
+pub mod Linking
+pub mod Naming
+pub mod Offering
+pub mod OwnRows
+pub mod RowMoving
+pub mod Standing
+pub mod Staying
+pub mod Unrefused
+pub mod Working

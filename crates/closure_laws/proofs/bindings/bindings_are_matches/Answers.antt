@@ -1,0 +1,5 @@
+use Rattle.closure_laws.proofs.Ends.{bindings_are_matches}
+use Rattle.closure_laws.proofs.bindings.bindings_are_matches.Goals as goal
+
+pub returns : goal.returns
+returns c = bindings_are_matches

@@ -1,0 +1,4 @@
+pub mod Table
+pub mod Spans
+pub mod Groups
+pub mod Rows

@@ -1,0 +1,20 @@
+//! The instances of a session, each an accepted definition of a name (ORC: `SymbolTableEntry`), how far
+//! each has come, and where those of each unit stand. A change of a unit's instances costs as many as it
+//! has, and one of single instances costs those.
+//!
+//! Contracts see `Instances` as the list of rows by number, how many units they are of, and for how many
+//! more instances and units there is room; and say each change by the definitions of `session_model`.
+//! `define` takes no memory, since `room` made it; only `emit` may want some, for lists of dependencies.
+//!
+//! Read `jit_dylib` for which names of a unit stay, and `dep_groups` for which instances a failure hits.
+#![tactic(auto)]
+
+mod groups;
+mod instances;
+mod row;
+mod rows;
+mod span;
+#[cfg(test)]
+mod tests;
+
+pub use instances::Instances;
