@@ -1,0 +1,66 @@
+-- Lists of notices that grow, and what their objects have heard.
+use Rattle.std.proofs.Common.{◌≡◌, ℕ, zero, suc, ◌<◌, List, [], ◌∷◌, ◌++◌, Option, None, Some, All, length, get_or, sym, ap, ◌∙◌, subst, arith, append_assoc}
+use Rattle.std.proofs.lemmas.List.{map-append}
+use Rattle.orc_ids.specs.declared.lookup.Outcome.{Outcome}
+use Rattle.notifiers.specs.declared.notice.Notice.{Notice}
+use Rattle.notifiers.specs.Notices.{AreUnheard, AreHeard, outcomes, IsTold, Told}
+
+all_first : {X : Type 0} (P : X → Type 0) (x : X) (xs : List X) → All P (x ∷ xs) → P x
+all_first P x xs all = all 0 x (omega arith)
+
+all_rest : {X : Type 0} (P : X → Type 0) (x : X) (xs : List X) → All P (x ∷ xs) → All P xs
+all_rest P x xs all = λ k d less. all (suc k) d (omega (arith, less))
+
+all_one : {X : Type 0} (P : X → Type 0) (x : X) → P x → All P (x ∷ [])
+all_one {X} P x here = at
+  where
+    at : (k : ℕ) (d : X) → k < length (x ∷ []) → P (get_or (x ∷ []) k d)
+    at zero d less = here
+    at (suc k) d less = absurd (omega (arith, less))
+
+all_cons : {X : Type 0} (P : X → Type 0) (x : X) (xs : List X) → P x → All P xs → All P (x ∷ xs)
+all_cons {X} P x xs here all = at
+  where
+    at : (k : ℕ) (d : X) → k < length (x ∷ xs) → P (get_or (x ∷ xs) k d)
+    at zero d less = here
+    at (suc k) d less = all k d (omega (arith, less))
+
+all_push : {X : Type 0} (P : X → Type 0) (xs : List X) (x : X) → All P xs → P x → All P (xs ++ x ∷ [])
+all_push P [] x all here = all_one P x here
+all_push P (y ∷ ys) x all here = all_cons P y (ys ++ x ∷ []) (all_first P y ys all) (all_push P ys x (all_rest P y ys all) here)
+
+-- the others, once the first is taken out
+pub heard_rest : {N : Type 0} (heard : N → Option Outcome) (all rest : List (Notice N)) (n : Notice N) → all ≡ n ∷ rest → AreHeard heard all → AreHeard heard rest
+heard_rest heard all rest n first h = all_rest (λ m. heard m.what ≡ Some m.outcome) n rest (subst (AreHeard heard) first h)
+
+pub unheard_rest : {N : Type 0} (heard : N → Option Outcome) (all rest : List (Notice N)) (n : Notice N) → all ≡ n ∷ rest → AreUnheard heard all → AreUnheard heard rest
+unheard_rest heard all rest n first h = all_rest (λ m. heard m.what ≡ None) n rest (subst (AreUnheard heard) first h)
+
+outcomes-push : {N : Type 0} (a b : List (Notice N)) (m n : Notice N) → outcomes a ≡ outcomes b → m.note ≡ n.note → m.outcome ≡ n.outcome → outcomes (a ++ m ∷ []) ≡ outcomes (b ++ n ∷ [])
+outcomes-push {N} a b m n same note outcome =
+    let f : Notice N → ℕ × Outcome = λ x. (x.note, x.outcome) in
+    let e : f m ≡ f n = cc in
+    map-append f a (m ∷ []) ∙ ap (λ xs. xs ++ f m ∷ []) same ∙ ap (λ x. outcomes b ++ x ∷ []) e ∙ sym (map-append f b (n ∷ []))
+
+told_push : {N : Type 0} (heard : N → Option Outcome) (fires old new : List (Notice N)) (n m : Notice N) → Told heard fires old new → IsTold heard n m → Told heard (fires ++ n ∷ []) old (new ++ m ∷ [])
+told_push heard fires old new n m t h = record {
+  told = t.told ++ m ∷ [];
+  added = ap (λ xs. xs ++ m ∷ []) t.added ∙ append_assoc old t.told (m ∷ []);
+  same = outcomes-push t.told fires m n t.same h.note h.outcome;
+  heard_it = all_push (λ x. heard x.what ≡ Some x.outcome) t.told m t.heard_it h.heard_it;
+}
+
+-- the notices before some rest were told, and those of the rest are unheard
+pub record IsTelling {N : Type 0} (heard : N → Option Outcome) (all rest old new : List (Notice N)) : Type 0 where
+  pub taken : List (Notice N)
+  pub parts : all ≡ taken ++ rest
+  pub told : Told heard taken old new
+  pub unheard : AreUnheard heard rest
+
+pub telling_more : {N : Type 0} (heard : N → Option Outcome) (all from from' old new new' : List (Notice N)) (n m : Notice N) → IsTelling heard all from old new → from ≡ n ∷ from' → IsTold heard n m → new' ≡ new ++ m ∷ [] → IsTelling heard all from' old new'
+telling_more heard all from from' old new new' n m t first h more = record {
+  taken = t.taken ++ n ∷ [];
+  parts = t.parts ∙ ap (λ xs. t.taken ++ xs) first ∙ sym (append_assoc t.taken (n ∷ []) from');
+  told = subst (Told heard (t.taken ++ n ∷ []) old) (sym more) (told_push heard t.taken old new n m t.told h);
+  unheard = unheard_rest heard from from' n first t.unheard;
+}
