@@ -1,0 +1,17 @@
+pub mod Tables
+pub mod Lists
+pub mod Trails
+pub mod Ways
+pub mod Relinks
+pub mod Told
+pub mod Seeks
+pub mod Sound
+pub mod Wakes
+pub mod Adds
+pub mod Additions
+pub mod Addings
+pub mod Needs
+pub mod Alike
+pub mod Exact
+pub mod Empty
+pub mod Emissions

@@ -1,0 +1,17 @@
+use Rattle.dep_groups.proofs.Empty.{kept_empty}
+use Rattle.dep_groups.proofs.frontier.Frontier.new.Goals as goal
+
+pub invariant_of-result : goal.invariant_of-result
+invariant_of-result c = kept_empty _ (record {
+  homes = c.new.ensures.items;
+  nodes = c.new-2.ensures.items;
+  firsts = c.new-3.ensures.items;
+  edges = c.new-4.ensures.items;
+  ready = c.new-5.ensures.items;
+  links = c.new-6.ensures.items;
+  linked = c.new-7.ensures.items;
+  cursors = c.new-8.ensures.items;
+  seen = c.new-9.ensures.items;
+  order = c.new-10.ensures.items;
+  told = c.new-11.ensures.items;
+})

@@ -1,0 +1,24 @@
+-- How a frontier keeps what it is.
+use Rattle.std.specs.Prelude.{◌≡◌, ℕ, false, Option, Some, None, List, map, length}
+use Rattle.dep_groups.specs.declared.graph.Node.{Node}
+use Rattle.dep_groups.specs.declared.resolve.Core.{Core}
+use Rattle.dep_groups.specs.Shape.{home_in, deps_of, ready_in}
+use Rattle.dep_groups.specs.Links.{IsHeld}
+use Rattle.dep_groups.specs.Core.{IsSound}
+use Rattle.dep_groups.specs.Wake.{IsIndexed}
+use Rattle.dep_groups.specs.Frontier.{Entry, Absent, Emitted}
+
+-- an instance of a group is emitted with what the group depends on
+abbrev pub entry_of : List Node → Option ℕ → Entry
+entry_of nodes None = Absent
+entry_of nodes (Some g) = Emitted (deps_of nodes g)
+
+abbrev pub entries_in : Core → List Entry
+entries_in core = map (entry_of core.graph.nodes.items) core.graph.homes.items
+
+-- each group with members that aren't ready is linked to what isn't ready
+pub record IsKept (core : Core) : Type 0 where
+  pub sound : IsSound core
+  pub indexed : IsIndexed core.graph
+  pub firsts : length core.graph.firsts.items ≡ length core.graph.homes.items
+  pub held : (i g : ℕ) → home_in core.graph i ≡ Some g → ready_in core.graph i ≡ false → IsHeld core.graph core.links.items g

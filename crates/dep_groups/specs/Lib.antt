@@ -1,0 +1,16 @@
+pub mod Places
+pub mod Shape
+pub mod Search
+pub mod Links
+pub mod Marks
+pub mod Seek
+pub mod Core
+pub mod Wake
+pub mod Add
+pub mod Added
+pub mod Adding
+pub mod Prepare
+pub mod Frontier
+pub mod Kept
+pub mod Copies
+pub mod Emit

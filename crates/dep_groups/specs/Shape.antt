@@ -1,0 +1,21 @@
+-- Which group an instance was emitted with, and what that group depends on.
+use Rattle.std.specs.Prelude.{ℕ, Bool, Option, List, [], slice_get}
+use Rattle.std.specs.Option.{option_map_or}
+use Rattle.dep_groups.specs.declared.graph.Node.{Node}
+use Rattle.dep_groups.specs.declared.graph.Graph.{Graph}
+use Rattle.dep_groups.specs.Places.{place, is_set}
+
+-- what the group number g depends on
+unfoldable pub deps_of : List Node → ℕ → List ℕ
+deps_of nodes g = option_map_or (λ n. n.deps.items) (slice_get nodes g) []
+
+-- the group of an emitted instance
+abbrev pub home_in : Graph → ℕ → Option ℕ
+home_in graph i = place graph.homes.items i
+
+abbrev pub deps_in : Graph → ℕ → List ℕ
+deps_in graph g = deps_of graph.nodes.items g
+
+-- whether an instance is marked as ready
+abbrev pub ready_in : Graph → ℕ → Bool
+ready_in graph i = is_set graph.ready.items i

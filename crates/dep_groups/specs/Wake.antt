@@ -1,0 +1,47 @@
+-- The groups that have to be looked at again, since what they were linked to is ready.
+use Rattle.std.specs.Prelude.{◌≡◌, ℕ, ◌<◌, ◌≤◌, false, Option, Some, ◌⊎◌, List, length, slice_get, Contains}
+use Rattle.dep_groups.specs.declared.graph.Edge.{Edge}
+use Rattle.dep_groups.specs.declared.graph.Graph.{Graph}
+use Rattle.dep_groups.specs.declared.resolve.Core.{Core}
+use Rattle.dep_groups.specs.Places.{place}
+use Rattle.dep_groups.specs.Shape.{home_in, deps_in, ready_in}
+use Rattle.dep_groups.specs.Links.{IsHeld}
+use Rattle.dep_groups.specs.Marks.{IsTold}
+
+-- the graph is the same but for what is ready
+pub record IsSameGraph (old new : Graph) : Type 0 where
+  pub homes : new.homes ≡ old.homes
+  pub nodes : new.nodes ≡ old.nodes
+  pub firsts : new.firsts ≡ old.firsts
+  pub edges : new.edges ≡ old.edges
+
+-- from a mention on, a group is listed
+pub data IsListed (edges : List Edge) : Option ℕ → ℕ → Type 0 where
+  here : {k g : ℕ} (e : Edge) → slice_get edges k ≡ Some e → e.group ≡ g → IsListed edges (Some k) g
+  later : {k g : ℕ} (e : Edge) → slice_get edges k ≡ Some e → IsListed edges e.next g → IsListed edges (Some k) g
+
+-- each group is listed with all that it depends on; a mention is behind the one that it leads to
+pub record IsIndexed (graph : Graph) : Type 0 where
+  pub complete : (g d : ℕ) → Contains (deps_in graph g) d → IsListed graph.edges.items (place graph.firsts.items d) g
+  pub falls : (k j : ℕ) (e : Edge) → slice_get graph.edges.items k ≡ Some e → e.next ≡ Some j → j < k
+  pub groups : (k : ℕ) (e : Edge) → slice_get graph.edges.items k ≡ Some e → e.group < length graph.nodes.items
+  pub firsts : (d k : ℕ) → place graph.firsts.items d ≡ Some k → k < length graph.edges.items
+
+-- a group is linked to an instance that was told from a place on
+pub record IsWaking (core : Core) (at g : ℕ) : Type 0 where
+  pub to : ℕ
+  pub link : place core.links.items g ≡ Some to
+  pub told : IsTold core.told.items at (record { 0 = to })
+
+-- a group is linked to one instance, and listed from a mention on
+pub record IsLeft (core : Core) (instance : ℕ) (next : Option ℕ) (g : ℕ) : Type 0 where
+  pub link : place core.links.items g ≡ Some instance
+  pub listed : IsListed core.graph.edges.items next g
+
+-- each group with members that aren't ready waits, is to be woken, or is new
+pub record AreHeld (core : Core) (fresh at : ℕ) : Type 0 where
+  pub held : (i g : ℕ) → home_in core.graph i ≡ Some g → ready_in core.graph i ≡ false → IsHeld core.graph core.links.items g ⊎ (IsWaking core at g ⊎ (fresh ≤ g))
+
+-- the same while those are woken that are linked to one instance
+pub record AreHeldBut (core : Core) (at instance : ℕ) (next : Option ℕ) : Type 0 where
+  pub held : (i g : ℕ) → home_in core.graph i ≡ Some g → ready_in core.graph i ≡ false → IsHeld core.graph core.links.items g ⊎ (IsWaking core at g ⊎ IsLeft core instance next g)

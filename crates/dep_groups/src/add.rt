@@ -1,0 +1,158 @@
+ghost use Rattle.std.specs.Prelude.{◌≡◌, ◌<◌, ◌≤◌, ◌+◌, ◌++◌, ◌∷◌, ◌⊎◌, ℕ, [], Some, None, true, false, length, slice_get, vec_len, vec_capacity, Contains};
+ghost use Rattle.orc_ids.specs.declared.ids.InstId.{InstId};
+ghost use Rattle.dep_groups.specs.Places.{place, is_set};
+ghost use Rattle.dep_groups.specs.Wake.{IsListed, IsIndexed, AreHeld};
+ghost use Rattle.dep_groups.specs.Add.{ListsFall};
+ghost use Rattle.dep_groups.specs.Core.{IsSound};
+ghost use Rattle.dep_groups.specs.Added.{IsHoused, IsAdded, HasRoom, AreFresh};
+ghost use Rattle.dep_groups.specs.Adding.{total, AreBelow, AreApart, AreNew, AreAdded};
+
+use crate::graph::{Edge, Graph, Node};
+use crate::places::{at, put};
+use crate::resolve::Core;
+use orc_ids::InstId;
+
+/// Adds empty places to a table, up to a number of them.
+pub(crate) fn grow_places(places: &mut Vec<Option<usize>>, count: usize)
+    requires count { vec_len places.old ≤ count }
+    requires room { count ≤ vec_capacity places.old }
+    ensures same { (k : ℕ) → place places.new.items k ≡ place places.old.items k }
+    ensures len { vec_len places.new ≡ count }
+{
+    while places.len() < count {
+        places.push_reserved(None);
+    }
+}
+
+/// Adds flags that are not set to a table, up to a number of them.
+pub(crate) fn grow_flags(flags: &mut Vec<bool>, count: usize)
+    requires count { vec_len flags.old ≤ count }
+    requires room { count ≤ vec_capacity flags.old }
+    ensures same { (k : ℕ) → is_set flags.new.items k ≡ is_set flags.old.items k }
+    ensures len { vec_len flags.new ≡ count }
+{
+    while flags.len() < count {
+        flags.push_reserved(false);
+    }
+}
+
+/// Puts the members of a group into its place.
+pub(crate) fn house(homes: &mut [Option<usize>], members: &[InstId], group: usize)
+    requires within { (m : InstId) → Contains members.now m → m.0 < length homes.old }
+    ensures members { (m : InstId) → Contains members.now m → place homes.new m.0 ≡ Some group }
+    ensures others { (i : ℕ) → (place homes.new i ≡ place homes.old i) ⊎ (Contains members.now (record { 0 = i }) × (place homes.new i ≡ Some group)) }
+{
+    for member in members {
+        put(homes, member.0 as usize, group);
+    }
+}
+
+/// Whether something depends on one of the members.
+pub(crate) fn is_wanted(firsts: &[Option<usize>], members: &[InstId]) -> bool
+    ensures { result ≡ false → (m : InstId) → Contains members.now m → place firsts.now m.0 ≡ None }
+{
+    for member in members {
+        if at(firsts, member.0 as usize).is_some() {
+            return true;
+        }
+    }
+    false
+}
+
+/// Lists a group with one instance that it depends on.
+fn list_one(firsts: &mut [Option<usize>], edges: &mut Vec<Edge>, instance: usize, group: usize)
+    requires within { instance < length firsts.old }
+    requires room { vec_len edges.old < vec_capacity edges.old }
+    requires falls { ListsFall firsts.old edges.old.items (group + 1) }
+    ensures falls { ListsFall firsts.new edges.new.items (group + 1) }
+    ensures listed { IsListed edges.new.items (place firsts.new instance) group }
+    ensures kept { (d g : ℕ) → IsListed edges.old.items (place firsts.old d) g → IsListed edges.new.items (place firsts.new d) g }
+    ensures len { vec_len edges.new ≡ vec_len edges.old + 1 }
+    ensures capacity { vec_capacity edges.new ≡ vec_capacity edges.old }
+{
+    let next = at(firsts, instance);
+    put(firsts, instance, edges.len());
+    edges.push_reserved(Edge { group, next });
+}
+
+/// Lists a group with all that it depends on.
+pub(crate) fn list_all(
+    firsts: &mut [Option<usize>],
+    edges: &mut Vec<Edge>,
+    deps: &[usize],
+    group: usize,
+)
+    requires within { (d : ℕ) → Contains deps.now d → d < length firsts.old }
+    requires room { vec_len edges.old + length deps.now ≤ vec_capacity edges.old }
+    requires falls { ListsFall firsts.old edges.old.items (group + 1) }
+    ensures falls { ListsFall firsts.new edges.new.items (group + 1) }
+    ensures listed { (d : ℕ) → Contains deps.now d → IsListed edges.new.items (place firsts.new d) group }
+    ensures kept { (d g : ℕ) → IsListed edges.old.items (place firsts.old d) g → IsListed edges.new.items (place firsts.new d) g }
+    ensures len { vec_len edges.new ≡ vec_len edges.old + length deps.now }
+    ensures capacity { vec_capacity edges.new ≡ vec_capacity edges.old }
+{
+    for instance in deps {
+        list_one(firsts, edges, *instance, group);
+    }
+}
+
+/// Adds a group to what was emitted.
+fn add_node(graph: &mut Graph, node: Node)
+    requires members { (m : InstId) → Contains node.members.items m → m.0 < length graph.old.homes.items }
+    requires deps { (d : ℕ) → Contains node.deps.items d → d < length graph.old.firsts.items }
+    requires edges { vec_len graph.old.edges + vec_len node.deps ≤ vec_capacity graph.old.edges }
+    requires nodes { vec_len graph.old.nodes < vec_capacity graph.old.nodes }
+    requires indexed { IsIndexed graph.old }
+    ensures indexed { IsIndexed graph.new }
+    ensures housed { IsHoused graph.old graph.new node.members.items (length graph.old.nodes.items) }
+    ensures nodes { graph.new.nodes.items ≡ graph.old.nodes.items ++ node ∷ [] }
+    ensures ready { graph.new.ready ≡ graph.old.ready }
+    ensures sizes { (length graph.new.homes.items ≡ length graph.old.homes.items) × (length graph.new.firsts.items ≡ length graph.old.firsts.items) }
+    ensures edges { (vec_len graph.new.edges ≡ vec_len graph.old.edges + vec_len node.deps) × (vec_capacity graph.new.edges ≡ vec_capacity graph.old.edges) }
+    ensures room { (vec_len graph.new.nodes ≡ vec_len graph.old.nodes + 1) × (vec_capacity graph.new.nodes ≡ vec_capacity graph.old.nodes) }
+{
+    let group = graph.nodes.len();
+    house(&mut graph.homes, &node.members, group);
+    list_all(&mut graph.firsts, &mut graph.edges, &node.deps, group);
+    graph.nodes.push_reserved(node);
+}
+
+/// Adds a group, of which it isn't known yet whether it is ready.
+pub(crate) fn add(core: &mut Core, node: Node)
+    requires members { (m : InstId) → Contains node.members.items m → m.0 < length core.old.graph.homes.items }
+    requires deps { (d : ℕ) → Contains node.deps.items d → d < length core.old.graph.firsts.items }
+    requires fresh { AreFresh core.old.graph node.members.items }
+    requires room { HasRoom core.old 1 (vec_len node.deps) }
+    requires sound { IsSound core.old }
+    requires indexed { IsIndexed core.old.graph }
+    ensures sound { IsSound core.new }
+    ensures indexed { IsIndexed core.new.graph }
+    ensures added { IsAdded core.old core.new node }
+{
+    let wanted = is_wanted(&core.graph.firsts, &node.members);
+    add_node(&mut core.graph, node);
+    core.links.push_reserved(None);
+    core.linked.push_reserved(wanted);
+    core.cursors.push_reserved(0);
+    core.trail.seen.push_reserved(false);
+}
+
+/// Adds groups, from the last to the first.
+pub(crate) fn add_all(core: &mut Core, nodes: &mut Vec<Node>)
+    requires members { AreBelow nodes.old.items (length core.old.graph.homes.items) }
+    requires firsts { length core.old.graph.firsts.items ≡ length core.old.graph.homes.items }
+    requires fresh { AreNew core.old.graph nodes.old.items }
+    requires apart { AreApart nodes.old.items }
+    requires room { HasRoom core.old (length nodes.old.items) (total nodes.old.items) }
+    requires sound { IsSound core.old }
+    requires indexed { IsIndexed core.old.graph }
+    requires held { AreHeld core.old (length core.old.graph.nodes.items) 0 }
+    ensures sound { IsSound core.new }
+    ensures indexed { IsIndexed core.new.graph }
+    ensures held { AreHeld core.new (length core.old.graph.nodes.items) 0 }
+    ensures added { AreAdded core.old core.new nodes.old.items 0 }
+{
+    while let Some(node) = nodes.pop() {
+        add(core, node);
+    }
+}

@@ -1,0 +1,28 @@
+//! Which instances of a session are ready, kept as groups of instances are emitted, so that nobody
+//! has to search: an instance is ready where it and all that it reaches through dependencies is
+//! emitted (ORC: `SymbolState::Ready`).
+//!
+//! Contracts see a `Frontier` as the list of instances by number, each as not emitted or as emitted
+//! with its dependencies, and what became ready at the last emission. Inside, each group that waits
+//! is linked to one of its dependencies that isn't ready, and following links ends at an instance
+//! that isn't emitted. An emission looks for such links again only where they led to what became
+//! ready, and a search goes by links first. `resolve` decides one group, `wake` those that it leaves.
+//!
+//! Read `graph_walks` for what is reached.
+#![tactic(auto)]
+
+mod add;
+mod copy;
+mod emit;
+mod frontier;
+mod graph;
+mod links;
+mod marks;
+mod places;
+mod prepare;
+mod resolve;
+mod seek;
+mod trail;
+mod wake;
+
+pub use frontier::Frontier;

@@ -1,0 +1,97 @@
+ghost use Rattle.std.specs.Prelude.{◌≡◌, ◌<◌, ◌≤◌, ◌+◌, ◌⊎◌, ℕ, Some, true, false, length, vec_len, vec_capacity, Contains};
+ghost use Rattle.orc_ids.specs.declared.ids.InstId.{InstId};
+ghost use Rattle.dep_groups.specs.declared.trail.Visit.{Visit};
+ghost use Rattle.dep_groups.specs.Places.{place, is_set, unset};
+ghost use Rattle.dep_groups.specs.Search.{IsVisit};
+ghost use Rattle.dep_groups.specs.Marks.{members_of, Tells, AreOf, IsOfTrail};
+
+use crate::graph::Node;
+use crate::places::{at, is_set, raise};
+use crate::trail::Trail;
+use orc_ids::InstId;
+
+/// The members of a group.
+pub(crate) fn members_of(nodes: &[Node], group: usize) -> &[InstId]
+    ensures { result.now ≡ members_of nodes.now group }
+{
+    match nodes.get(group) {
+        Some(node) => node.members.as_slice(),
+        None => &[],
+    }
+}
+
+/// Whether an instance is of a group, and isn't marked.
+fn is_open(homes: &[Option<usize>], ready: &[bool], group: usize, member: InstId) -> bool
+    ensures open { result ≡ true → (place homes.now member.0 ≡ Some group) × (is_set ready.now member.0 ≡ false) }
+    ensures other { result ≡ false → place homes.now member.0 ≡ Some group → is_set ready.now member.0 ≡ true }
+{
+    match at(homes, member.0 as usize) {
+        Some(home) => home == group && !is_set(ready, member.0 as usize),
+        None => false,
+    }
+}
+
+/// Marks an instance of a group as ready and tells it, if it wasn't.
+fn mark_member(
+    homes: &[Option<usize>],
+    ready: &mut [bool],
+    told: &mut Vec<InstId>,
+    group: usize,
+    member: InstId,
+)
+    requires sizes { length ready.old ≡ length homes.now }
+    requires room { vec_len told.old + unset ready.old ≤ vec_capacity told.old }
+    ensures room { vec_len told.new + unset ready.new ≤ vec_capacity told.new }
+    ensures capacity { vec_capacity told.new ≡ vec_capacity told.old }
+    ensures tells { Tells ready.old ready.new told.old.items told.new.items }
+    ensures marked { place homes.now member.0 ≡ Some group → is_set ready.new member.0 ≡ true }
+    ensures only { AreOf homes.now ready.old ready.new group }
+{
+    if is_open(homes, ready, group, member) {
+        raise(ready, member.0 as usize);
+        told.push_reserved(member);
+    }
+}
+
+/// Marks the instances of a group as ready and tells those that weren't.
+fn mark_members(
+    homes: &[Option<usize>],
+    ready: &mut [bool],
+    told: &mut Vec<InstId>,
+    group: usize,
+    members: &[InstId],
+)
+    requires sizes { length ready.old ≡ length homes.now }
+    requires room { vec_len told.old + unset ready.old ≤ vec_capacity told.old }
+    ensures room { vec_len told.new + unset ready.new ≤ vec_capacity told.new }
+    ensures capacity { vec_capacity told.new ≡ vec_capacity told.old }
+    ensures tells { Tells ready.old ready.new told.old.items told.new.items }
+    ensures marked { (m : InstId) → Contains members.now m → place homes.now m.0 ≡ Some group → is_set ready.new m.0 ≡ true }
+    ensures only { AreOf homes.now ready.old ready.new group }
+{
+    for member in members {
+        mark_member(homes, ready, told, group, *member);
+    }
+}
+
+/// Marks all instances of the groups that a search came to as ready and tells those that weren't.
+pub(crate) fn mark_all(
+    homes: &[Option<usize>],
+    nodes: &[Node],
+    ready: &mut [bool],
+    told: &mut Vec<InstId>,
+    trail: &Trail,
+)
+    requires sizes { length ready.old ≡ length homes.now }
+    requires room { vec_len told.old + unset ready.old ≤ vec_capacity told.old }
+    ensures room { vec_len told.new + unset ready.new ≤ vec_capacity told.new }
+    ensures capacity { vec_capacity told.new ≡ vec_capacity told.old }
+    ensures tells { Tells ready.old ready.new told.old.items told.new.items }
+    ensures marked { (v : Visit) (m : InstId) → Contains trail.now.order.items v → Contains (members_of nodes.now v.group) m → place homes.now m.0 ≡ Some v.group → is_set ready.new m.0 ≡ true }
+    ensures only { (i : ℕ) → is_set ready.new i ≡ true → (is_set ready.old i ≡ true) ⊎ IsOfTrail homes.now trail.now.order.items i }
+{
+    for visit in trail.order.iter() {
+        let members = members_of(nodes, visit.group);
+        mark_members(homes, ready, told, visit.group, members);
+    }
+}

@@ -1,0 +1,47 @@
+ghost use Rattle.std.specs.Prelude.{◌≡◌, ◌<◌, ◌+◌, ℕ, Some, true, false, ◌==◌, if◌then◌else◌, length};
+ghost use Rattle.dep_groups.specs.Places.{place, is_set, unset};
+
+/// What stands in a place, if anything.
+pub(crate) fn at(places: &[Option<usize>], k: usize) -> Option<usize>
+    ensures { result ≡ place places.now k }
+{
+    match places.get(k) {
+        Some(found) => *found,
+        None => None,
+    }
+}
+
+/// Puts a number into a place.
+pub(crate) fn put(places: &mut [Option<usize>], k: usize, number: usize)
+    requires { k < length places.old }
+    ensures { (n : ℕ) → place places.new n ≡ (if k == n then Some number else place places.old n) }
+{
+    places[k] = Some(number);
+}
+
+/// Whether a flag is set.
+pub(crate) fn is_set(flags: &[bool], k: usize) -> bool
+    ensures { result ≡ is_set flags.now k }
+{
+    match flags.get(k) {
+        Some(flag) => *flag,
+        None => false,
+    }
+}
+
+/// Sets a flag.
+pub(crate) fn raise(flags: &mut [bool], k: usize)
+    requires { k < length flags.old }
+    ensures set { (n : ℕ) → is_set flags.new n ≡ (if k == n then true else is_set flags.old n) }
+    ensures count { is_set flags.old k ≡ false → unset flags.new + 1 ≡ unset flags.old }
+{
+    flags[k] = true;
+}
+
+/// Takes a flag back.
+pub(crate) fn lower(flags: &mut [bool], k: usize)
+    requires { k < length flags.old }
+    ensures { (n : ℕ) → is_set flags.new n ≡ (if k == n then false else is_set flags.old n) }
+{
+    flags[k] = false;
+}

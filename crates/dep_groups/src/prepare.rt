@@ -1,0 +1,149 @@
+ghost use Rattle.std.specs.Prelude.{◌≡◌, ◌<◌, ◌≤◌, ◌+◌, ℕ, [], Some, IfOk, OnOk, OnErr, length, slice_get, vec_len, vec_capacity};
+ghost use Rattle.std.specs.Prelude.{Contains};
+ghost use Rattle.orc_ids.specs.declared.ids.InstId.{InstId};
+ghost use Rattle.dep_groups.specs.Places.{place};
+ghost use Rattle.dep_groups.specs.Shape.{home_in, ready_in};
+ghost use Rattle.dep_groups.specs.Core.{IsSound};
+ghost use Rattle.dep_groups.specs.Added.{HasRoom};
+ghost use Rattle.dep_groups.specs.Adding.{total, AreBelow};
+ghost use Rattle.dep_groups.specs.Prepare.{Covers, IsRoomierGraph, IsRoomier, HasPlaces, HasTables, IsAlike};
+
+use crate::add::{grow_flags, grow_places};
+use crate::graph::{Graph, Node};
+use crate::resolve::Core;
+use orc_ids::InstId;
+use std::alloc::AllocError;
+
+/// How many places some groups need, and how many dependencies they have in all.
+#[derive(Drop, Clone, Copy)]
+pub(crate) struct Needs {
+    pub(crate) places: usize,
+    pub(crate) deps: usize,
+}
+
+/// How many places are needed for some members too.
+fn places_for_members(members: &[InstId], places: usize) -> usize
+    ensures more { places ≤ result }
+    ensures covers { (m : InstId) → Contains members.now m → m.0 < result }
+{
+    let mut count = places;
+    for member in members {
+        count = count.max(member.0 as usize + 1);
+    }
+    count
+}
+
+/// How many places are needed for some dependencies too.
+fn places_for_deps(deps: &[usize], places: usize) -> Result<usize, AllocError>
+    ensures more { IfOk result (λ n. places ≤ n) }
+    ensures covers { IfOk result (λ n. (d : ℕ) → Contains deps.now d → d < n) }
+{
+    let mut count = places;
+    for instance in deps {
+        let above = add_up(*instance, 1)?;
+        count = count.max(above);
+    }
+    Ok(count)
+}
+
+/// The sum of two counts, if it fits.
+fn add_up(a: usize, b: usize) -> Result<usize, AllocError>
+    ensures { IfOk result (λ n. n ≡ a + b) }
+{
+    match a.checked_add(b) {
+        Some(sum) => Ok(sum),
+        None => Err(AllocError),
+    }
+}
+
+/// What one group more needs.
+fn with_node(node: &Node, needs: Needs) -> Result<Needs, AllocError>
+    ensures { IfOk result (λ n. Covers node.now needs n) }
+{
+    let members = places_for_members(&node.members, needs.places);
+    let places = places_for_deps(&node.deps, members)?;
+    let deps = add_up(needs.deps, node.deps.len())?;
+    Ok(Needs { places, deps })
+}
+
+/// What some groups need, beside so many places.
+pub(crate) fn needs_of(nodes: &[Node], places: usize) -> Result<Needs, AllocError>
+    ensures places { IfOk result (λ n. places ≤ n.places) }
+    ensures below { IfOk result (λ n. AreBelow nodes.now n.places) }
+    ensures deps { IfOk result (λ n. n.deps ≡ total nodes.now) }
+{
+    let mut needs = Needs { places, deps: 0 };
+    for node in nodes {
+        needs = with_node(node, needs)?;
+    }
+    Ok(needs)
+}
+
+/// Makes the room for groups in what was emitted.
+fn reserve_graph(graph: &mut Graph, groups: usize, needs: Needs) -> Result<(), AllocError>
+    requires homes { vec_len graph.old.homes ≤ needs.places }
+    requires firsts { vec_len graph.old.firsts ≤ needs.places }
+    requires ready { vec_len graph.old.ready ≤ needs.places }
+    ensures same { IsRoomierGraph graph.old graph.new }
+    ensures room { OnOk result (HasPlaces graph.new groups needs.deps needs.places) }
+{
+    graph.edges.reserve(needs.deps)?;
+    graph.nodes.reserve(groups)?;
+    graph.homes.reserve(needs.places - graph.homes.len())?;
+    graph.firsts.reserve(needs.places - graph.firsts.len())?;
+    graph.ready.reserve(needs.places - graph.ready.len())
+}
+
+/// Makes the room for groups in the tables.
+fn reserve_tables(core: &mut Core, groups: usize, places: usize) -> Result<(), AllocError>
+    ensures same { IsRoomier core.old core.new }
+    ensures graph { core.new.graph ≡ core.old.graph }
+    ensures room { OnOk result (HasTables core.new groups places) }
+{
+    let visits = add_up(core.trail.seen.len(), groups)?;
+    core.links.reserve(groups)?;
+    core.linked.reserve(groups)?;
+    core.cursors.reserve(groups)?;
+    core.trail.seen.reserve(groups)?;
+    core.trail.order.reserve(visits)?;
+    core.told.reserve(places)
+}
+
+/// Makes the places for instances.
+fn grow(graph: &mut Graph, places: usize)
+    requires homes { vec_len graph.old.homes ≤ places }
+    requires firsts { vec_len graph.old.firsts ≤ places }
+    requires ready { vec_len graph.old.ready ≤ places }
+    requires homes_room { places ≤ vec_capacity graph.old.homes }
+    requires firsts_room { places ≤ vec_capacity graph.old.firsts }
+    requires ready_room { places ≤ vec_capacity graph.old.ready }
+    ensures homes { (i : ℕ) → home_in graph.new i ≡ home_in graph.old i }
+    ensures flags { (i : ℕ) → ready_in graph.new i ≡ ready_in graph.old i }
+    ensures firsts { (i : ℕ) → place graph.new.firsts.items i ≡ place graph.old.firsts.items i }
+    ensures nodes { graph.new.nodes ≡ graph.old.nodes }
+    ensures edges { graph.new.edges ≡ graph.old.edges }
+    ensures sizes { (length graph.new.homes.items ≡ places) × (length graph.new.firsts.items ≡ places) × (length graph.new.ready.items ≡ places) }
+{
+    grow_places(&mut graph.homes, places);
+    grow_places(&mut graph.firsts, places);
+    grow_flags(&mut graph.ready, places);
+}
+
+/// Makes the room for groups, forgets what was told, and makes the places for their instances.
+pub(crate) fn prepare(core: &mut Core, nodes: &[Node]) -> Result<(), AllocError>
+    requires sound { IsSound core.old }
+    requires firsts { length core.old.graph.firsts.items ≡ length core.old.graph.homes.items }
+    ensures alike { IsAlike core.old core.new }
+    ensures firsts { length core.new.graph.firsts.items ≡ length core.new.graph.homes.items }
+    ensures below { OnOk result (AreBelow nodes.now (length core.new.graph.homes.items)) }
+    ensures room { OnOk result (HasRoom core.new (length nodes.now) (total nodes.now)) }
+    ensures told { OnOk result (core.new.told.items ≡ []) }
+    ensures err { OnErr result ((core.new.graph.homes.items ≡ core.old.graph.homes.items) × (core.new.told.items ≡ core.old.told.items)) }
+{
+    let needs = needs_of(nodes, core.graph.homes.len())?;
+    reserve_tables(core, nodes.len(), needs.places)?;
+    reserve_graph(&mut core.graph, nodes.len(), needs)?;
+    core.told.clear();
+    grow(&mut core.graph, needs.places);
+    Ok(())
+}

@@ -1,0 +1,209 @@
+ghost use Rattle.std.specs.Prelude.{◌≡◌, ◌<◌, ◌≤◌, ◌+◌, ◌++◌, ◌∷◌, ℕ, [], Some, None, true, false, ◌==◌, if◌then◌else◌, length, IfSome, MatchOption, vec_len, vec_capacity, Contains, slice_get};
+ghost use Rattle.dep_groups.specs.Places.{place, is_set};
+ghost use Rattle.dep_groups.specs.Shape.{home_in, deps_in, ready_in};
+ghost use Rattle.dep_groups.specs.Search.{IsTrailOf, IsRoomy, IsMore, IsGroupAt, IsNamed, IsLooked, IsOpen, IsWired, LinksAreDeps, IsPassed, WasLooked, ArePassed, IsExhausted};
+
+use crate::graph::{Graph, deps_of};
+use crate::places::{at, is_set, raise};
+
+/// A group that a search came to: from which visit, and by which of its members.
+#[derive(Drop, Clone, Copy)]
+pub(crate) struct Visit {
+    pub(crate) group: usize,
+    pub(crate) from: usize,
+    pub(crate) via: usize,
+}
+
+/// The groups that a search came to, in order.
+#[derive(Drop)]
+pub(crate) struct Trail {
+    pub(crate) seen: Vec<bool>,
+    pub(crate) order: Vec<Visit>,
+}
+
+/// Where a search ended: a visit, and a dependency of its group that is not emitted.
+#[derive(Drop, Clone, Copy)]
+pub(crate) struct Found {
+    pub(crate) from: usize,
+    pub(crate) to: usize,
+}
+
+/// What a look at a dependency showed: that it is ready or its group was seen, that it is not
+/// emitted, or a group that is new.
+#[derive(Drop, Clone, Copy)]
+pub(crate) enum Look {
+    Known,
+    Open,
+    Came,
+}
+
+/// Notes that a search came to a group.
+pub(crate) fn come_to(trail: &mut Trail, group: usize, from: usize, via: usize)
+    requires new { is_set trail.old.seen.items group ≡ false }
+    requires within { group < length trail.old.seen.items }
+    requires room { IsRoomy trail.old }
+    ensures order { trail.new.order.items ≡ trail.old.order.items ++ record { group = group; from = from; via = via } ∷ [] }
+    ensures len { vec_len trail.new.order ≡ vec_len trail.old.order + 1 }
+    ensures seen { (n : ℕ) → is_set trail.new.seen.items n ≡ (if group == n then true else is_set trail.old.seen.items n) }
+    ensures room { IsRoomy trail.new }
+    ensures sizes { (length trail.new.seen.items ≡ length trail.old.seen.items) × (vec_capacity trail.new.order ≡ vec_capacity trail.old.order) }
+{
+    raise(&mut trail.seen, group);
+    trail.order.push_reserved(Visit { group, from, via });
+}
+
+/// The group of a visit.
+pub(crate) fn group_at(trail: &Trail, visit: usize) -> usize
+    requires { visit < vec_len trail.now.order }
+    ensures { IsGroupAt trail.now.order.items visit result }
+{
+    trail.order[visit].group
+}
+
+/// Looks at a dependency of a group that the search came to, and comes to its group if that is new.
+fn look_at(graph: &Graph, trail: &mut Trail, from: usize, to: usize) -> Look
+    requires trail { IsTrailOf graph.now trail.old }
+    requires room { IsRoomy trail.old }
+    requires wired { IsWired graph.now (length trail.old.seen.items) }
+    requires named { IsNamed graph.now trail.old from to }
+    ensures trail { IsTrailOf graph.now trail.new }
+    ensures room { IsRoomy trail.new }
+    ensures more { IsMore trail.old trail.new }
+    ensures looked { WasLooked graph.now trail.new to result }
+    ensures came { result ≡ Look.Came → vec_len trail.new.order ≡ vec_len trail.old.order + 1 }
+{
+    if is_set(&graph.ready, to) {
+        return Look::Known;
+    }
+    let Some(group) = at(&graph.homes, to) else {
+        return Look::Open;
+    };
+    if is_set(&trail.seen, group) {
+        return Look::Known;
+    }
+    come_to(trail, group, from, to);
+    Look::Came
+}
+
+/// Goes on from the last visit by the links of groups, as long as they lead to new ones.
+fn follow(graph: &Graph, links: &[Option<usize>], trail: &mut Trail) -> Option<Found>
+    requires trail { IsTrailOf graph.now trail.old }
+    requires room { IsRoomy trail.old }
+    requires wired { IsWired graph.now (length trail.old.seen.items) }
+    requires links { LinksAreDeps graph.now links.now }
+    requires some { 0 < vec_len trail.old.order }
+    ensures trail { IsTrailOf graph.now trail.new }
+    ensures room { IsRoomy trail.new }
+    ensures more { IsMore trail.old trail.new }
+    ensures found { IfSome result (λ f. IsOpen graph.now trail.new f) }
+{
+    loop {
+        let from = trail.order.len() - 1;
+        let to = at(links, group_at(trail, from))?;
+        match look_at(graph, trail, from, to) {
+            Look::Known => return None,
+            Look::Open => return Some(Found { from, to }),
+            Look::Came => {}
+        }
+    }
+}
+
+/// Looks at a dependency of a group that the search came to, and goes on from there.
+fn follow_to(
+    graph: &Graph,
+    links: &[Option<usize>],
+    trail: &mut Trail,
+    from: usize,
+    to: usize,
+) -> Option<Found>
+    requires trail { IsTrailOf graph.now trail.old }
+    requires room { IsRoomy trail.old }
+    requires wired { IsWired graph.now (length trail.old.seen.items) }
+    requires links { LinksAreDeps graph.now links.now }
+    requires named { IsNamed graph.now trail.old from to }
+    ensures trail { IsTrailOf graph.now trail.new }
+    ensures room { IsRoomy trail.new }
+    ensures more { IsMore trail.old trail.new }
+    ensures found { MatchOption result (IsLooked graph.now trail.new to) (λ f. IsOpen graph.now trail.new f) }
+{
+    match look_at(graph, trail, from, to) {
+        Look::Known => None,
+        Look::Open => Some(Found { from, to }),
+        Look::Came => follow(graph, links, trail),
+    }
+}
+
+/// Looks at the dependencies of a group that the search came to, from one of them on.
+fn scan(
+    graph: &Graph,
+    links: &[Option<usize>],
+    trail: &mut Trail,
+    from: usize,
+    start: usize,
+) -> Option<Found>
+    requires trail { IsTrailOf graph.now trail.old }
+    requires room { IsRoomy trail.old }
+    requires wired { IsWired graph.now (length trail.old.seen.items) }
+    requires links { LinksAreDeps graph.now links.now }
+    requires from { from < vec_len trail.old.order }
+    ensures trail { IsTrailOf graph.now trail.new }
+    ensures room { IsRoomy trail.new }
+    ensures more { IsMore trail.old trail.new }
+    ensures found { MatchOption result (IsPassed graph.now trail.new from start) (λ f. IsOpen graph.now trail.new f) }
+{
+    let deps = deps_of(&graph.nodes, group_at(trail, from));
+    for k in start..deps.len() {
+        let found = follow_to(graph, links, trail, from, deps[k]);
+        if found.is_some() {
+            return found;
+        }
+    }
+    None
+}
+
+/// Moves the cursor of a group past the dependencies that are ready for good.
+pub(crate) fn advance(graph: &Graph, cursors: &mut [usize], group: usize) -> usize
+    requires within { group < length cursors.old }
+    requires cursors { ArePassed graph.now cursors.old }
+    ensures cursors { ArePassed graph.now cursors.new }
+    ensures passed { (k d : ℕ) → k < result → slice_get (deps_in graph.now group) k ≡ Some d → ready_in graph.now d ≡ true }
+{
+    let deps = deps_of(&graph.nodes, group);
+    let mut start = cursors[group];
+    while start < deps.len() && is_set(&graph.ready, deps[start]) {
+        start += 1;
+    }
+    cursors[group] = start;
+    start
+}
+
+/// Searches on from where a trail stands, until it finds an instance that is not emitted, or has
+/// looked at all that the groups it came to depend on.
+pub(crate) fn search(
+    graph: &Graph,
+    links: &[Option<usize>],
+    cursors: &mut [usize],
+    trail: &mut Trail,
+) -> Option<Found>
+    requires trail { IsTrailOf graph.now trail.old }
+    requires room { IsRoomy trail.old }
+    requires wired { IsWired graph.now (length trail.old.seen.items) }
+    requires links { LinksAreDeps graph.now links.now }
+    requires cursors { ArePassed graph.now cursors.old }
+    requires sizes { length cursors.old ≡ length trail.old.seen.items }
+    ensures trail { IsTrailOf graph.now trail.new }
+    ensures more { IsMore trail.old trail.new }
+    ensures cursors { ArePassed graph.now cursors.new }
+    ensures found { MatchOption result (IsExhausted graph.now trail.new (vec_len trail.new.order)) (λ f. IsOpen graph.now trail.new f) }
+{
+    let mut from = 0;
+    while from < trail.order.len() {
+        let start = advance(graph, cursors, group_at(trail, from));
+        let found = scan(graph, links, trail, from, start);
+        if found.is_some() {
+            return found;
+        }
+        from += 1;
+    }
+    None
+}
