@@ -1,11 +1,10 @@
 -- The table of the dependencies of a unit's instances.
-use Rattle.std.proofs.Common.{◌≡◌, ℕ, zero, suc, ◌+◌, ◌<◌, ◌≤◌, Bool, true, false, ◌||◌, ◌==◌, List, [], ◌∷◌, ◌++◌, set, get_or, take, drop, length, slice_get, Option, Some, None, option_map, unwrap_or, refl, ap, sym, ◌∙◌, arith, add-one, add-zero, zero-add}
-use Rattle.std.specs.Bool.{if◌then◌else◌}
+use Rattle.std.proofs.Common.{◌≡◌, ℕ, suc, ◌+◌, ◌<◌, ◌≤◌, Bool, true, false, ◌||◌, ◌==◌, List, [], ◌∷◌, drop, length, slice_get, Option, Some, None, option_map, refl, ap, sym, ◌∙◌}
 use Rattle.std.specs.List.{list_any}
 use Rattle.std.proofs.lemmas.Option.{none-some}
 use Rattle.orc_ids.specs.declared.ids.InstId.{InstId}
 use Rattle.orc_ids.specs.declared.groups.Group.{Group}
-use Rattle.session_model.specs.Lists.{numbered, only_if, or_else, first_some}
+use Rattle.session_model.specs.Lists.{only_if, or_else, first_some}
 use Rattle.instances.specs.Groups.{group_deps, IsFilled, HasDeps}
 use Rattle.instances.proofs.Lists.{drop_one, drop_past}
 

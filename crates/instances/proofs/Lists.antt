@@ -1,5 +1,5 @@
 -- Lists of which a stretch is changed.
-use Rattle.std.proofs.Common.{◌≡◌, ℕ, zero, suc, ◌+◌, ◌<◌, ◌≤◌, map, List, [], ◌∷◌, ◌++◌, take, drop, set, get_or, length, slice_get, arith, sym, refl, ap, ap₂, ◌∙◌, Option, Some, None, add-one, add-zero, zero-add}
+use Rattle.std.proofs.Common.{◌≡◌, ℕ, zero, suc, ◌+◌, ◌<◌, ◌≤◌, map, List, [], ◌∷◌, ◌++◌, take, drop, set, get_or, length, slice_get, arith, sym, refl, ap, ap₂, ◌∙◌, Some, None, add-one, add-zero, zero-add}
 use Rattle.std.proofs.lemmas.Option.{none-some, same_Some}
 use Rattle.session_model.specs.Lists.{numbered}
 

@@ -1,5 +1,5 @@
 -- Rows that are changed within the span of their unit.
-use Rattle.std.proofs.Common.{◌≡◌, ℕ, ◌+◌, ◌<◌, ◌≤◌, Bool, true, false, ◌&&◌, ◌==◌, not, map, List, ◌++◌, take, drop, length, slice_get, arith, refl, ap, ◌∙◌, unwrap_or, Option, Some, None}
+use Rattle.std.proofs.Common.{◌≡◌, ℕ, ◌+◌, ◌≤◌, Bool, true, false, ◌&&◌, ◌==◌, not, map, List, ◌++◌, take, drop, arith, refl, ap, ◌∙◌, unwrap_or, Option}
 use Rattle.std.specs.Bool.{if◌then◌else◌}
 use Rattle.std.proofs.lemmas.Bool.{and_left, and_right, ne_eqb}
 use Rattle.orc_ids.specs.declared.groups.Group.{Group}
@@ -8,7 +8,6 @@ use Rattle.session_model.specs.Lists.{numbered, first_some}
 use Rattle.session_model.specs.Change.{claimed_row, emitted_row, deps_in}
 use Rattle.session_model.specs.Plain.{is_owned, is_unsearched, phase_address}
 use Rattle.session_model.specs.declared.rows.InstRow.{InstRow}
-use Rattle.session_model.specs.declared.rows.Phase.{Phase}
 use Rattle.session_model.specs.declared.rows.Phase.TheVariants as phase
 use Rattle.instances.specs.Groups.{group_deps, row_with}
 use Rattle.instances.specs.Rows.{addressed_row}

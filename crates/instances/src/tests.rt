@@ -16,7 +16,7 @@ const FLAGS: SymFlags = SymFlags {
     callable: true,
 };
 
-/// A unit that offers one name, at its start.
+/// A unit that offers one name, at its start, and wants another one.
 #[derive(Drop)]
 struct One;
 
@@ -27,7 +27,7 @@ impl UnitKind for One {
       shape = λ live. None;
       address = λ k base. base;
       source = None;
-      externals = λ live. [];
+      externals = λ live. record { name = record { 0 = 1 }; weak = true } ∷ [];
       image = λ live base bound. [];
       groups = λ live base bound own. record { members = own; deps = [] } ∷ [];
       refusal = λ live base bound. None;
@@ -64,13 +64,13 @@ impl UnitKind for One {
     }
 
     fn external_count(&self, _live: &[bool]) -> u32 {
-        0
+        1
     }
 
     fn external(&self, _live: &[bool], _k: u32) -> Wanted {
         Wanted {
-            name: NameId(0),
-            weak: false,
+            name: NameId(1),
+            weak: true,
         }
     }
 }

@@ -1,4 +1,4 @@
-use Rattle.std.proofs.Common.{ℕ, ◌-◌, ◌<◌, List, Some, length, slice_get, vec_capacity, subst, refl, ap, ap₂, sym, ◌∙◌, arith}
+use Rattle.std.proofs.Common.{ℕ, ◌-◌, ◌<◌, List, Some, length, vec_capacity, subst, refl, ap, ap₂, sym, ◌∙◌}
 use Rattle.std.proofs.lemmas.Option.{slice_get-get_or}
 use Rattle.session_model.specs.Lists.{numbered}
 use Rattle.session_model.specs.Change.{emitted_row}

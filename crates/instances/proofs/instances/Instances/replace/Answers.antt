@@ -1,4 +1,4 @@
-use Rattle.std.proofs.Common.{◌-◌, vec_capacity, length, refl, ap, ap₂, ◌∙◌}
+use Rattle.std.proofs.Common.{◌-◌, refl, ap, ap₂, ◌∙◌}
 use Rattle.instances.specs.Table.{Table, replaced_row}
 use Rattle.instances.proofs.Kept.{spanned_changed, changed_length}
 use Rattle.instances.proofs.instances.Instances.replace.Goals as goal

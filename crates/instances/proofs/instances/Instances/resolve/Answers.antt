@@ -1,4 +1,4 @@
-use Rattle.std.proofs.Common.{ℕ, List, slice_get, subst, refl, ap, sym, ◌∙◌}
+use Rattle.std.proofs.Common.{List, slice_get, subst, refl, ap, sym, ◌∙◌}
 use Rattle.session_model.specs.declared.rows.InstRow.{InstRow}
 use Rattle.instances.specs.Rows.{addressed_row}
 use Rattle.instances.specs.Table.{Table, AreChanged}

@@ -1,6 +1,5 @@
-use Rattle.std.proofs.Common.{ℕ, List, refl, subst, sym, ◌∙◌, append-nil, arith, rules}
+use Rattle.std.proofs.Common.{List, refl, subst, sym, ◌∙◌, append-nil, rules}
 use Rattle.std.specs.Prelude.{IsPermutation}
-use Rattle.std.proofs.lemmas.List.{length-replicate}
 use Rattle.std.proofs.lemmas.List.Sorted.{IsPermutation-refl}
 use Rattle.orc_ids.specs.declared.ids.InstId.{InstId}
 use Rattle.instances.proofs.TestUnits.{first_place}
