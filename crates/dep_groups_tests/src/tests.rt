@@ -1,0 +1,78 @@
+ghost use Rattle.std.specs.Prelude.{◌≡◌, ◌∷◌, [], ℕ, IfOk, OnOk};
+ghost use Rattle.dep_groups.specs.Frontier.{Absent, entry_at};
+
+use dep_groups::Frontier;
+use orc_ids::{Group, InstId, Items};
+use std::alloc::{AllocError, Global};
+use std::test::Fail;
+
+/// A group of one instance.
+fn group_of(alloc: Global, member: InstId, deps: &[InstId]) -> Result<Group, AllocError>
+    ensures { IfOk result (λ g. g.members ≡ member ∷ []) }
+{
+    Ok(Group {
+        members: Items::from_vec(vec![in alloc; member]?),
+        deps: Items::from_vec(deps.to_vec(alloc)?),
+    })
+}
+
+/// Emits one instance with what it depends on.
+fn emit_one(
+    alloc: Global,
+    frontier: &mut Frontier,
+    member: InstId,
+    deps: &[InstId],
+) -> Result<(), AllocError>
+    requires { entry_at frontier.old.entries member.0 ≡ Absent }
+    ensures { OnOk result ((i : ℕ) → (member.0 ≡ i → ⊥) → entry_at frontier.new.entries i ≡ entry_at frontier.old.entries i) }
+{
+    let group = group_of(alloc, member, deps)?;
+    frontier.emit(&[group])
+}
+
+/// The instances that are told, in rising order.
+fn are_told(frontier: &Frontier, numbers: &[u32]) -> bool {
+    for number in numbers {
+        if !frontier.told().contains(&InstId(*number)) {
+            return false;
+        }
+    }
+    frontier.told().len() == numbers.len()
+}
+
+#[test]
+fn nothing_is_ready_at_first(rt: HostRuntime) {
+    let frontier = Frontier::new(rt.alloc());
+    assert!(rt; !frontier.is_ready(InstId(0)));
+    assert!(rt; are_told(&frontier, &[]));
+}
+
+#[test]
+fn a_circle_waits_for_a_third(rt: HostRuntime) -> Result<(), Fail> {
+    let alloc = rt.alloc();
+    let mut frontier = Frontier::new(alloc);
+    emit_one(alloc, &mut frontier, InstId(0), &[InstId(1), InstId(2)])?;
+    emit_one(alloc, &mut frontier, InstId(1), &[InstId(0)])?;
+    assert!(rt; !frontier.is_ready(InstId(0)));
+    assert!(rt; !frontier.is_ready(InstId(1)));
+    assert!(rt; are_told(&frontier, &[]));
+    emit_one(alloc, &mut frontier, InstId(2), &[])?;
+    assert!(rt; frontier.is_ready(InstId(0)));
+    assert!(rt; frontier.is_ready(InstId(1)));
+    assert!(rt; frontier.is_ready(InstId(2)));
+    assert!(rt; are_told(&frontier, &[0, 1, 2]));
+    Ok(())
+}
+
+#[test]
+fn a_chain_is_ready_from_its_end(rt: HostRuntime) -> Result<(), Fail> {
+    let alloc = rt.alloc();
+    let mut frontier = Frontier::new(alloc);
+    emit_one(alloc, &mut frontier, InstId(0), &[])?;
+    assert!(rt; are_told(&frontier, &[0]));
+    emit_one(alloc, &mut frontier, InstId(5), &[InstId(4)])?;
+    assert!(rt; are_told(&frontier, &[]));
+    emit_one(alloc, &mut frontier, InstId(4), &[InstId(0)])?;
+    assert!(rt; are_told(&frontier, &[4, 5]));
+    Ok(())
+}
