@@ -1,0 +1,11 @@
+pub mod Parts
+pub mod Walks
+pub mod Marking
+pub mod Drains
+pub mod Hearing
+pub mod Endings
+pub mod Rising
+pub mod Settling
+pub mod Finishing
+pub mod Listing
+pub mod Lodging

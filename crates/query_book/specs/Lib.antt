@@ -1,0 +1,10 @@
+pub mod Stands
+pub mod Ends
+pub mod Counts
+pub mod Lists
+pub mod Marks
+pub mod Board
+pub mod Rows
+pub mod States
+pub mod Ledger
+pub mod Kept
