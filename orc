@@ -5,10 +5,11 @@
 here=$(CDPATH='' cd -- "$(dirname -- "$0")" && pwd) || exit 1
 program=$here/crates/orc/out/orc
 
-# (the crates that it was built from stand beside it)
+# (the crates that it was built from stand beside it; after the gate alone, all are looked through)
 is_current() {
-    [ -x "$program" ] && [ -r "$program.crates" ] &&
-        [ -z "$(cd "$here/crates" && find ../crates.txt $(cat "$program.crates") \( -name out -o -name must-fail \) -prune -o -type f -newer "$program" -print -quit)" ]
+    [ -x "$program" ] || return 1
+    crates=$(cat "$program.crates" 2>/dev/null) || crates=.
+    [ -z "$(cd "$here/crates" && find ../crates.txt $crates \( -name out -o -name must-fail \) -prune -o -type f -newer "$program" -print -quit)" ]
 }
 
 is_current || "$here/tools/build_orc.py" || exit 1
