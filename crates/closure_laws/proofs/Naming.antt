@@ -39,7 +39,7 @@ abbrev IsNamed : List InstRow → ℕ → ℕ → Type 0
 IsNamed rows i name = (r : InstRow) × (slice_get rows i ≡ Some r) × (r.name.0 ≡ name)
 
 -- a row that is first to pass a test is there, and passes
-row_passes : (test : InstRow → Bool) (k : ℕ) (rows : List InstRow) (r : Row) → first_row test k rows ≡ Some r → (n : ℕ) × (r.inst.0 ≡ k + n) × (x : InstRow) × (slice_get rows n ≡ Some x) × (test x ≡ true)
+pub row_passes : (test : InstRow → Bool) (k : ℕ) (rows : List InstRow) (r : Row) → first_row test k rows ≡ Some r → (n : ℕ) × (r.inst.0 ≡ k + n) × (x : InstRow) × (slice_get rows n ≡ Some x) × (test x ≡ true)
 row_passes test k [] r e = absurd (none-some r e)
 row_passes test k (y ∷ ys) r e = chosen (λ o. o ≡ Some r → (n : ℕ) × (r.inst.0 ≡ k + n) × (x : InstRow) × (slice_get (y ∷ ys) n ≡ Some x) × (test x ≡ true)) (test y) (Some (record { inst = record { 0 = k }; flags = y.flags })) (first_row test (k + 1) ys)
     (λ b h. let is : record { inst = record { 0 = k }; flags = y.flags } ≡ r = same_Some (record { inst = record { 0 = k }; flags = y.flags }) r h in (0, sym (ap (λ (z : Row). z.inst.0) is) ∙ omega arith, y, refl, b))

@@ -292,7 +292,7 @@ gone_rank stage.Defunct stage.Defunct e f le = both_ways true f refl
 gone_rank _ q e f le = both_ways false refl e
 
 -- a unit that isn't gone wasn't before
-alive_before : (m : Plain) (s : ℕ) (c : Change Meaning) (u : ℕ) (x y : UnitRow) → IsSound m → Guard m s c → slice_get m.units u ≡ Some x → slice_get (changed c m).units u ≡ Some y → is_defunct y.phase ≡ false → is_defunct x.phase ≡ false
+pub alive_before : (m : Plain) (s : ℕ) (c : Change Meaning) (u : ℕ) (x y : UnitRow) → IsSound m → Guard m s c → slice_get m.units u ≡ Some x → slice_get (changed c m).units u ≡ Some y → is_defunct y.phase ≡ false → is_defunct x.phase ≡ false
 alive_before m s c u x y h g t e alive = false_from_ne_true (is_defunct x.phase) (λ gone. let z = change_rises m s c h g u x t in
     gone_rank x.phase y.phase gone alive (subst (λ (w : UnitRow). rank x.phase ≤ rank w.phase) (same_element (slice_get (changed c m).units u) z.0 y z.1 e) z.2))
 
@@ -338,7 +338,7 @@ live_changed m s c h g old = split (define_or c)
     split (inr (inr other)) = other_live m s c other h g old
 
 -- settling ends no unit
-settled_alive : (m : Plain) (u : ℕ) (y : UnitRow) → slice_get (settled m).units u ≡ Some y → is_defunct y.phase ≡ false → (x : UnitRow) × (slice_get m.units u ≡ Some x) × (is_defunct x.phase ≡ false)
+pub settled_alive : (m : Plain) (u : ℕ) (y : UnitRow) → slice_get (settled m).units u ≡ Some y → is_defunct y.phase ≡ false → (x : UnitRow) × (slice_get m.units u ≡ Some x) × (is_defunct x.phase ≡ false)
 settled_alive m = settling_keeps (λ n. (u : ℕ) (y : UnitRow) → slice_get n.units u ≡ Some y → is_defunct y.phase ≡ false → (x : UnitRow) × (slice_get m.units u ≡ Some x) × (is_defunct x.phase ≡ false)) step 0 m.queries m (λ u y e a. (y, e, a))
   where
     step : (v k : ℕ) (q : Query) (n : Plain) → ((u : ℕ) (y : UnitRow) → slice_get n.units u ≡ Some y → is_defunct y.phase ≡ false → (x : UnitRow) × (slice_get m.units u ≡ Some x) × (is_defunct x.phase ≡ false)) → waits_for n v k ≡ true → is_met n.rows q ≡ true → q.unit ≡ Some v →

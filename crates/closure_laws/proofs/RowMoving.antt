@@ -181,21 +181,22 @@ change_rows m s (LetGo t u) h g = rows_same m (LetGo t u)
 -- what an instance is stays, and one that is present was so
 pub record SameRow (r q : InstRow) : Type 0 where
   pub unit : q.unit ≡ r.unit
+  pub dylib : q.dylib ≡ r.dylib
   pub offer : q.offer ≡ r.offer
   pub name : q.name ≡ r.name
   pub flags : q.flags ≡ r.flags
   pub present : q.present ≡ true → r.present ≡ true
 
 move_same : (m : Plain) (c : Change Meaning) (i : ℕ) (r q : InstRow) → RowMoves m c i r q → SameRow r q
-move_same m c i r _ RowStays = record { unit = refl; offer = refl; name = refl; flags = refl; present = λ e. e }
-move_same m c i r _ (RowYields d f) = record { unit = refl; offer = refl; name = refl; flags = refl; present = λ e. absurd (both_ways false refl e) }
-move_same m c i r _ (RowClaimed e) = record { unit = refl; offer = refl; name = refl; flags = refl; present = λ e. e }
-move_same m c i r _ (RowResolved b e) = record { unit = refl; offer = refl; name = refl; flags = refl; present = λ e. e }
-move_same m c i r _ (RowEmitted u groups x is v t f own e) = record { unit = refl; offer = refl; name = refl; flags = refl; present = λ e. e }
-move_same m c i r _ RowFails = record { unit = refl; offer = refl; name = refl; flags = refl; present = λ e. e }
-move_same m c i r _ (RowGoes t is f) = record { unit = refl; offer = refl; name = refl; flags = refl; present = λ e. absurd (both_ways false refl e) }
+move_same m c i r _ RowStays = record { unit = refl; dylib = refl; offer = refl; name = refl; flags = refl; present = λ e. e }
+move_same m c i r _ (RowYields d f) = record { unit = refl; dylib = refl; offer = refl; name = refl; flags = refl; present = λ e. absurd (both_ways false refl e) }
+move_same m c i r _ (RowClaimed e) = record { unit = refl; dylib = refl; offer = refl; name = refl; flags = refl; present = λ e. e }
+move_same m c i r _ (RowResolved b e) = record { unit = refl; dylib = refl; offer = refl; name = refl; flags = refl; present = λ e. e }
+move_same m c i r _ (RowEmitted u groups x is v t f own e) = record { unit = refl; dylib = refl; offer = refl; name = refl; flags = refl; present = λ e. e }
+move_same m c i r _ RowFails = record { unit = refl; dylib = refl; offer = refl; name = refl; flags = refl; present = λ e. e }
+move_same m c i r _ (RowGoes t is f) = record { unit = refl; dylib = refl; offer = refl; name = refl; flags = refl; present = λ e. absurd (both_ways false refl e) }
 
 pub run_same : (m : Plain) (c : Change Meaning) (i : ℕ) (r q : InstRow) → RowRuns m c i r q → SameRow r q
-run_same m c i r _ RowHere = record { unit = refl; offer = refl; name = refl; flags = refl; present = λ e. e }
+run_same m c i r _ RowHere = record { unit = refl; dylib = refl; offer = refl; name = refl; flags = refl; present = λ e. e }
 run_same m c i r _ (RowOn p q a b) = let s = run_same m c i r p a in let t = move_same m c i p q b in
-    record { unit = t.unit ∙ s.unit; offer = t.offer ∙ s.offer; name = t.name ∙ s.name; flags = t.flags ∙ s.flags; present = λ e. s.present (t.present e) }
+    record { unit = t.unit ∙ s.unit; dylib = t.dylib ∙ s.dylib; offer = t.offer ∙ s.offer; name = t.name ∙ s.name; flags = t.flags ∙ s.flags; present = λ e. s.present (t.present e) }

@@ -2,5 +2,10 @@ pub mod Aliases
 pub mod Bindings
 pub mod Bound
 pub mod Dependencies
+pub mod Homes
 pub mod Instances
+pub mod Levels
 pub mod Links
+pub mod Names
+pub mod Presence
+pub mod Queries
