@@ -73,6 +73,13 @@ indexed_added nodes n firsts new edges more complete listed kept g d named = sor
     sort (inl e) = kept d g (complete g d e)
     sort (inr e) = subst (λ m. IsListed more (place new d) m) (sym e.0) (listed d e.1)
 
+pub named_added : (nodes : List Node) (n : Node) (firsts new : List (Option ℕ)) (edges more : List Edge) → ((g d : ℕ) → IsListed edges (place firsts d) g → Contains (deps_of nodes g) d) → ((d g : ℕ) → IsListed more (place new d) g → IsListed edges (place firsts d) g ⊎ (Contains n.deps.items d × (g ≡ length nodes))) → (g d : ℕ) → IsListed more (place new d) g → Contains (deps_of (nodes ++ n ∷ []) g) d
+named_added nodes n firsts new edges more named only g d listed = sort (only d g listed)
+  where
+    sort : IsListed edges (place firsts d) g ⊎ (Contains n.deps.items d × (g ≡ length nodes)) → Contains (deps_of (nodes ++ n ∷ []) g) d
+    sort (inl e) = deps_kept nodes n g d (named g d e)
+    sort (inr e) = subst (λ m. Contains (deps_of (nodes ++ n ∷ []) m) d) (sym e.1) (subst (λ ds. Contains ds d) (sym (deps_here nodes n)) e.0)
+
 -- flags and links of one more group
 flag_kept : (xs : List Bool) (b : Bool) (k : ℕ) → is_set xs k ≡ true → is_set (xs ++ b ∷ []) k ≡ true
 unfolding is_set
@@ -91,7 +98,7 @@ place_past_end [] k past = refl
 place_past_end (x ∷ xs) zero past = absurd (omega (arith, past))
 place_past_end (x ∷ xs) (suc k) past = place_past_end xs k (omega (arith, past))
 
-unlisted : (edges : List Edge) (o : Option ℕ) (g : ℕ) → o ≡ None → IsListed edges o g → ⊥
+pub unlisted : (edges : List Edge) (o : Option ℕ) (g : ℕ) → o ≡ None → IsListed edges o g → ⊥
 unlisted edges o g e (here {k = k} f is same) = none-some k (sym e)
 unlisted edges o g e (later {k = k} f is rest) = none-some k (sym e)
 

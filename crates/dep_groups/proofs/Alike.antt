@@ -45,6 +45,7 @@ module _ (old new : Core) (a : IsAlike old new) where
   pub indexed_alike : IsIndexed old.graph → IsIndexed new.graph
   indexed_alike x = record {
     complete = λ g d named. subst (λ o. IsListed new.graph.edges.items o g) (sym (a.firsts d)) (subst (λ es. IsListed es (place old.graph.firsts.items d) g) (sym a.edges) (x.complete g d (subst (λ ns. Contains (deps_of ns g) d) a.nodes named)));
+    named = λ g d listed. subst (λ ns. Contains (deps_of ns g) d) (sym a.nodes) (x.named g d (subst (λ es. IsListed es (place old.graph.firsts.items d) g) a.edges (subst (λ o. IsListed new.graph.edges.items o g) (a.firsts d) listed)));
     falls = λ k j e at next. x.falls k j e (ap (λ es. slice_get es k) (sym a.edges) ∙ at) next;
     groups = λ k e at. subst (λ ns. e.group < length ns) (sym a.nodes) (x.groups k e (ap (λ es. slice_get es k) (sym a.edges) ∙ at));
     firsts = λ d k is. subst (λ es. k < length es) (sym a.edges) (x.firsts d k (sym (a.firsts d) ∙ is));

@@ -20,7 +20,8 @@ use Rattle.dep_groups.specs.Frontier.{Entry, Absent, Emitted, entry_at, numbers,
 use Rattle.dep_groups.specs.Frontier as frontier
 use Rattle.dep_groups.proofs.Lists.{get_kept, get_last, contains_at, at_contains}
 use Rattle.dep_groups.proofs.Wakes.{same_home, same_deps}
-use Rattle.dep_groups.proofs.Exact.{entry_here, entry_home, marked_ready, unmarked_unready, ready_marked}
+use Rattle.dep_groups.proofs.Entries.{entry_here, entry_home}
+use Rattle.dep_groups.proofs.Exact.{marked_ready, unmarked_unready, ready_marked}
 
 pub on_ok : {T E : Type 0} (r : Result T E) {A B : Type 0} → (A → B) → OnOk r A → OnOk r B
 on_ok (Ok x) f a = f a
@@ -82,7 +83,7 @@ module _ (groups : List Group) (nodes : List Node) (c : AreCopies groups nodes (
   member_of k node m is named = let x = copy_of k node is in record { at = k; group = x.0; is = x.1; member = subst (λ ms. Contains ms m) x.2.members named }
 
   no_group : (core : Core) (i : ℕ) → entry_at (entries_in core) i ≡ Absent → home_in core.graph i ≡ None
-  no_group core i absent = sort (home_in core.graph i) (sym (entry_here core i) ∙ absent)
+  no_group core i absent = sort (home_in core.graph i) (sym (entry_here core.graph i) ∙ absent)
     where
       sort : (o : Option ℕ) → entry_of core.graph.nodes.items o ≡ Absent → o ≡ None
       sort None e = refl
@@ -99,12 +100,12 @@ module _ (groups : List Group) (nodes : List Node) (c : AreCopies groups nodes (
           let same : x.group ≡ group = same_Some x.group group (sym x.group_is ∙ is) in
           let copy = subst (λ (g : Group). IsCopy g x.node) same x.copy in
           let h = e.each k x.node m x.node_is (subst (λ ms. Contains ms m) (sym copy.members) named) in
-          entry_home new m.0 h.group h.home ∙ ap Emitted (h.deps_same ∙ copy.deps);
+          entry_home new.graph m.0 h.group h.home ∙ ap Emitted (h.deps_same ∙ copy.deps);
       others = λ i out. others i (e.others i (λ k node is named. out (member_of k node (record { 0 = i }) is named)));
     }
       where
         others : (i : ℕ) → home_in new.graph i ≡ home_in old.graph i → entry_at (entries_in new) i ≡ entry_at (entries_in old) i
-        others i same = entry_here new i ∙ ap (entry_of new.graph.nodes.items) same ∙ sort (home_in old.graph i) refl ∙ sym (entry_here old i)
+        others i same = entry_here new.graph i ∙ ap (entry_of new.graph.nodes.items) same ∙ sort (home_in old.graph i) refl ∙ sym (entry_here old.graph i)
           where
             sort : (o : Option ℕ) → home_in old.graph i ≡ o → entry_of new.graph.nodes.items o ≡ entry_of old.graph.nodes.items o
             sort None at = refl

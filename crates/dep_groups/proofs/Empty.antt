@@ -8,13 +8,16 @@ use Rattle.dep_groups.specs.Places.{place, is_set}
 use Rattle.dep_groups.specs.Shape.{home_in, deps_of, ready_in}
 use Rattle.dep_groups.specs.Links.{linked_of, stop}
 use Rattle.dep_groups.specs.Kept.{IsKept}
+use Rattle.dep_groups.specs.declared.hits.Hits.{Hits}
+use Rattle.dep_groups.specs.Hits.{IsWhole}
 use Rattle.dep_groups.proofs.Tables.{unset_few}
+use Rattle.dep_groups.proofs.Additions.{unlisted}
 
 no_place : (k : ℕ) → place [] k ≡ None
 unfolding place
 no_place k = refl
 
-no_flag : (k : ℕ) → is_set [] k ≡ false
+pub no_flag : (k : ℕ) → is_set [] k ≡ false
 unfolding is_set
 no_flag k = refl
 
@@ -74,10 +77,18 @@ module _ (core : Core) (e : IsEmpty core) where
     };
     indexed = record {
       complete = λ g d named. absurd (omega (arith, (subst (λ ds. Contains ds d) (ap (λ ns. deps_of ns g) e.nodes ∙ no_deps g) named).1));
+      named = λ g d listed. absurd (unlisted core.graph.edges.items (place core.graph.firsts.items d) g (ap (λ fs. place fs d) e.firsts ∙ no_place d) listed);
       falls = λ k j x at next. absurd (none-some x (ap (λ es. slice_get es k) (sym e.edges) ∙ at));
       groups = λ k x at. absurd (none-some x (ap (λ es. slice_get es k) (sym e.edges) ∙ at));
       firsts = λ d k is. absurd (none-some k (sym (ap (λ fs. place fs d) e.firsts ∙ no_place d) ∙ is));
     };
     firsts = ap length e.firsts ∙ sym (ap length e.homes);
     held = λ i g is low. absurd (no_home i g is);
+  }
+
+  pub whole_empty : (hits : Hits) → hits.flags.items ≡ [] → IsWhole core hits
+  whole_empty hits none = record {
+    kept = kept_empty;
+    resting = record { clear = λ i. ap (λ fs. is_set fs i) none ∙ no_flag i; room = omega (arith, ap length none) };
+    covers = omega (arith, ap length e.homes);
   }

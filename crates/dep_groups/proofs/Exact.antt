@@ -1,46 +1,24 @@
 -- What is marked is what is ready.
-use Rattle.std.proofs.Common.{◌≡◌, ℕ, true, false, Option, Some, None, ◌⊎◌, inl, inr, ⊎_elim, List, [], ◌∷◌, map, Contains, zero, suc, ap, sym, subst, ◌∙◌, refl, arith}
+use Rattle.std.proofs.Common.{◌≡◌, ℕ, true, false, Option, Some, None, ◌⊎◌, inl, inr, ⊎_elim, Contains, ap, sym, subst, ◌∙◌, refl}
 use Rattle.std.proofs.lemmas.Option.{same_Some, none-some}
 use Rattle.std.proofs.lemmas.Bool.{both_ways, cases_Bool}
 use Rattle.graph_walks.proofs.Paths.{closed_holds_reached, reaches_self, reaches_next}
-use Rattle.dep_groups.specs.declared.graph.Node.{Node}
 use Rattle.dep_groups.specs.declared.resolve.Core.{Core}
 use Rattle.dep_groups.specs.Places.{place}
-use Rattle.dep_groups.specs.Shape.{home_in, deps_in, ready_in}
+use Rattle.dep_groups.specs.Shape.{home_in, ready_in}
 use Rattle.dep_groups.specs.Links.{linked_of, step, Ends, stop, go}
 use Rattle.dep_groups.specs.Core.{IsSound}
 use Rattle.dep_groups.specs.Kept.{IsKept, entry_of, entries_in}
-use Rattle.dep_groups.specs.Frontier.{Emitted, entry_at, deps_of_entry, is_emitted, next_of, is_emitted_at, Reaches, IsReady}
-
-pub entry_is : (nodes : List Node) (homes : List (Option ℕ)) (i : ℕ) → entry_at (map (entry_of nodes) homes) i ≡ entry_of nodes (place homes i)
-unfolding place
-entry_is nodes [] i = refl
-entry_is nodes (x ∷ xs) zero = refl
-entry_is nodes (x ∷ xs) (suc i) = entry_is nodes xs i
+use Rattle.dep_groups.specs.Frontier.{is_emitted, next_of, is_emitted_at, Reaches, IsReady}
+use Rattle.dep_groups.proofs.Entries.{entry_here, entry_home, named_next, next_named}
 
 module _ (core : Core) where
-  pub entry_here : (i : ℕ) → entry_at (entries_in core) i ≡ entry_of core.graph.nodes.items (home_in core.graph i)
-  entry_here i = entry_is core.graph.nodes.items core.graph.homes.items i
-
-  pub entry_home : (i g : ℕ) → home_in core.graph i ≡ Some g → entry_at (entries_in core) i ≡ Emitted (deps_in core.graph g)
-  entry_home i g is = entry_here i ∙ ap (entry_of core.graph.nodes.items) is
-
-  named_next : (i g d : ℕ) → home_in core.graph i ≡ Some g → Contains (deps_in core.graph g) d → Contains (next_of (entries_in core) i) d
-  named_next i g d is named = subst (λ e. Contains (deps_of_entry e) d) (sym (entry_home i g is)) named
-
-  next_named : (i d : ℕ) → Contains (next_of (entries_in core) i) d → (g : ℕ) × (home_in core.graph i ≡ Some g) × Contains (deps_in core.graph g) d
-  next_named i d named = sort (home_in core.graph i) refl (subst (λ e. Contains (deps_of_entry e) d) (entry_here i) named)
-    where
-      sort : (o : Option ℕ) → home_in core.graph i ≡ o → Contains (deps_of_entry (entry_of core.graph.nodes.items o)) d → (g : ℕ) × (home_in core.graph i ≡ Some g) × Contains (deps_in core.graph g) d
-      sort None e c = absurd (omega (arith, c.1))
-      sort (Some g) e c = (g, e, c)
-
   pub marked_ready : IsSound core → (i : ℕ) → ready_in core.graph i ≡ true → IsReady (entries_in core) i
   marked_ready s i high = record {
     each = λ j r.
-        let marked = closed_holds_reached (next_of (entries_in core)) (ready_in core.graph) (λ n k set named. let h = next_named n k named in s.ready.closed n h.0 k set h.1 h.2) i j high r in
+        let marked = closed_holds_reached (next_of (entries_in core)) (ready_in core.graph) (λ n k set named. let h = next_named core.graph n k named in s.ready.closed n h.0 k set h.1 h.2) i j high r in
         let h = s.ready.emitted j marked in
-        ap is_emitted (entry_home j h.0 h.1);
+        ap is_emitted (entry_home core.graph j h.0 h.1);
   }
 
   -- an instance that is not emitted is reached
@@ -50,13 +28,13 @@ module _ (core : Core) where
     absent : is_emitted_at (entries_in core) to ≡ false
 
   absent_reached : (i : ℕ) → home_in core.graph i ≡ None → Unwaited i
-  absent_reached i e = record { to = i; path = reaches_self (next_of (entries_in core)) i; absent = ap is_emitted (entry_here i ∙ ap (entry_of core.graph.nodes.items) e) }
+  absent_reached i e = record { to = i; path = reaches_self (next_of (entries_in core)) i; absent = ap is_emitted (entry_here core.graph i ∙ ap (entry_of core.graph.nodes.items) e) }
 
   linked_to : IsKept core → (i g j : ℕ) → home_in core.graph i ≡ Some g → ready_in core.graph i ≡ false → step (home_in core.graph) (place core.links.items) i ≡ Some j → (ready_in core.graph j ≡ false) × Contains (next_of (entries_in core) i) j
   linked_to k i g j e low s =
       let h = k.held i g e low in
       let same : h.to ≡ j = same_Some h.to j (sym (ap (linked_of (place core.links.items)) e ∙ h.link) ∙ s) in
-      (subst (λ n. ready_in core.graph n ≡ false) same h.unready, subst (λ n. Contains (next_of (entries_in core) i) n) same (named_next i g h.to e (k.sound.deps.deps g h.to h.link)))
+      (subst (λ n. ready_in core.graph n ≡ false) same h.unready, subst (λ n. Contains (next_of (entries_in core) i) n) same (named_next core.graph i g h.to e (k.sound.deps.deps g h.to h.link)))
 
   ends_not : IsKept core → (i g : ℕ) → home_in core.graph i ≡ Some g → ready_in core.graph i ≡ false → step (home_in core.graph) (place core.links.items) i ≡ None → ⊥
   ends_not k i g e low s = let h = k.held i g e low in none-some h.to (sym s ∙ ap (linked_of (place core.links.items)) e ∙ h.link)

@@ -12,6 +12,9 @@ pub mod Additions
 pub mod Addings
 pub mod Needs
 pub mod Alike
+pub mod Entries
 pub mod Exact
 pub mod Empty
 pub mod Emissions
+pub mod Spreads
+pub mod Failures

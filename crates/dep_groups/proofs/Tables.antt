@@ -36,6 +36,21 @@ pub place_written : (xs : List (Option ℕ)) (k n x : ℕ) → k < length xs →
 unfolding place
 place_written xs k n x less = ap within_place (written xs k n (Some x) less) ∙ through within_place (k == n) (Some (Some x)) (slice_get xs n)
 
+pub place_past : (xs : List (Option ℕ)) (k : ℕ) → length xs ≤ k → None ≡ place xs k
+unfolding place
+place_past xs k past = sym (ap within_place (slice_get_past xs k past))
+
+pub place_emptied : (xs : List (Option ℕ)) (k n : ℕ) → k < length xs → place (slice_set xs k None) n ≡ (if k == n then None else place xs n)
+unfolding place
+place_emptied xs k n less = ap within_place (written xs k n None less) ∙ through within_place (k == n) (Some None) (slice_get xs n)
+
+-- past the end there is nothing to empty
+pub place_left : (xs : List (Option ℕ)) (k n : ℕ) → length xs ≤ k → place xs n ≡ (if k == n then None else place xs n)
+place_left xs k n past =
+    ⊎_elim (λ (e : ((k == n) ≡ true) × (k ≡ n)). subst (λ m. place xs m ≡ None) e.1 (sym (place_past xs k past)) ∙ sym (ap (λ b. cond b None (place xs n)) e.0))
+    (λ (e : ((k == n) ≡ false) × (k ≢ n)). sym (ap (λ b. cond b None (place xs n)) e.0))
+    (eqb_tells k n)
+
 pub flag_written : (xs : List Bool) (k n : ℕ) (x : Bool) → k < length xs → is_set (slice_set xs k x) n ≡ (if k == n then x else is_set xs n)
 unfolding is_set
 flag_written xs k n x less = ap (λ o. unwrap_or o false) (written xs k n x less) ∙ through (λ o. unwrap_or o false) (k == n) (Some x) (slice_get xs n)
@@ -44,10 +59,6 @@ flag_written xs k n x less = ap (λ o. unwrap_or o false) (written xs k n x less
 pub place_read : (xs : List (Option ℕ)) (k : ℕ) (x : Option ℕ) → k < length xs → x ≡ get_or xs k x → x ≡ place xs k
 unfolding place
 place_read xs k x less read = sym (ap within_place (slice_get_read xs (length xs) k x refl less read))
-
-pub place_past : (xs : List (Option ℕ)) (k : ℕ) → length xs ≤ k → None ≡ place xs k
-unfolding place
-place_past xs k past = sym (ap within_place (slice_get_past xs k past))
 
 pub flag_read : (xs : List Bool) (k : ℕ) (x : Bool) → k < length xs → x ≡ get_or xs k x → x ≡ is_set xs k
 unfolding is_set

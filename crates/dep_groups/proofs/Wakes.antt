@@ -34,6 +34,7 @@ same_deps a b g s = ap (λ ns. deps_of ns.items g) s.nodes
 pub indexed_same : (a b : Graph) → IsSameGraph a b → IsIndexed a → IsIndexed b
 indexed_same a b s x = record {
   complete = λ g d named. subst (λ fs. IsListed b.edges.items (place fs.items d) g) (sym s.firsts) (subst (λ es. IsListed es.items (place a.firsts.items d) g) (sym s.edges) (x.complete g d (subst (λ ds. Contains ds d) (same_deps a b g s) named)));
+  named = λ g d listed. subst (λ ds. Contains ds d) (sym (same_deps a b g s)) (x.named g d (subst (λ es. IsListed es.items (place a.firsts.items d) g) s.edges (subst (λ fs. IsListed b.edges.items (place fs.items d) g) s.firsts listed)));
   falls = λ k j e at next. x.falls k j e (ap (λ es. slice_get es.items k) (sym s.edges) ∙ at) next;
   groups = λ k e at. subst (λ ns. e.group < length ns.items) (sym s.nodes) (x.groups k e (ap (λ es. slice_get es.items k) (sym s.edges) ∙ at));
   firsts = λ d k is. subst (λ es. k < length es.items) (sym s.edges) (x.firsts d k (ap (λ fs. place fs.items d) (sym s.firsts) ∙ is));

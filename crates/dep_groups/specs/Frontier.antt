@@ -1,6 +1,6 @@
--- What a frontier is: of each instance whether it was emitted, and what it depends on then; and what
--- became ready at the last emission.
-use Rattle.std.specs.Prelude.{◌≡◌, ℕ, Bool, true, false, Option, Some, None, List, [], map, slice_get, Contains}
+-- What a frontier is: of each instance whether it was emitted, and what it depends on then; what became
+-- ready at the last emission; for how many instances there is room; and what the last failure hit.
+use Rattle.std.specs.Prelude.{◌≡◌, ℕ, Bool, true, false, Option, Some, None, ◌⊎◌, List, [], map, slice_get, Contains}
 use Rattle.graph_walks.specs.Walks as walks
 use Rattle.orc_ids.specs.declared.ids.InstId.{InstId}
 use Rattle.orc_ids.specs.declared.groups.Group.{Group}
@@ -13,6 +13,8 @@ pub data Entry : Type 0 where
 pub record Waiting : Type 0 where
   pub entries : List Entry
   pub told : List InstId
+  pub places : ℕ
+  pub hits : List InstId
 
 -- numbers past the end aren't emitted
 abbrev pub or_absent : Option Entry → Entry
@@ -74,3 +76,21 @@ pub record IsNews (old new : List Entry) (told : List InstId) : Type 0 where
   pub all : (i : ℕ) → IsReady new i → (IsReady old i → ⊥) → Contains told (record { 0 = i })
   pub only : (m : InstId) → Contains told m → IsReady new m.0 × (IsReady old m.0 → ⊥)
   pub once : (j k : ℕ) (m : InstId) → slice_get told j ≡ Some m → slice_get told k ≡ Some m → j ≡ k
+
+-- a failure of some instances hits what reaches one of them and isn't ready
+pub record IsHit (entries : List Entry) (roots : List InstId) (i : ℕ) : Type 0 where
+  pub unready : IsReady entries i → ⊥
+  pub root : InstId
+  pub chosen : Contains roots root
+  pub reaches : Reaches entries i root.0
+
+-- the instances that are hit, each once
+pub record AreHits (entries : List Entry) (roots hits : List InstId) : Type 0 where
+  pub all : (i : ℕ) → IsHit entries roots i → Contains hits (record { 0 = i })
+  pub only : (m : InstId) → Contains hits m → IsHit entries roots m.0
+  pub once : (j k : ℕ) (m : InstId) → slice_get hits j ≡ Some m → slice_get hits k ≡ Some m → j ≡ k
+
+-- what is hit isn't emitted any more, and an instance is as before or it is hit
+pub record AreFailed (old new : List Entry) (roots : List InstId) : Type 0 where
+  pub hit : (i : ℕ) → IsHit old roots i → entry_at new i ≡ Absent
+  pub others : (i : ℕ) → (entry_at new i ≡ entry_at old i) ⊎ IsHit old roots i

@@ -1,5 +1,6 @@
 -- How a frontier keeps what it is.
 use Rattle.std.specs.Prelude.{◌≡◌, ℕ, false, Option, Some, None, List, map, length}
+use Rattle.dep_groups.specs.declared.graph.Graph.{Graph}
 use Rattle.dep_groups.specs.declared.graph.Node.{Node}
 use Rattle.dep_groups.specs.declared.resolve.Core.{Core}
 use Rattle.dep_groups.specs.Shape.{home_in, deps_of, ready_in}
@@ -13,8 +14,11 @@ abbrev pub entry_of : List Node → Option ℕ → Entry
 entry_of nodes None = Absent
 entry_of nodes (Some g) = Emitted (deps_of nodes g)
 
+abbrev pub entries_of : Graph → List Entry
+entries_of graph = map (entry_of graph.nodes.items) graph.homes.items
+
 abbrev pub entries_in : Core → List Entry
-entries_in core = map (entry_of core.graph.nodes.items) core.graph.homes.items
+entries_in core = entries_of core.graph
 
 -- each group with members that aren't ready is linked to what isn't ready
 pub record IsKept (core : Core) : Type 0 where

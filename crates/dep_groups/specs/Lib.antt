@@ -14,3 +14,4 @@ pub mod Frontier
 pub mod Kept
 pub mod Copies
 pub mod Emit
+pub mod Hits

@@ -20,9 +20,10 @@ pub data IsListed (edges : List Edge) : Option ℕ → ℕ → Type 0 where
   here : {k g : ℕ} (e : Edge) → slice_get edges k ≡ Some e → e.group ≡ g → IsListed edges (Some k) g
   later : {k g : ℕ} (e : Edge) → slice_get edges k ≡ Some e → IsListed edges e.next g → IsListed edges (Some k) g
 
--- each group is listed with all that it depends on; a mention is behind the one that it leads to
+-- each group is listed with exactly what it depends on; a mention is behind the one that it leads to
 pub record IsIndexed (graph : Graph) : Type 0 where
   pub complete : (g d : ℕ) → Contains (deps_in graph g) d → IsListed graph.edges.items (place graph.firsts.items d) g
+  pub named : (g d : ℕ) → IsListed graph.edges.items (place graph.firsts.items d) g → Contains (deps_in graph g) d
   pub falls : (k j : ℕ) (e : Edge) → slice_get graph.edges.items k ≡ Some e → e.next ≡ Some j → j < k
   pub groups : (k : ℕ) (e : Edge) → slice_get graph.edges.items k ≡ Some e → e.group < length graph.nodes.items
   pub firsts : (d k : ℕ) → place graph.firsts.items d ≡ Some k → k < length graph.edges.items

@@ -67,6 +67,7 @@ fn list_one(firsts: &mut [Option<usize>], edges: &mut Vec<Edge>, instance: usize
     ensures falls { ListsFall firsts.new edges.new.items (group + 1) }
     ensures listed { IsListed edges.new.items (place firsts.new instance) group }
     ensures kept { (d g : ℕ) → IsListed edges.old.items (place firsts.old d) g → IsListed edges.new.items (place firsts.new d) g }
+    ensures only { (d g : ℕ) → IsListed edges.new.items (place firsts.new d) g → IsListed edges.old.items (place firsts.old d) g ⊎ ((d ≡ instance) × (g ≡ group)) }
     ensures len { vec_len edges.new ≡ vec_len edges.old + 1 }
     ensures capacity { vec_capacity edges.new ≡ vec_capacity edges.old }
 {
@@ -88,6 +89,7 @@ pub(crate) fn list_all(
     ensures falls { ListsFall firsts.new edges.new.items (group + 1) }
     ensures listed { (d : ℕ) → Contains deps.now d → IsListed edges.new.items (place firsts.new d) group }
     ensures kept { (d g : ℕ) → IsListed edges.old.items (place firsts.old d) g → IsListed edges.new.items (place firsts.new d) g }
+    ensures only { (d g : ℕ) → IsListed edges.new.items (place firsts.new d) g → IsListed edges.old.items (place firsts.old d) g ⊎ (Contains deps.now d × (g ≡ group)) }
     ensures len { vec_len edges.new ≡ vec_len edges.old + length deps.now }
     ensures capacity { vec_capacity edges.new ≡ vec_capacity edges.old }
 {

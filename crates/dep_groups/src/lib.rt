@@ -1,12 +1,14 @@
 //! Which instances of a session are ready, kept as groups of instances are emitted, so that nobody
 //! has to search: an instance is ready where it and all that it reaches through dependencies is
-//! emitted (ORC: `SymbolState::Ready`).
+//! emitted (ORC: `SymbolState::Ready`); and what a failure hits: all that reaches what failed.
 //!
 //! Contracts see a `Frontier` as the list of instances by number, each as not emitted or as emitted
-//! with its dependencies, and what became ready at the last emission. Inside, each group that waits
-//! is linked to one of its dependencies that isn't ready, and following links ends at an instance
-//! that isn't emitted. An emission looks for such links again only where they led to what became
-//! ready, and a search goes by links first. `resolve` decides one group, `wake` those that it leaves.
+//! with its dependencies, what became ready at the last emission and what the last failure hit.
+//! Inside, each group that waits is linked to one of its dependencies that isn't ready, and following
+//! links ends at an instance that isn't emitted. An emission looks for such links again only where
+//! they led to what became ready, and a search goes by links first. `resolve` decides one group,
+//! `wake` those that it leaves. A failure, in `fail`, goes by the mentions of what it hits from group
+//! to group, and takes what it hit out of them, as if it had never been emitted.
 //!
 //! Read `graph_walks` for what is reached.
 #![tactic(auto)]
@@ -14,8 +16,10 @@
 mod add;
 mod copy;
 mod emit;
+mod fail;
 mod frontier;
 mod graph;
+mod hits;
 mod links;
 mod marks;
 mod places;

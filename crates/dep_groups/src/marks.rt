@@ -31,46 +31,46 @@ fn is_open(homes: &[Option<usize>], ready: &[bool], group: usize, member: InstId
     }
 }
 
-/// Marks an instance of a group as ready and tells it, if it wasn't.
+/// Marks an instance of a group and tells it, if it wasn't marked.
 fn mark_member(
     homes: &[Option<usize>],
-    ready: &mut [bool],
+    marks: &mut [bool],
     told: &mut Vec<InstId>,
     group: usize,
     member: InstId,
 )
-    requires sizes { length ready.old ≡ length homes.now }
-    requires room { vec_len told.old + unset ready.old ≤ vec_capacity told.old }
-    ensures room { vec_len told.new + unset ready.new ≤ vec_capacity told.new }
+    requires sizes { length homes.now ≤ length marks.old }
+    requires room { vec_len told.old + unset marks.old ≤ vec_capacity told.old }
+    ensures room { vec_len told.new + unset marks.new ≤ vec_capacity told.new }
     ensures capacity { vec_capacity told.new ≡ vec_capacity told.old }
-    ensures tells { Tells ready.old ready.new told.old.items told.new.items }
-    ensures marked { place homes.now member.0 ≡ Some group → is_set ready.new member.0 ≡ true }
-    ensures only { AreOf homes.now ready.old ready.new group }
+    ensures tells { Tells marks.old marks.new told.old.items told.new.items }
+    ensures marked { place homes.now member.0 ≡ Some group → is_set marks.new member.0 ≡ true }
+    ensures only { AreOf homes.now marks.old marks.new group }
 {
-    if is_open(homes, ready, group, member) {
-        raise(ready, member.0 as usize);
+    if is_open(homes, marks, group, member) {
+        raise(marks, member.0 as usize);
         told.push_reserved(member);
     }
 }
 
-/// Marks the instances of a group as ready and tells those that weren't.
-fn mark_members(
+/// Marks the instances of a group and tells those that weren't marked.
+pub(crate) fn mark_members(
     homes: &[Option<usize>],
-    ready: &mut [bool],
+    marks: &mut [bool],
     told: &mut Vec<InstId>,
     group: usize,
     members: &[InstId],
 )
-    requires sizes { length ready.old ≡ length homes.now }
-    requires room { vec_len told.old + unset ready.old ≤ vec_capacity told.old }
-    ensures room { vec_len told.new + unset ready.new ≤ vec_capacity told.new }
+    requires sizes { length homes.now ≤ length marks.old }
+    requires room { vec_len told.old + unset marks.old ≤ vec_capacity told.old }
+    ensures room { vec_len told.new + unset marks.new ≤ vec_capacity told.new }
     ensures capacity { vec_capacity told.new ≡ vec_capacity told.old }
-    ensures tells { Tells ready.old ready.new told.old.items told.new.items }
-    ensures marked { (m : InstId) → Contains members.now m → place homes.now m.0 ≡ Some group → is_set ready.new m.0 ≡ true }
-    ensures only { AreOf homes.now ready.old ready.new group }
+    ensures tells { Tells marks.old marks.new told.old.items told.new.items }
+    ensures marked { (m : InstId) → Contains members.now m → place homes.now m.0 ≡ Some group → is_set marks.new m.0 ≡ true }
+    ensures only { AreOf homes.now marks.old marks.new group }
 {
     for member in members {
-        mark_member(homes, ready, told, group, *member);
+        mark_member(homes, marks, told, group, *member);
     }
 }
 

@@ -1,4 +1,4 @@
-ghost use Rattle.std.specs.Prelude.{◌≡◌, ◌<◌, ◌+◌, ℕ, Some, true, false, ◌==◌, if◌then◌else◌, length};
+ghost use Rattle.std.specs.Prelude.{◌≡◌, ◌<◌, ◌+◌, ℕ, Some, None, true, false, ◌==◌, if◌then◌else◌, length};
 ghost use Rattle.dep_groups.specs.Places.{place, is_set, unset};
 
 /// What stands in a place, if anything.
@@ -17,6 +17,15 @@ pub(crate) fn put(places: &mut [Option<usize>], k: usize, number: usize)
     ensures { (n : ℕ) → place places.new n ≡ (if k == n then Some number else place places.old n) }
 {
     places[k] = Some(number);
+}
+
+/// Empties a place, if it is there.
+pub(crate) fn empty(places: &mut [Option<usize>], k: usize)
+    ensures { (n : ℕ) → place places.new n ≡ (if k == n then None else place places.old n) }
+{
+    if k < places.len() {
+        places[k] = None;
+    }
 }
 
 /// Whether a flag is set.

@@ -6,10 +6,12 @@ ghost use Rattle.dep_groups.specs.Shape.{home_in, ready_in};
 ghost use Rattle.dep_groups.specs.Core.{IsSound};
 ghost use Rattle.dep_groups.specs.Added.{HasRoom};
 ghost use Rattle.dep_groups.specs.Adding.{total, AreBelow};
+ghost use Rattle.dep_groups.specs.Hits.{IsResting};
 ghost use Rattle.dep_groups.specs.Prepare.{Covers, IsRoomierGraph, IsRoomier, HasPlaces, HasTables, IsAlike};
 
 use crate::add::{grow_flags, grow_places};
 use crate::graph::{Graph, Node};
+use crate::hits::{Hits, grow_hits, reserve_hits};
 use crate::resolve::Core;
 use orc_ids::InstId;
 use std::alloc::AllocError;
@@ -130,20 +132,29 @@ fn grow(graph: &mut Graph, places: usize)
 }
 
 /// Makes the room for groups, forgets what was told, and makes the places for their instances.
-pub(crate) fn prepare(core: &mut Core, nodes: &[Node]) -> Result<(), AllocError>
+pub(crate) fn prepare(core: &mut Core, hits: &mut Hits, nodes: &[Node]) -> Result<(), AllocError>
     requires sound { IsSound core.old }
     requires firsts { length core.old.graph.firsts.items ≡ length core.old.graph.homes.items }
+    requires resting { IsResting hits.old }
+    requires covers { length core.old.graph.homes.items ≤ length hits.old.flags.items }
     ensures alike { IsAlike core.old core.new }
     ensures firsts { length core.new.graph.firsts.items ≡ length core.new.graph.homes.items }
     ensures below { OnOk result (AreBelow nodes.now (length core.new.graph.homes.items)) }
     ensures room { OnOk result (HasRoom core.new (length nodes.now) (total nodes.now)) }
     ensures told { OnOk result (core.new.told.items ≡ []) }
     ensures err { OnErr result ((core.new.graph.homes.items ≡ core.old.graph.homes.items) × (core.new.told.items ≡ core.old.told.items)) }
+    ensures resting { IsResting hits.new }
+    ensures covers { length core.new.graph.homes.items ≤ length hits.new.flags.items }
+    ensures hits { hits.new.order.items ≡ hits.old.order.items }
+    ensures more { length hits.old.flags.items ≤ length hits.new.flags.items }
+    ensures places { OnErr result (length hits.new.flags.items ≡ length hits.old.flags.items) }
 {
     let needs = needs_of(nodes, core.graph.homes.len())?;
+    reserve_hits(hits, needs.places)?;
     reserve_tables(core, nodes.len(), needs.places)?;
     reserve_graph(&mut core.graph, nodes.len(), needs)?;
     core.told.clear();
     grow(&mut core.graph, needs.places);
+    grow_hits(hits, needs.places);
     Ok(())
 }

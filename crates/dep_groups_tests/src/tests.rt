@@ -1,4 +1,4 @@
-ghost use Rattle.std.specs.Prelude.{◌≡◌, ◌∷◌, [], ℕ, IfOk, OnOk};
+ghost use Rattle.std.specs.Prelude.{◌≡◌, ◌<◌, ◌≤◌, ◌∷◌, [], ℕ, IfOk, OnOk};
 ghost use Rattle.dep_groups.specs.Frontier.{Absent, entry_at};
 
 use dep_groups::Frontier;
@@ -24,7 +24,8 @@ fn emit_one(
     deps: &[InstId],
 ) -> Result<(), AllocError>
     requires { entry_at frontier.old.entries member.0 ≡ Absent }
-    ensures { OnOk result ((i : ℕ) → (member.0 ≡ i → ⊥) → entry_at frontier.new.entries i ≡ entry_at frontier.old.entries i) }
+    ensures others { OnOk result ((i : ℕ) → (member.0 ≡ i → ⊥) → entry_at frontier.new.entries i ≡ entry_at frontier.old.entries i) }
+    ensures more { frontier.old.places ≤ frontier.new.places }
 {
     let group = group_of(alloc, member, deps)?;
     frontier.emit(&[group])
@@ -38,6 +39,26 @@ fn are_told(frontier: &Frontier, numbers: &[u32]) -> bool {
         }
     }
     frontier.told().len() == numbers.len()
+}
+
+/// The instances that the last failure hit.
+fn are_hit(frontier: &Frontier, numbers: &[u32]) -> bool {
+    for number in numbers {
+        if !frontier.hits().contains(&InstId(*number)) {
+            return false;
+        }
+    }
+    frontier.hits().len() == numbers.len()
+}
+
+/// Fails an instance, unless it is ready.
+fn fail_one(frontier: &mut Frontier, root: InstId)
+    requires { root.0 < frontier.old.places }
+    ensures { (i : ℕ) → entry_at frontier.old.entries i ≡ Absent → entry_at frontier.new.entries i ≡ Absent }
+{
+    if !frontier.is_ready(root) {
+        frontier.fail(&[root]);
+    }
 }
 
 #[test]
@@ -74,5 +95,33 @@ fn a_chain_is_ready_from_its_end(rt: HostRuntime) -> Result<(), Fail> {
     assert!(rt; are_told(&frontier, &[]));
     emit_one(alloc, &mut frontier, InstId(4), &[InstId(0)])?;
     assert!(rt; are_told(&frontier, &[4, 5]));
+    Ok(())
+}
+
+#[test]
+fn a_failure_hits_what_reaches_it(rt: HostRuntime) -> Result<(), Fail> {
+    let alloc = rt.alloc();
+    let mut frontier = Frontier::new(alloc);
+    frontier.room(4)?;
+    emit_one(alloc, &mut frontier, InstId(0), &[InstId(1)])?;
+    emit_one(alloc, &mut frontier, InstId(2), &[InstId(0), InstId(3)])?;
+    fail_one(&mut frontier, InstId(1));
+    assert!(rt; are_hit(&frontier, &[0, 1, 2]));
+    emit_one(alloc, &mut frontier, InstId(3), &[])?;
+    assert!(rt; are_told(&frontier, &[3]));
+    assert!(rt; frontier.is_ready(InstId(3)));
+    Ok(())
+}
+
+#[test]
+fn a_failure_leaves_what_is_ready(rt: HostRuntime) -> Result<(), Fail> {
+    let alloc = rt.alloc();
+    let mut frontier = Frontier::new(alloc);
+    frontier.room(3)?;
+    emit_one(alloc, &mut frontier, InstId(0), &[])?;
+    emit_one(alloc, &mut frontier, InstId(1), &[InstId(0), InstId(2)])?;
+    fail_one(&mut frontier, InstId(2));
+    assert!(rt; are_hit(&frontier, &[1, 2]));
+    assert!(rt; frontier.is_ready(InstId(0)));
     Ok(())
 }

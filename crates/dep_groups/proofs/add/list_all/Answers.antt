@@ -1,4 +1,4 @@
-use Rattle.std.proofs.Common.{◌∙◌, ◌<◌, ℕ, subst, sym, get_or, arith}
+use Rattle.std.proofs.Common.{◌≡◌, ◌∙◌, ◌<◌, ⊎_elim, inr, ℕ, Contains, subst, sym, get_or, arith}
 use Rattle.std.proofs.lemmas.Option.{get_or_from_slice_get, slice_get_within, slice_get-get_or}
 use Rattle.dep_groups.specs.Places.{place}
 use Rattle.dep_groups.specs.Wake.{IsListed}
@@ -12,6 +12,7 @@ pub loop-instance-preserved : goal.loop-instance-preserved
 loop-instance-preserved c =
     let i = c.loop-instance.invariant in
     let e = c.list_one.ensures in
+    let here : Contains c.args.deps.now (get_or c.args.deps.now c.loop-instance.instance-index 0) = at_contains c.args.deps.now c.loop-instance.instance-index (get_or c.args.deps.now c.loop-instance.instance-index 0) (slice_get-get_or c.args.deps.now c.loop-instance.instance-index 0 c.loop-instance-test.true) in
     record {
       sizes = c.list_one.auto.firsts ∙ i.sizes;
       falls = e.falls;
@@ -19,6 +20,8 @@ loop-instance-preserved c =
           (λ k d below is. e.kept d c.args.group (i.listed k d below is))
           (λ d is. subst (λ (n : ℕ). IsListed c.list_one.new.edges.items (place c.list_one.new.firsts n) c.args.group) (get_or_from_slice_get c.args.deps.now c.loop-instance.instance-index d 0 is) e.listed);
       kept = λ d g was. e.kept d g (i.kept d g was);
+      only = λ d g is. ⊎_elim (λ (was : IsListed c.loop-instance.edges.items (place c.loop-instance.firsts d) g). i.only d g was)
+          (λ (x : (d ≡ get_or c.args.deps.now c.loop-instance.instance-index 0) × (g ≡ c.args.group)). inr (subst (λ (n : ℕ). Contains c.args.deps.now n) (sym x.0) here, x.1)) (e.only d g is);
       len = omega (arith, e.len, i.len);
       capacity = e.capacity ∙ i.capacity;
     }

@@ -5,19 +5,23 @@ use Rattle.dep_groups.proofs.Wakes.{same_then}
 use Rattle.dep_groups.proofs.Emissions.{emitted}
 use Rattle.dep_groups.proofs.emit.emit_nodes.Goals as goal
 
-pub returns-in_err-prepare-clause-kept : goal.returns-in_err-prepare-clause-kept
-returns-in_err-prepare-clause-kept c =
+pub returns-in_err-prepare-clause-whole : goal.returns-in_err-prepare-clause-whole
+returns-in_err-prepare-clause-whole c =
     let old = c.args.core.now in
     let new = c.prepare.new.core in
     let a = c.prepare.ensures.alike in
-    let k = c.requires.kept in
-    record { sound = sound_alike old new a k.sound; indexed = indexed_alike old new a k.indexed; firsts = c.prepare.ensures.firsts; held = held_alike old new a k.held }
+    let k = c.requires.whole.kept in
+    record {
+      kept = record { sound = sound_alike old new a k.sound; indexed = indexed_alike old new a k.indexed; firsts = c.prepare.ensures.firsts; held = held_alike old new a k.held };
+      resting = c.prepare.ensures.resting;
+      covers = c.prepare.ensures.covers;
+    }
 
 pub add_all-requires-clause-sound : goal.add_all-requires-clause-sound
-add_all-requires-clause-sound c = sound_alike c.args.core.now c.prepare.new.core c.prepare.ensures.alike c.requires.kept.sound
+add_all-requires-clause-sound c = sound_alike c.args.core.now c.prepare.new.core c.prepare.ensures.alike c.requires.whole.kept.sound
 
 pub add_all-requires-clause-held : goal.add_all-requires-clause-held
-add_all-requires-clause-held c = record { held = λ i g is low. inl (held_alike c.args.core.now c.prepare.new.core c.prepare.ensures.alike c.requires.kept.held i g is low) }
+add_all-requires-clause-held c = record { held = λ i g is low. inl (held_alike c.args.core.now c.prepare.new.core c.prepare.ensures.alike c.requires.whole.kept.held i g is low) }
 
 pub returns-clause-emitted : goal.returns-clause-emitted
 returns-clause-emitted c =

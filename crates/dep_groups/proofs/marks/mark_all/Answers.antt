@@ -18,11 +18,11 @@ loop-visit-preserved c =
     let i = c.loop-visit.invariant in
     let e = c.mark_members.ensures in
     record {
-      sizes = c.mark_members.auto.ready ∙ i.sizes;
+      sizes = c.mark_members.auto.marks ∙ i.sizes;
       room = e.room;
       capacity = e.capacity ∙ i.capacity;
-      tells = tells_then c.args.ready.now c.loop-visit.ready c.mark_members.new.ready c.args.told.now.items c.loop-visit.told.items c.mark_members.new.told.items i.tells e.tells;
-      marked = λ k v m below is named member. each_more c.args.trail.now.order.items c.loop-visit.visit-index (λ (v : Visit). (m : InstId) → Contains (members_of c.args.nodes.now v.group) m → place c.args.homes.now m.0 ≡ Some v.group → is_set c.mark_members.new.ready m.0 ≡ true)
+      tells = tells_then c.args.ready.now c.loop-visit.ready c.mark_members.new.marks c.args.told.now.items c.loop-visit.told.items c.mark_members.new.told.items i.tells e.tells;
+      marked = λ k v m below is named member. each_more c.args.trail.now.order.items c.loop-visit.visit-index (λ (v : Visit). (m : InstId) → Contains (members_of c.args.nodes.now v.group) m → place c.args.homes.now m.0 ≡ Some v.group → is_set c.mark_members.new.marks m.0 ≡ true)
           (λ k v below is m named member. e.tells.stays m.0 (i.marked k v m below is named member))
           (λ v is m named member.
           let group : (get_or c.deref-visit-items.result.now c.loop-visit.visit-index none).group ≡ v.group = ap (λ (u : Visit). u.group) (get_or_from_slice_get c.deref-visit-items.result.now c.loop-visit.visit-index v none (subst (λ (us : List Visit). slice_get us c.loop-visit.visit-index ≡ Some v) (sym c.deref-visit-items.ensures.value) is)) in

@@ -12,14 +12,14 @@ loop-member-preserved c =
     let i = c.loop-member.invariant in
     let e = c.mark_member.ensures in
     record {
-      sizes = c.mark_member.auto.ready ∙ i.sizes;
+      sizes = omega (arith, c.mark_member.auto.marks, i.sizes);
       room = e.room;
       capacity = e.capacity ∙ i.capacity;
-      tells = tells_then c.args.ready.now c.loop-member.ready c.mark_member.new.ready c.args.told.now.items c.loop-member.told.items c.mark_member.new.told.items i.tells e.tells;
-      marked = each_more c.args.members.now c.loop-member.member-index (λ (m : InstId). place c.args.homes.now m.0 ≡ Some c.args.group → is_set c.mark_member.new.ready m.0 ≡ true)
+      tells = tells_then c.args.marks.now c.loop-member.marks c.mark_member.new.marks c.args.told.now.items c.loop-member.told.items c.mark_member.new.told.items i.tells e.tells;
+      marked = each_more c.args.members.now c.loop-member.member-index (λ (m : InstId). place c.args.homes.now m.0 ≡ Some c.args.group → is_set c.mark_member.new.marks m.0 ≡ true)
           (λ k m below is member. e.tells.stays m.0 (i.marked k m below is member))
-          (λ m is. subst (λ (y : InstId). place c.args.homes.now y.0 ≡ Some c.args.group → is_set c.mark_member.new.ready y.0 ≡ true) (get_or_from_slice_get c.args.members.now c.loop-member.member-index m (record { 0 = 0 }) is) e.marked);
-      only = λ n is. ⊎_elim (λ (was : is_set c.loop-member.ready n ≡ true). i.only n was) (λ (here : place c.args.homes.now n ≡ Some c.args.group). inr here) (e.only n is);
+          (λ m is. subst (λ (y : InstId). place c.args.homes.now y.0 ≡ Some c.args.group → is_set c.mark_member.new.marks y.0 ≡ true) (get_or_from_slice_get c.args.members.now c.loop-member.member-index m (record { 0 = 0 }) is) e.marked);
+      only = λ n is. ⊎_elim (λ (was : is_set c.loop-member.marks n ≡ true). i.only n was) (λ (here : place c.args.homes.now n ≡ Some c.args.group). inr here) (e.only n is);
     }
 
 pub returns-clause-marked : goal.returns-clause-marked

@@ -8,10 +8,10 @@ use Rattle.dep_groups.proofs.marks.mark_members.Given as goal
 
 abbrev pub invariant-loop-member : goal.invariant-loop-member
 invariant-loop-member l = record {
-  sizes : length l.ready ≡ length l.homes;
-  room : vec_len l.told + unset l.ready ≤ vec_capacity l.told;
+  sizes : length l.homes ≤ length l.marks;
+  room : vec_len l.told + unset l.marks ≤ vec_capacity l.told;
   capacity : vec_capacity l.told ≡ vec_capacity l.initial.told;
-  tells : Tells l.initial.ready l.ready l.initial.told.items l.told.items;
-  marked : (k : ℕ) (m : InstId) → k < l.member-index → slice_get l.members k ≡ Some m → place l.homes m.0 ≡ Some l.group → is_set l.ready m.0 ≡ true;
-  only : AreOf l.homes l.initial.ready l.ready l.group;
+  tells : Tells l.initial.marks l.marks l.initial.told.items l.told.items;
+  marked : (k : ℕ) (m : InstId) → k < l.member-index → slice_get l.members k ≡ Some m → place l.homes m.0 ≡ Some l.group → is_set l.marks m.0 ≡ true;
+  only : AreOf l.homes l.initial.marks l.marks l.group;
 }

@@ -18,7 +18,7 @@ returns-clause-emitted c =
     let new = c.emit_nodes.new.core in
     on_ok c.emit_nodes.result
     (λ (e : IsEmitted old new c.in_ok-nodes.nodes.items). subst (λ (w : Waiting). AreEmitted c.args.groups.now w.entries (entries_in new)) c.self.view_is
-    (entries_emitted c.args.groups.now c.in_ok-nodes.nodes.items c.in_ok-nodes.ensures old new c.self.invariant c.emit_nodes.ensures.kept e))
+    (entries_emitted c.args.groups.now c.in_ok-nodes.nodes.items c.in_ok-nodes.ensures old new c.self.invariant.kept c.emit_nodes.ensures.whole.kept e))
     c.emit_nodes.ensures.emitted
 
 pub returns-clause-told : goal.returns-clause-told
@@ -27,5 +27,5 @@ returns-clause-told c =
     let new = c.emit_nodes.new.core in
     on_ok c.emit_nodes.result
     (λ (e : IsEmitted old new c.in_ok-nodes.nodes.items). subst (λ (w : Waiting). IsNews w.entries (entries_in new) new.told.items) c.self.view_is
-    (news_told c.args.groups.now c.in_ok-nodes.nodes.items c.in_ok-nodes.ensures old new c.self.invariant c.emit_nodes.ensures.kept e))
+    (news_told c.args.groups.now c.in_ok-nodes.nodes.items c.in_ok-nodes.ensures old new c.self.invariant.kept c.emit_nodes.ensures.whole.kept e))
     c.emit_nodes.ensures.emitted

@@ -1,8 +1,8 @@
-use Rattle.dep_groups.proofs.Empty.{kept_empty}
+use Rattle.dep_groups.proofs.Empty.{whole_empty}
 use Rattle.dep_groups.proofs.frontier.Frontier.new.Goals as goal
 
 pub invariant_of-result : goal.invariant_of-result
-invariant_of-result c = kept_empty _ (record {
+invariant_of-result c = whole_empty _ (record {
   homes = c.new.ensures.items;
   nodes = c.new-2.ensures.items;
   firsts = c.new-3.ensures.items;
@@ -14,4 +14,4 @@ invariant_of-result c = kept_empty _ (record {
   seen = c.new-9.ensures.items;
   order = c.new-10.ensures.items;
   told = c.new-11.ensures.items;
-})
+}) _ c.new-12.ensures.items
