@@ -1,6 +1,6 @@
 -- What the end of a query does to the rows.
 use Rattle.std.proofs.Common.{◌≡◌, ◌≢◌, ℕ, Option, Some, None, ◌+◌, ◌<◌, ◌≤◌, List, [], ◌∷◌, ◌++◌, length, map, set, zero, suc, refl, ap, sym, ◌∙◌, cond, subst, arith, length-set, length-append, append_assoc}
-use Rattle.std.specs.Prelude.{◌==◌, slice_get, option_and_then, option_to_list}
+use Rattle.std.specs.Prelude.{◌==◌, IfSome, IfNone, slice_get, option_and_then, option_to_list}
 use Rattle.std.specs.Option.{option_map_or}
 use Rattle.std.proofs.lemmas.List.{map-set}
 use Rattle.orc_ids.specs.declared.ids.UnitId.{UnitId}
@@ -14,8 +14,8 @@ use Rattle.query_book.specs.declared.rows.State.{State}
 use Rattle.query_book.specs.declared.rows.State.TheVariants.{Open, Ended}
 use Rattle.query_book.specs.Stands.{ending}
 use Rattle.query_book.specs.Counts.{count}
-use Rattle.query_book.specs.Rows.{Account, ended_one, fired_one, ended_all, fired_all, unit_of, notices, outcome_of, first_armed, without_first}
-use Rattle.query_book.specs.States.{end_of, CanEnd, open_count, HaveRoom, OnlyOpen, IsSound}
+use Rattle.query_book.specs.Rows.{Account, ended_one, fired_one, ended_all, fired_all, unit_of, notices, outcome_of, first_armed, without_first, armed_count}
+use Rattle.query_book.specs.States.{end_of, CanEnd, open_count, HaveRoom, OnlyOpen, NoneBefore, IsSound}
 use Rattle.query_book.proofs.Parts.{get_other, count_same}
 
 -- the state of an open query
@@ -58,18 +58,26 @@ only_ended (Ended f ∷ states) (o ∷ os) zero e only = (refl, only.1)
 only_ended (Open r ∷ states) (o ∷ os) (suc k) e only = only_ended states os k e only
 only_ended (Ended f ∷ states) (o ∷ os) (suc k) e only = (only.0, only_ended states os k e only.1)
 
-pub sound_ended : {X : Type 0} (qs : List Query) (states : List State) (armed : List (Option X)) (due room due' room' k : ℕ) (st : State) (o : Option X) (e : QueryEnd) → IsSound qs states armed due room → slice_get (map end_of states) k ≡ Some None → st ≡ Ended e → o ≡ None → due' ≤ due + 1 → room' ≡ room → IsSound qs (set states k st) (set armed k o) due' room'
-sound_ended qs states armed due room due' room' k st o e s is ends none more same =
-    subst (λ x. IsSound qs (set states k x) (set armed k o) due' room') (sym ends) (subst (λ x. IsSound qs (set states k (Ended e)) (set armed k x) due' room') (sym none) (record {
+none_ended : {X : Type 0} (n : ℕ) (os : List (Option X)) (k : ℕ) → NoneBefore n os → NoneBefore n (set os k None)
+none_ended zero os k none = tt
+none_ended (suc n) [] k none = tt
+none_ended (suc n) (o ∷ os) zero none = (refl, none.1)
+none_ended (suc n) (o ∷ os) (suc k) none = (none.0, none_ended n os k none.1)
+
+pub sound_ended : {X : Type 0} (qs : List Query) (states : List State) (armed : List (Option X)) (unarmed due room due' room' k : ℕ) (st : State) (o : Option X) (e : QueryEnd) → IsSound qs states armed unarmed due room → slice_get (map end_of states) k ≡ Some None → st ≡ Ended e → o ≡ None → due' ≤ due + 1 → room' ≡ room → IsSound qs (set states k st) (set armed k o) unarmed due' room'
+sound_ended qs states armed unarmed due room due' room' k st o e s is ends none more same =
+    subst (λ x. IsSound qs (set states k x) (set armed k o) unarmed due' room') (sym ends) (subst (λ x. IsSound qs (set states k (Ended e)) (set armed k x) unarmed due' room') (sym none) (record {
       states_of = length-set states k (Ended e) ∙ s.states_of;
       armed_of = length-set armed k None ∙ s.armed_of;
       rooms = room_ended qs states k e s.rooms;
       units = let c : open_count states ≡ suc (open_count (set states k (Ended e))) = one_open states k e is in omega (arith, c, s.units, more, same);
       only_open = only_ended states armed k e s.only_open;
+      below = none_ended unarmed armed k s.below;
+      within = let l : length (set armed k None) ≡ length armed = length-set armed k None in omega (arith, l, s.within);
     }))
 
-pub due_fits : {X : Type 0} (qs : List Query) (states : List State) (armed : List (Option X)) (due room k : ℕ) (e : QueryEnd) → IsSound qs states armed due room → slice_get (map end_of states) k ≡ Some None → due < room
-due_fits qs states armed due room k e s is = let c : open_count states ≡ suc (open_count (set states k (Ended e))) = one_open states k e is in omega (arith, c, s.units)
+pub due_fits : {X : Type 0} (qs : List Query) (states : List State) (armed : List (Option X)) (unarmed due room k : ℕ) (e : QueryEnd) → IsSound qs states armed unarmed due room → slice_get (map end_of states) k ≡ Some None → due < room
+due_fits qs states armed unarmed due room k e s is = let c : open_count states ≡ suc (open_count (set states k (Ended e))) = one_open states k e is in omega (arith, c, s.units)
 
 pub ended_same : {N : Type 0} (at : ℕ) (s : ℕ → Stand) (k : ℕ) (a : Account N) (q : Query) (states : List State) (st : State) (o : Option (Unheard N)) (due : List UnitId) → slice_get a.queries k ≡ Some q → map end_of states ≡ a.ends → st ≡ Ended (record { at = at; end = ending s q }) → o ≡ None → due ≡ a.due ++ option_to_list (unit_of q) → ◌≡◌ {A = Account N} (record { queries = a.queries; ends = map end_of (set states k st); armed = set a.armed k o; due = due }) (ended_one at s k a)
 ended_same {N} at s k a q states st o due here ends is none more =
@@ -145,21 +153,28 @@ count_few [] = omega arith
 count_few (Open r ∷ states) = let h : open_count states ≤ length states = count_few states in omega (arith, h)
 count_few (Ended e ∷ states) = let h : open_count states ≤ length states = count_few states in omega (arith, h)
 
-pub sound_push : {X : Type 0} (qs qs' : List Query) (states states' : List State) (armed armed' : List (Option X)) (due room due' room' : ℕ) (q : Query) (st : State) (o : Option X) → IsSound qs states armed due room → qs' ≡ qs ++ q ∷ [] → states' ≡ states ++ st ∷ [] → armed' ≡ armed ++ o ∷ [] → CanEnd (length q.matched) st → end_of st ≡ None → due' + (length states + 1) ≤ room' → IsSound qs' states' armed' due' room'
-sound_push {X} qs qs' states states' armed armed' due room due' room' q st o s eq es ea can unended fits =
-    subst (λ l. IsSound l states' armed' due' room') (sym eq) (subst (λ l. IsSound (qs ++ q ∷ []) l armed' due' room') (sym es) (subst (λ l. IsSound (qs ++ q ∷ []) (states ++ st ∷ []) l due' room') (sym ea) (record {
+none_push : {X : Type 0} (n : ℕ) (os : List (Option X)) (o : Option X) → n ≤ length os → NoneBefore n os → NoneBefore n (os ++ o ∷ [])
+none_push zero os o few none = tt
+none_push (suc n) [] o few none = absurd (omega (arith, few))
+none_push (suc n) (p ∷ os) o few none = (none.0, none_push n os o (omega (arith, few)) none.1)
+
+pub sound_push : {X : Type 0} (qs qs' : List Query) (states states' : List State) (armed armed' : List (Option X)) (unarmed due room due' room' : ℕ) (q : Query) (st : State) (o : Option X) → IsSound qs states armed unarmed due room → qs' ≡ qs ++ q ∷ [] → states' ≡ states ++ st ∷ [] → armed' ≡ armed ++ o ∷ [] → CanEnd (length q.matched) st → end_of st ≡ None → due' + (length states + 1) ≤ room' → IsSound qs' states' armed' unarmed due' room'
+sound_push {X} qs qs' states states' armed armed' unarmed due room due' room' q st o s eq es ea can unended fits =
+    subst (λ l. IsSound l states' armed' unarmed due' room') (sym eq) (subst (λ l. IsSound (qs ++ q ∷ []) l armed' unarmed due' room') (sym es) (subst (λ l. IsSound (qs ++ q ∷ []) (states ++ st ∷ []) l unarmed due' room') (sym ea) (record {
       states_of = length-append states (st ∷ []) ∙ (let e : length (qs ++ q ∷ []) ≡ length qs + 1 = length-append qs (q ∷ []) in omega (arith, e, s.states_of));
       armed_of = length-append armed (o ∷ []) ∙ (let e : length (qs ++ q ∷ []) ≡ length qs + 1 = length-append qs (q ∷ []) in omega (arith, e, s.armed_of));
       rooms = room_push qs states q st s.states_of can s.rooms;
       units = let a = count_push states st in let b = count_few states in omega (arith, a, b, fits);
       only_open = only_push states armed st o (s.states_of ∙ sym s.armed_of) unended s.only_open;
+      below = none_push unarmed armed o s.within s.below;
+      within = let l : length (armed ++ o ∷ []) ≡ length armed + 1 = length-append armed (o ∷ []) in omega (arith, l, s.within);
     })))
 
--- none of so many has a notifier
-abbrev pub NoneBefore : {X : Type 0} → ℕ → List (Option X) → Type 0
-NoneBefore zero os = Unit {0}
-NoneBefore (suc k) [] = Unit {0}
-NoneBefore (suc k) (o ∷ os) = (o ≡ None) × NoneBefore k os
+pub none_taken : {X : Type 0} (k : ℕ) (os : List (Option X)) → NoneBefore k os → NoneBefore (suc k) (set os k None)
+none_taken zero [] none = tt
+none_taken zero (o ∷ os) none = (refl, tt)
+none_taken (suc k) [] none = tt
+none_taken (suc k) (o ∷ os) none = (none.0, none_taken k os none.1)
 
 pub none_more : {X : Type 0} (k : ℕ) (os : List (Option X)) → NoneBefore k os → slice_get os k ≡ Some None → NoneBefore (suc k) os
 none_more zero [] none is = tt
@@ -180,7 +195,7 @@ all_none zero (o ∷ os) past none = absurd (omega (arith, past))
 all_none (suc k) (None ∷ os) past none = let r = all_none k os (omega (arith, past)) none.1 in (r.0, ap (λ l. None ∷ l) r.1)
 all_none (suc k) (Some y ∷ os) past none = absurd (let e = none.0 in cc)
 
-length_first : {X : Type 0} (os : List (Option X)) → length (without_first os) ≡ length os
+pub length_first : {X : Type 0} (os : List (Option X)) → length (without_first os) ≡ length os
 length_first [] = refl
 length_first (None ∷ os) = ap suc (length_first os)
 length_first (Some x ∷ os) = refl
@@ -193,8 +208,36 @@ only_first (Open r ∷ states) (Some x ∷ os) only = only
 only_first (Ended e ∷ states) (None ∷ os) only = (refl, only_first states os only.1)
 only_first (Ended e ∷ states) (Some x ∷ os) only = (refl, only.1)
 
-pub sound_first : {X : Type 0} (qs : List Query) (states : List State) (armed armed' : List (Option X)) (due room : ℕ) → IsSound qs states armed due room → armed' ≡ without_first armed → IsSound qs states armed' due room
-sound_first qs states armed armed' due room s e = subst (λ l. IsSound qs states l due room) (sym e) (record { states_of = s.states_of; armed_of = length_first armed ∙ s.armed_of; rooms = s.rooms; units = s.units; only_open = only_first states armed s.only_open })
+pub sound_first : {X : Type 0} (qs : List Query) (states : List State) (armed armed' : List (Option X)) (unarmed unarmed' due room : ℕ) → IsSound qs states armed unarmed due room → armed' ≡ without_first armed → NoneBefore unarmed' armed' → unarmed' ≤ length armed' → IsSound qs states armed' unarmed' due room
+sound_first qs states armed armed' unarmed unarmed' due room s e below within = record {
+  states_of = s.states_of;
+  armed_of = ap length e ∙ length_first armed ∙ s.armed_of;
+  rooms = s.rooms;
+  units = s.units;
+  only_open = subst (λ l. OnlyOpen states l) (sym e) (only_first states armed s.only_open);
+  below = below;
+  within = within;
+}
+
+-- where no notifier came out, none is left
+none_left : {X : Type 0} (os : List (Option X)) → first_armed os ≡ None → first_armed (without_first os) ≡ None
+none_left [] none = refl
+none_left (None ∷ os) none = none_left os none
+none_left (Some x ∷ os) none = absurd cc
+
+count_first : {X : Type 0} (os : List (Option X)) (x : X) → first_armed os ≡ Some x → armed_count (without_first os) + 1 ≡ armed_count os
+count_first [] x is = absurd cc
+count_first (None ∷ os) x is = count_first os x is
+count_first (Some y ∷ os) x is = omega arith
+
+-- each notifier that comes out leaves one less
+pub one_came : {X : Type 0} (os new : List (Option X)) (first : Option X) → first ≡ first_armed os → new ≡ without_first os → IfSome first (λ x. armed_count new + 1 ≡ armed_count os)
+one_came os new None is rest = tt
+one_came os new (Some x) is rest = ap (λ l. armed_count l + 1) rest ∙ count_first os x (sym is)
+
+pub none_came : {X : Type 0} (os new : List (Option X)) (first : Option X) → first ≡ first_armed os → new ≡ without_first os → IfNone first (first_armed new ≡ None)
+none_came os new None is rest = ap first_armed rest ∙ none_left os (sym is)
+none_came os new (Some x) is rest = tt
 
 pub set_same : {X : Type 0} (xs : List X) (k : ℕ) (x : X) → slice_get xs k ≡ Some x → set xs k x ≡ xs
 set_same [] k x is = absurd cc

@@ -201,6 +201,9 @@ open_before {N} at s changed a a' b c d xs k f is = (no_one (found_at c.marks.ma
 
 pub finished_seen : {N : Type 0} (at : ℕ) (s : ℕ → Stand) (changed : List InstId) (a a' : Account N) (b c d : Board) (xs : List ℕ) → IsFinished at s changed a a' b c d xs → IsSeen s (ledger a' d)
 finished_seen {N} at s changed a a' b c d xs f = record {
+  unmet = λ k q here is.
+      let o = open_before at s changed a a' b c d xs k f is in
+      both_ways (is_met s q) false (λ e. sym o.0 ∙ met_is_found s changed a b c k q f.settling_of (old k q here) o.1 e) (λ (e : false ≡ true). absurd cc);
   undecided = λ k q here is. decided_at d.marks.marks k (less k q here) ∙ ap (λ (v : Bool). Some v) (new k is);
   waiting = λ k q here is.
       waits_at 0 k k d a'.queries q (omega arith) here ∙ ap (λ v. Some (cond v [] (filter_map (waited (waiting d q.level) k) q.matched))) (new k is)

@@ -9,3 +9,5 @@ pub mod Settling
 pub mod Finishing
 pub mod Listing
 pub mod Lodging
+pub mod Session
+pub mod Current

@@ -4,7 +4,7 @@ use Rattle.std.specs.Prelude.{◌==◌, ◌||◌, ◌&&◌, not, nat_lt, is_some
 use Rattle.std.specs.List.{filter_map, cons_option}
 use Rattle.std.specs.Option.{option_map_or}
 use Rattle.std.proofs.lemmas.Bool.Decides.{eqb_tells}
-use Rattle.std.proofs.lemmas.List.{map-append}
+use Rattle.std.proofs.lemmas.List.{map-append, length-map}
 use Rattle.orc_ids.specs.declared.ids.InstId.{InstId}
 use Rattle.orc_ids.specs.declared.lookup.Level.{Level}
 use Rattle.orc_ids.specs.declared.lookup.Level.TheVariants.{Resolved, Ready}
@@ -21,10 +21,11 @@ use Rattle.query_book.specs.Board.{waiting, listed, Watches, HasRoom, IsSame, Is
 use Rattle.query_book.specs.declared.ends.QueryEnd.{QueryEnd}
 use Rattle.notifiers.specs.declared.notice.Unheard.{Unheard}
 use Rattle.query_book.specs.Rows.{Account, with_query, without_first}
-use Rattle.query_book.specs.Ledger.{lodged, waits_of}
+use Rattle.query_book.specs.Ledger.{lodged, waits_of, IsCurrent}
 use Rattle.query_book.specs.Kept.{waited, waits_from, ledger, ended_at, IsKept}
 use Rattle.query_book.proofs.Parts.{list_here, list_other, total_set, count_same, count_apart, within, get_left, get_new, get_push, total_none, count-push}
 use Rattle.query_book.proofs.Drains.{or_cases, and_both}
+use Rattle.query_book.proofs.Endings.{length_first}
 use Rattle.query_book.proofs.Marking.{found_read, left_read, found_push, found_past}
 use Rattle.query_book.proofs.Listing.{has_same, has_missing, none_missing}
 use Rattle.query_book.proofs.Settling.{both_ways, filter_same, positive, is_positive}
@@ -415,6 +416,29 @@ lodging_seen {N} s query q o a a' b r c l =
         ∙ ap (λ f. waits_from 0 b a.queries ++ cond f [] (filter_map (waited (waiting c q.level) query) q.matched) ∷ []) found
         ∙ ap (λ x. waits_from 0 b a.queries ++ cond (is_met s q) [] x ∷ []) (new_waits s a.queries query q r c old l.number has l.watched)
 
+length_waits : (n : ℕ) (b : Board) (qs : List Query) → length (waits_from n b qs) ≡ length qs
+length_waits n b [] = refl
+length_waits n b (q ∷ qs) = ap suc (length_waits (suc n) b qs)
+
+-- one more query than before, and something is known of each
+push_known : {X : Type 0} (f : Query → X) (qs : List Query) (ends : List (Option QueryEnd)) (xs : List X) (q p : Query) (k : ℕ) → length ends ≡ length qs → length xs ≡ length qs →
+    ((j : ℕ) (r : Query) → slice_get qs j ≡ Some r → slice_get ends j ≡ Some None → slice_get xs j ≡ Some (f r)) → slice_get (qs ++ q ∷ []) k ≡ Some p → slice_get (ends ++ None ∷ []) k ≡ Some None → slice_get (xs ++ f q ∷ []) k ≡ Some (f p)
+push_known f qs ends xs q p k same_ends same known here unended =
+    ⊎_elim (λ (e : ((length qs == k) ≡ true) × (length qs ≡ k)).
+    let new : slice_get (qs ++ q ∷ []) k ≡ Some q = subst (λ j. slice_get (qs ++ q ∷ []) j ≡ Some q) e.1 (get_new qs q) in
+    let one : Some q ≡ Some p = sym new ∙ here in let is : q ≡ p = cc in
+    subst (λ j. slice_get (xs ++ f q ∷ []) j ≡ Some (f q)) (same ∙ e.1) (get_new xs (f q)) ∙ ap (λ r. Some (f r)) is)
+    (λ (e : ((length qs == k) ≡ false) × (length qs ≢ k)).
+    get_push xs (f q) k (λ x. e.1 (sym same ∙ x)) ∙ known k p (sym (get_push qs q k e.1) ∙ here) (sym (get_push ends None k (λ x. e.1 (sym same_ends ∙ x))) ∙ unended))
+    (eqb_tells (length qs) k)
+
+-- a query that is lodged leaves the book current
+pub lodged_current : {N : Type 0} (s : ℕ → Stand) (q : Query) (o : Option (Unheard N)) (a : Account N) (b : Board) → IsKept a b → IsCurrent s (ledger a b) → IsCurrent s (lodged s q o (ledger a b))
+lodged_current s q o a b kept c = record {
+  decided = λ k p here unended. push_known (is_met s) a.queries a.ends (map (λ m. m.found) b.marks.marks) q p k kept.ends (length-map b.marks.marks (λ m. m.found) ∙ kept.watches.size) c.decided here unended;
+  waits = λ k p here unended. push_known (waits_of s) a.queries a.ends (waits_from 0 b a.queries) q p k kept.ends (length_waits 0 b a.queries) c.waits here unended;
+}
+
 -- room alone changes nothing that is kept or seen
 pub same_kept : {N : Type 0} (a : Account N) (b c : Board) → IsKept a b → IsSame b c → IsKept a c
 same_kept a b c k e = record {
@@ -437,11 +461,6 @@ if_err (Err e) p = p
 pub the_new : {N : Type 0} (a a' : Account N) (q p : Query) (o : Option (Unheard N)) (k : ℕ) → a' ≡ with_query a q o → k ≡ length a.queries → slice_get a'.queries k ≡ Some p → p ≡ q
 the_new {N} a a' q p o k rows number here =
     let e : Some p ≡ Some q = sym here ∙ ap (λ (x : Account N). slice_get x.queries k) rows ∙ ap (λ n. slice_get (a.queries ++ q ∷ []) n) number ∙ get_new a.queries q in cc
-
-length_first : {X : Type 0} (os : List (Option X)) → length (without_first os) ≡ length os
-length_first [] = refl
-length_first (None ∷ os) = ap suc (length_first os)
-length_first (Some x ∷ os) = refl
 
 pub kept_first : {N : Type 0} (a a' : Account N) (b : Board) → IsKept a b → a' ≡ record { queries = a.queries; ends = a.ends; armed = without_first a.armed; due = a.due } → IsKept a' b
 kept_first {N} a a' b k e = subst (λ (x : Account N). IsKept x b) (sym e) (record { ends = k.ends; armed = length_first a.armed ∙ k.armed; watches = k.watches; met = k.met })

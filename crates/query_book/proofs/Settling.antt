@@ -32,17 +32,17 @@ positive (suc n) pos = ⊎_elim (λ (e : (nat_le 1 (suc n) ≡ true) × (1 ≤ s
 pub is_positive : (n : ℕ) → nat_lt 0 n ≡ true → 0 < n
 is_positive n e = ⊎_elim (λ (f : (nat_le 1 n ≡ true) × (1 ≤ n)). f.1) (λ (f : (nat_le 1 n ≡ false) × (n < 1)). let g : false ≡ true = sym f.0 ∙ e in absurd cc) (leb_tells 1 n)
 
-is_same : (a b : ℕ) → (a == b) ≡ true → a ≡ b
+pub is_same : (a b : ℕ) → (a == b) ≡ true → a ≡ b
 is_same a b e = ⊎_elim (λ (f : ((a == b) ≡ true) × (a ≡ b)). f.1) (λ (f : ((a == b) ≡ false) × (a ≢ b)). let g : false ≡ true = sym f.0 ∙ e in absurd cc) (eqb_tells a b)
 
-itself : (n : ℕ) (rest : Bool) → ((n == n) || rest) ≡ true
+pub itself : (n : ℕ) (rest : Bool) → ((n == n) || rest) ≡ true
 itself n rest = ⊎_elim (λ (e : ((n == n) ≡ true) × (n ≡ n)). ap (λ b. b || rest) e.0) (λ (e : ((n == n) ≡ false) × (n ≢ n)). absurd (e.1 refl)) (eqb_tells n n)
 
 and_false : (b : Bool) → (b && false) ≡ false
 and_false true = refl
 and_false false = refl
 
-among_step : (i : ℕ) (j : InstId) (R : List InstId) (M U t v : Bool) → (j.0 == i) ≡ v → (v ≡ true → t ≡ U) → is_among i R ≡ (M && U) → is_among i (cons_option (only_if t j) R) ≡ ((v || M) && U)
+pub among_step : (i : ℕ) (j : InstId) (R : List InstId) (M U t v : Bool) → (j.0 == i) ≡ v → (v ≡ true → t ≡ U) → is_among i R ≡ (M && U) → is_among i (cons_option (only_if t j) R) ≡ ((v || M) && U)
 among_step i j R M U true true e same ih = ap (λ x. x || is_among i R) e ∙ same refl
 among_step i j R M U false true e same ih = ih ∙ ap (λ u. M && u) (sym (same refl)) ∙ and_false M ∙ same refl
 among_step i j R M U true false e same ih = ap (λ x. x || is_among i R) e ∙ ih

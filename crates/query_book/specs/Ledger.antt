@@ -2,6 +2,7 @@
 use Rattle.std.specs.Prelude.{◌≡◌, ℕ, suc, ◌⊎◌, Bool, true, false, ◌&&◌, List, [], ◌∷◌, ◌++◌, Option, None, Some, drop, slice_get, is_none, if◌then◌else◌}
 use Rattle.orc_ids.specs.declared.ids.InstId.{InstId}
 use Rattle.orc_ids.specs.declared.ids.UnitId.{UnitId}
+use Rattle.orc_ids.specs.declared.lookup.Level.{Level}
 use Rattle.session_model.specs.Query.{Stand}
 use Rattle.session_model.specs.declared.rows.Query.{Query}
 use Rattle.notifiers.specs.declared.notice.Unheard.{Unheard}
@@ -63,6 +64,7 @@ fires_of at s l = fired_all at s (settling 0 s l.queries l.ends) (account l)
 
 -- each query that is open was looked at: it isn't met, and what it waits for is what isn't at its level
 pub record IsSeen {N : Type 0} (s : ℕ → Stand) (l : Ledger N) : Type 0 where
+  pub unmet : (k : ℕ) (q : Query) → slice_get l.queries k ≡ Some q → slice_get l.ends k ≡ Some None → is_met s q ≡ false
   pub undecided : (k : ℕ) (q : Query) → slice_get l.queries k ≡ Some q → slice_get l.ends k ≡ Some None → slice_get l.decided k ≡ Some false
   pub waiting : (k : ℕ) (q : Query) → slice_get l.queries k ≡ Some q → slice_get l.ends k ≡ Some None → slice_get l.waits k ≡ Some (missing s q)
 
@@ -84,3 +86,23 @@ pub record IsToldOf (s : ℕ → Stand) (changed waits : List InstId) (q : Query
 pub record IsTold {N : Type 0} (s : ℕ → Stand) (changed : List InstId) (l : Ledger N) : Type 0 where
   pub decided : (k : ℕ) (q : Query) → slice_get l.queries k ≡ Some q → slice_get l.ends k ≡ Some None → slice_get l.decided k ≡ Some true → is_met s q ≡ true
   pub waits : (k : ℕ) (q : Query) (waits : List InstId) → slice_get l.queries k ≡ Some q → slice_get l.ends k ≡ Some None → slice_get l.decided k ≡ Some false → slice_get l.waits k ≡ Some waits → IsToldOf s changed waits q
+
+-- what is kept of each open query is how it stands: whether it is met, and else what it waits for
+pub record IsCurrent {N : Type 0} (s : ℕ → Stand) (l : Ledger N) : Type 0 where
+  pub decided : (k : ℕ) (q : Query) → slice_get l.queries k ≡ Some q → slice_get l.ends k ≡ Some None → slice_get l.decided k ≡ Some (is_met s q)
+  pub waits : (k : ℕ) (q : Query) → slice_get l.queries k ≡ Some q → slice_get l.ends k ≡ Some None → slice_get l.waits k ≡ Some (waits_of s q)
+
+-- an open query matched the instance
+pub record IsAwaited {N : Type 0} (l : Ledger N) (i : ℕ) : Type 0 where
+  pub number : ℕ
+  pub query : Query
+  pub there : slice_get l.queries number ≡ Some query
+  pub unended : slice_get l.ends number ≡ Some None
+  pub matches : is_matched i query.matched ≡ true
+
+-- of the instances that open queries matched only these stand otherwise than before; what was at a level is there
+-- still, or is lost, and what was lost is lost still
+pub record IsChange {N : Type 0} (changed : List InstId) (old new : ℕ → Stand) (l : Ledger N) : Type 0 where
+  pub others : (i : ℕ) → IsAwaited l i → is_among i changed ≡ false → new i ≡ old i
+  pub stays : (level : Level) (i : ℕ) → IsAwaited l i → at_level old level i ≡ true → (at_level new level i ≡ true) ⊎ (is_lost new i ≡ true)
+  pub lost : (i : ℕ) → IsAwaited l i → is_lost old i ≡ true → is_lost new i ≡ true

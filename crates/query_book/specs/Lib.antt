@@ -8,3 +8,4 @@ pub mod Rows
 pub mod States
 pub mod Ledger
 pub mod Kept
+pub mod Laws

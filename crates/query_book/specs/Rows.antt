@@ -1,5 +1,5 @@
 -- The queries by number, with their ends and notifiers.
-use Rattle.std.specs.Prelude.{ℕ, List, [], ◌∷◌, ◌++◌, Option, None, Some, set, slice_get, drop, option_map, option_and_then, option_to_list}
+use Rattle.std.specs.Prelude.{ℕ, ◌+◌, List, [], ◌∷◌, ◌++◌, Option, None, Some, set, slice_get, drop, option_map, option_and_then, option_to_list}
 use Rattle.std.specs.Option.{option_map_or}
 use Rattle.orc_ids.specs.declared.ids.UnitId.{UnitId}
 use Rattle.orc_ids.specs.declared.lookup.Outcome.{Outcome}
@@ -67,6 +67,12 @@ abbrev pub without_first : {X : Type 0} → List (Option X) → List (Option X)
 without_first [] = []
 without_first (None ∷ os) = None ∷ without_first os
 without_first (Some x ∷ os) = None ∷ os
+
+-- how many have a notifier
+abbrev pub armed_count : {X : Type 0} → List (Option X) → ℕ
+armed_count [] = 0
+armed_count (None ∷ os) = armed_count os
+armed_count (Some x ∷ os) = 1 + armed_count os
 
 abbrev pub without_armed : {N : Type 0} → Account N → Account N
 without_armed a = record a { armed = without_first a.armed }

@@ -1,5 +1,5 @@
 -- How ends and notifiers are kept.
-use Rattle.std.specs.Prelude.{◌≡◌, ℕ, suc, ◌+◌, ◌≤◌, List, [], ◌∷◌, Option, None, Some, length}
+use Rattle.std.specs.Prelude.{◌≡◌, ℕ, zero, suc, ◌+◌, ◌≤◌, List, [], ◌∷◌, Option, None, Some, length}
 use Rattle.std.specs.Vec.{vec_capacity}
 use Rattle.session_model.specs.declared.rows.Query.{Query}
 use Rattle.query_book.specs.declared.ends.QueryEnd.{QueryEnd}
@@ -36,10 +36,18 @@ OnlyOpen (state ∷ states) [] = Unit {0}
 OnlyOpen (Open room ∷ states) (o ∷ os) = OnlyOpen states os
 OnlyOpen (Ended e ∷ states) (o ∷ os) = (o ≡ None) × OnlyOpen states os
 
+-- none of so many has a notifier
+abbrev pub NoneBefore : {X : Type 0} → ℕ → List (Option X) → Type 0
+NoneBefore zero os = Unit {0}
+NoneBefore (suc k) [] = Unit {0}
+NoneBefore (suc k) (o ∷ os) = (o ≡ None) × NoneBefore k os
+
 -- what the rows keep
-pub record IsSound {X : Type 0} (queries : List Query) (states : List State) (armed : List (Option X)) (due room : ℕ) : Type 0 where
+pub record IsSound {X : Type 0} (queries : List Query) (states : List State) (armed : List (Option X)) (unarmed due room : ℕ) : Type 0 where
   pub states_of : length states ≡ length queries
   pub armed_of : length armed ≡ length queries
   pub rooms : HaveRoom queries states
   pub units : due + open_count states ≤ room
   pub only_open : OnlyOpen states armed
+  pub below : NoneBefore unarmed armed
+  pub within : unarmed ≤ length armed

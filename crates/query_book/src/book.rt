@@ -1,7 +1,7 @@
-ghost use Rattle.std.specs.Prelude.{◌≡◌, ◌+◌, ◌^◌, ◌<◌, None, length, slice_get, OnOk, OnErr, IfOk};
+ghost use Rattle.std.specs.Prelude.{◌≡◌, ◌+◌, ◌^◌, ◌<◌, None, length, slice_get, OnOk, OnErr, IfOk, IfSome, IfNone};
 ghost use Rattle.query_book.specs.Ends.{collected_of};
-ghost use Rattle.query_book.specs.Ledger.{nobody, account, lodged, settled, fires_of, IsSeen, IsTold, without_due, without_first_of};
-ghost use Rattle.query_book.specs.Rows.{first_armed};
+ghost use Rattle.query_book.specs.Ledger.{nobody, account, lodged, settled, fires_of, IsSeen, IsCurrent, IsTold, without_due, without_first_of};
+ghost use Rattle.query_book.specs.Rows.{first_armed, armed_count};
 
 use crate::board::Board;
 use crate::ends::Collected;
@@ -52,6 +52,7 @@ impl<N: Notify + Send> Book<N> {
     ) -> Result<(), AllocError>
         requires { length self.old.queries + 1 < 2 ^ 32 }
         ensures ok { OnOk result (self.new ≡ lodged (T.stand standing.now) q then.old self.old) }
+        ensures current { OnOk result (IsCurrent (T.stand standing.now) self.old → IsCurrent (T.stand standing.now) self.new) }
         ensures taken { OnOk result (then.new ≡ None) }
         ensures err { OnErr result (self.new ≡ self.old) }
         ensures kept { OnErr result (then.new ≡ then.old) }
@@ -101,6 +102,8 @@ impl<N: Notify + Send> Book<N> {
     pub fn give_back(&mut self) -> Option<Armed<N>>
         ensures first { result ≡ first_armed self.old.armed }
         ensures rest { self.new ≡ without_first_of self.old }
+        ensures none { IfNone result (first_armed self.new.armed ≡ None) }
+        ensures fewer { IfSome result (λ armed. armed_count self.new.armed + 1 ≡ armed_count self.old.armed) }
     {
         self.rows.give_back()
     }

@@ -5,7 +5,7 @@ ghost use Rattle.query_book.specs.Counts.{count};
 ghost use Rattle.query_book.specs.Stands.{ending};
 ghost use Rattle.query_book.specs.Ends.{collected_of, told_end};
 ghost use Rattle.query_book.specs.Rows.{nobody, with_query, ended_one, fired_one, ended_all, fired_all, without_due, without_armed, first_armed, without_first, unit_of, notices};
-ghost use Rattle.query_book.specs.States.{CanEnd, end_of};
+ghost use Rattle.query_book.specs.States.{CanEnd, NoneBefore, end_of};
 ghost use Rattle.query_book.specs.declared.rows.State.TheVariants.{Ended};
 
 use crate::ends::{Collected, QueryEnd, copy_end, told_end};
@@ -32,6 +32,8 @@ pub(crate) struct Rows<N: Notify + Send> {
     queries: Vec<Query>,
     states: Vec<State>,
     armed: Vec<Option<Armed<N>>>,
+    /// No query below this number has a notifier.
+    unarmed: usize,
     due: VecDeque<UnitId>,
 }
 
@@ -46,7 +48,7 @@ impl<N: Notify + Send> Model for Rows<N> {
 
     ghost view = { λ r. record { queries = r.queries.items; ends = map end_of r.states.items; armed = r.armed.items; due = r.due.items } };
 
-    ghost invariant = { λ r. IsSound r.queries.items r.states.items r.armed.items (deque_len r.due) (deque_capacity r.due) };
+    ghost invariant = { λ r. IsSound r.queries.items r.states.items r.armed.items r.unarmed (deque_len r.due) (deque_capacity r.due) };
 }
 
 /// The room that was kept for the end of a query.
@@ -105,12 +107,20 @@ fn fire<N: Notify + Send>(armed: &mut Option<Armed<N>>, outcome: Outcome, fires:
     }
 }
 
-/// Takes out the first notifier.
-fn take_first<N: Notify + Send>(armed: &mut Vec<Option<Armed<N>>>) -> Option<Armed<N>>
+/// Takes out the first notifier, and moves the number below which there is none past it.
+fn take_first<N: Notify + Send>(
+    armed: &mut Vec<Option<Armed<N>>>,
+    unarmed: &mut usize,
+) -> Option<Armed<N>>
+    requires below { NoneBefore unarmed.old armed.old.items }
+    requires within { unarmed.old ≤ length armed.old.items }
     ensures first { result ≡ first_armed armed.old.items }
     ensures rest { armed.new.items ≡ without_first armed.old.items }
+    ensures below { NoneBefore unarmed.new armed.new.items }
+    ensures within { unarmed.new ≤ length armed.new.items }
 {
-    for at in 0..armed.len() {
+    for at in *unarmed..armed.len() {
+        *unarmed = at + 1;
         match armed[at].take() {
             Some(first) => return Some(first),
             None => {}
@@ -139,6 +149,7 @@ impl<N: Notify + Send> Rows<N> {
             queries: Vec::new(alloc),
             states: Vec::new(alloc),
             armed: Vec::new(alloc),
+            unarmed: 0,
             due: VecDeque::new(alloc),
         }
     }
@@ -231,7 +242,7 @@ impl<N: Notify + Send> Rows<N> {
         ensures first { result ≡ first_armed self.old.armed }
         ensures rest { self.new ≡ without_armed self.old }
     {
-        take_first(&mut self.armed)
+        take_first(&mut self.armed, &mut self.unarmed)
     }
 
     /// Gives up the rows.
@@ -241,6 +252,7 @@ impl<N: Notify + Send> Rows<N> {
             queries: _queries,
             states: _states,
             armed,
+            unarmed: _,
             due: _due,
         } = self;
         let mut armed = armed;

@@ -1,4 +1,4 @@
-//! Tests of `query_book`: a lookup that is lodged, is open, and gives its notifier back.
+//! Tests of `query_book`: a lookup that is lodged, and gives its notifier back or settles and fires it.
 //!
 //! They stand in a crate of their own, so that they don't prove `query_book` again. What is expected was
 //! worked out by hand from when a query is met.

@@ -2,7 +2,8 @@ use Rattle.std.proofs.Common.{◌≡◌, ◌<◌, ◌∙◌, Some, None, ap, sym
 use Rattle.std.specs.Prelude.{slice_get}
 use Rattle.std.proofs.lemmas.Option.{slice_get_read}
 use Rattle.query_book.specs.Rows.{first_armed, without_first}
-use Rattle.query_book.proofs.Endings.{NoneBefore, first_here, all_none, none_more, set_same}
+use Rattle.query_book.specs.States.{NoneBefore}
+use Rattle.query_book.proofs.Endings.{none_taken, first_here, all_none, none_more, set_same}
 use Rattle.query_book.proofs.rows.take_first.Goals as goal
 
 pub returns-in-Some-clause-first : goal.returns-in-Some-clause-first
@@ -23,7 +24,9 @@ loop-at-preserved g c =
     let here : slice_get c.loop-at.armed.items c.loop-at.at ≡ Some None = slice_get_read c.loop-at.armed.items (length c.loop-at.armed.items) c.loop-at.at c.index_mut.result.now refl less c.index_mut.ensures.value ∙ ap (λ o. Some o) (sym c.take.ensures.value ∙ c.in-None.is) in
     let still = ap (λ o. set c.loop-at.armed.items c.loop-at.at o) c.take.ensures.after ∙ set_same c.loop-at.armed.items c.loop-at.at None here in
     record {
+      few = omega (arith, less, ap length still);
       same = still ∙ c.loop-at.invariant.same;
+      here = refl;
       none = subst (λ n. NoneBefore n (set c.loop-at.armed.items c.loop-at.at c.take.new.self)) (sym (add-one c.loop-at.at)) (subst (λ l. NoneBefore (suc c.loop-at.at) l) (sym still) (none_more c.loop-at.at c.loop-at.armed.items c.loop-at.invariant.none here));
     }
 
@@ -32,3 +35,8 @@ returns-clause-first g c = (all_none c.loop-at.at c.loop-at.armed.items (omega (
 
 pub returns-clause-rest : goal.returns-clause-rest
 returns-clause-rest g c = (all_none c.loop-at.at c.loop-at.armed.items (omega (arith, c.loop-at-test.false, c.loop-at.armed.ok.0, c.len-at-end.ensures, ap length c.loop-at.invariant.same, c.args.armed.now.ok.0)) c.loop-at.invariant.none).1 ∙ ap without_first c.loop-at.invariant.same
+
+pub returns-in-Some-clause-below : goal.returns-in-Some-clause-below
+returns-in-Some-clause-below g c =
+    subst (λ n. NoneBefore n (set c.loop-at.armed.items c.loop-at.at c.take.new.self)) (sym (add-one c.loop-at.at))
+    (subst (λ o. NoneBefore (suc c.loop-at.at) (set c.loop-at.armed.items c.loop-at.at o)) (sym c.take.ensures.after) (none_taken c.loop-at.at c.loop-at.armed.items c.loop-at.invariant.none))

@@ -21,7 +21,7 @@ end_state-end-requires g c =
 pub add_due-requires : goal.add_due-requires
 add_due-requires g c =
     let is : slice_get (map end_of c.self.inside.states.items) c.args.query ≡ Some None = ap (λ a. slice_get a.ends c.args.query) c.self.view_is ∙ c.requires in
-    due_fits c.self.inside.queries.items c.self.inside.states.items c.self.inside.armed.items _ _ c.args.query (record { at = 0; end = ending (g.T.Standing.stand c.args.standing.now) c.index-q.result.now }) c.self.invariant is
+    due_fits c.self.inside.queries.items c.self.inside.states.items c.self.inside.armed.items _ _ _ c.args.query (record { at = 0; end = ending (g.T.Standing.stand c.args.standing.now) c.index-q.result.now }) c.self.invariant is
 
 pub index_mut-requires-2 : goal.index_mut-requires-2
 index_mut-requires-2 g c =
@@ -33,7 +33,7 @@ index_mut-requires-2 g c =
 pub invariant_of-self : goal.invariant_of-self
 invariant_of-self g c =
     let is : slice_get (map end_of c.self.inside.states.items) c.args.query ≡ Some None = ap (λ a. slice_get a.ends c.args.query) c.self.view_is ∙ c.requires in
-    sound_ended c.self.inside.queries.items c.self.inside.states.items c.self.inside.armed.items _ _ _ _ c.args.query c.end_state-end.new.state c.fire.new.armed _ c.self.invariant is c.end_state-end.ensures.state c.fire.ensures.armed c.add_due.ensures.len c.add_due.ensures.room
+    sound_ended c.self.inside.queries.items c.self.inside.states.items c.self.inside.armed.items _ _ _ _ _ c.args.query c.end_state-end.new.state c.fire.new.armed _ c.self.invariant is c.end_state-end.ensures.state c.fire.ensures.armed c.add_due.ensures.len c.add_due.ensures.room
 
 pub returns-clause-rows : goal.returns-clause-rows
 returns-clause-rows g c =
