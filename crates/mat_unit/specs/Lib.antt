@@ -1,2 +1,5 @@
+pub mod Changes
+pub mod Jobs
+pub mod Kept
 pub mod Roster
-pub mod Slots
+pub mod Rows
