@@ -1,2 +1,4 @@
 pub mod Added
+pub mod Places
 pub mod Session
+pub mod Shelves

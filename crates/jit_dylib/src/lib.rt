@@ -9,10 +9,14 @@
 //! order that they speak of: `row_at` is the present row of a name. A call costs the names that it is
 //! given, and none goes over the table. `row` and `drop_rows` take no memory.
 //!
+//! `Dylibs` are all dylibs of a session by number, seen as a `Shelf`: each with its name and link order,
+//! and the table of each. The laws say what both are to a session, and that they stay so.
+//!
 //! Read `link_order` next, which matches the names of a lookup over such tables.
 #![tactic(auto)]
 
 mod defined;
+mod dylibs;
 mod error;
 mod laws;
 mod rows;
@@ -22,8 +26,10 @@ mod tests;
 mod verdicts;
 
 pub use defined::Defined;
+pub use dylibs::Dylibs;
 pub use error::DefineError;
 pub use laws::{
-    defines_as_the_session, defines_nothing_elsewhere, drops_as_the_session, judges_as_the_session,
+    defines_as_the_session, defines_nothing_elsewhere, drops_as_the_session, drops_one_by_one,
+    judges_as_the_session, shelf_defines, shelf_drops, shelf_judges, shelf_makes,
 };
 pub use table::Table;

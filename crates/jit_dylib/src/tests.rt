@@ -1,7 +1,7 @@
 ghost use Rattle.std.specs.Prelude.{◌<◌};
 
-use crate::{DefineError, Defined, Table};
-use orc_ids::{DylibId, InstId, NameId, SymFlags, UnitId};
+use crate::{DefineError, Defined, Dylibs, Table};
+use orc_ids::{DylibId, InstId, NameId, OrderItem, Scope, SymFlags, UnitId};
 use session_model::{InstRow, Phase};
 use std::process::Abort;
 
@@ -183,4 +183,54 @@ fn as_many_names_as_a_session_has_instances(rt: HostRuntime) {
         table.drop_rows(&[(NameId(number), InstId(number))]);
     }
     assert!(rt; table.row(NameId(0)).is_none());
+}
+
+/// The order has this length, and begins with this dylib and all its names.
+fn begins_with(order: &[OrderItem], number: u32, length: usize) -> bool {
+    match order.first() {
+        Some(item) => {
+            item.dylib.0 == number && item.scope == Scope::All && order.len() == length
+        }
+        None => false,
+    }
+}
+
+#[test]
+fn a_dylib_looks_in_itself_first(rt: HostRuntime) {
+    let mut dylibs = Dylibs::new(rt.alloc());
+    dylibs.make(F).expect(&rt, "made");
+    assert!(rt; dylibs.has(DylibId(0)) && !dylibs.has(DylibId(1)));
+    assert!(rt; begins_with(dylibs.order(DylibId(0)), 0, 1));
+    let more = [OrderItem {
+        dylib: DylibId(0),
+        scope: Scope::Exported,
+    }];
+    dylibs.set_order(DylibId(0), &more).expect(&rt, "set");
+    assert!(rt; begins_with(dylibs.order(DylibId(0)), 0, 2));
+    assert!(rt; dylibs.order(DylibId(1)).is_empty());
+}
+
+#[test]
+fn dylibs_are_found_by_name(rt: HostRuntime) {
+    let mut dylibs = Dylibs::new(rt.alloc());
+    assert!(rt; dylibs.find(G).is_none());
+    dylibs.make(F).expect(&rt, "made");
+    dylibs.make(G).expect(&rt, "made");
+    assert_eq!(rt; dylibs.len(), 2);
+    assert_eq!(rt; dylibs.find(G), Some(DylibId(1)));
+    assert!(rt; dylibs.find(H).is_none());
+}
+
+#[test]
+fn each_dylib_has_its_own_names(rt: HostRuntime) {
+    let mut dylibs = Dylibs::new(rt.alloc());
+    dylibs.make(F).expect(&rt, "made");
+    dylibs.make(G).expect(&rt, "made");
+    let defined = dylibs.define(DylibId(1), &[(F, STRONG)], InstId(5), &[]);
+    assert!(rt; defined.is_ok());
+    assert!(rt; dylibs.row(DylibId(0), F).is_none());
+    assert!(rt; dylibs.row(DylibId(2), F).is_none());
+    assert!(rt; matches!(dylibs.row(DylibId(1), F), Some(row) if row.inst.0 == 5));
+    dylibs.drop_rows(DylibId(1), &[(F, InstId(5))]);
+    assert!(rt; dylibs.row(DylibId(1), F).is_none());
 }
