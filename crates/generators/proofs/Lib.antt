@@ -1,0 +1,6 @@
+pub mod InLine
+pub mod Names
+pub mod Places
+pub mod Queues
+pub mod Session
+pub mod TestUnits
