@@ -2,3 +2,4 @@ pub mod Table
 pub mod Spans
 pub mod Groups
 pub mod Rows
+pub mod Prepared

@@ -13,6 +13,13 @@ use std::alloc::{AllocError, Global};
 /// For each of a unit's instances the dependencies of its group, once they are known.
 pub type DepsTable = Vec<Option<DepList>>;
 
+/// What an emission gives to the instances of a unit, which stand from the first one on.
+#[derive(Drop)]
+pub struct Prepared {
+    pub(crate) first: u32,
+    pub(crate) deps: DepsTable,
+}
+
 fn empty_table(alloc: Global, count: u32) -> Result<DepsTable, AllocError>
     ensures count { IfOk result (λ table. length table.items ≡ count) }
     ensures empty { IfOk result (λ table. (j : ℕ) → j < count → slice_get table.items j ≡ Some None) }

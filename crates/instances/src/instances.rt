@@ -1,13 +1,16 @@
-ghost use Rattle.std.specs.Prelude.{◌≡◌, ◌<◌, ◌+◌, ◌≤◌, ◌++◌, [], ℕ, map, length, slice_get, Some, IfOk, OnOk, OnErr, option_and_then, if◌then◌else◌};
+ghost use Rattle.std.specs.Prelude.{◌≡◌, ◌<◌, ◌+◌, ◌≤◌, ◌++◌, [], ℕ, List, map, length, slice_get, Some, IfOk, OnOk, OnErr, option_and_then, if◌then◌else◌};
 ghost use Rattle.orc_ids.specs.declared.limits.TheConstants.{INSTANCE_LIMIT, UNIT_LIMIT};
+ghost use Rattle.orc_ids.specs.declared.groups.Group.{Group};
 ghost use Rattle.session_model.specs.Lists.{numbered};
 ghost use Rattle.session_model.specs.Plain.{is_unsearched, own_rows};
 ghost use Rattle.session_model.specs.Change.{claimed_row, emitted_row};
 ghost use Rattle.session_model.specs.declared.rows.InstRow.{InstRow};
+ghost use Rattle.instances.specs.Prepared.{IsPrepared};
 ghost use Rattle.instances.specs.Rows.{addressed_row};
+ghost use Rattle.instances.specs.Spans.{IsSpan};
 ghost use Rattle.instances.specs.Table.{HasSameRooms, fresh_rows, removed_row, replaced_row, failed_row, AreChanged};
 
-use crate::groups::deps_table;
+use crate::groups::{Prepared, deps_table};
 use crate::row::is_unsearched;
 use crate::rows::{
     claim_rows, emit_rows, fail_rows, own_in, push_rows, remove_rows, replace_rows, resolve_rows,
@@ -63,6 +66,7 @@ impl Instances {
         ensures rows { self.new.rows ≡ self.old.rows }
         ensures units { self.new.units ≡ self.old.units }
         ensures spare { OnOk result (count ≤ self.new.spare) }
+        ensures kept { self.old.spare ≤ self.new.spare }
         ensures spare_units { OnOk result (0 < self.new.spare_units) }
     {
         self.rows.reserve(count)?;
@@ -79,6 +83,7 @@ impl Instances {
         requires flags { length live.now ≡ length offers.now }
         ensures rows { self.new.rows ≡ self.old.rows ++ fresh_rows d.0 self.old.units 0 offers.now live.now }
         ensures units { self.new.units ≡ self.old.units + 1 }
+        ensures room { length self.new.rows + self.new.spare ≡ length self.old.rows + self.old.spare }
     {
         let u = UnitId(self.spans.as_slice().len() as u32);
         let first = self.rows.as_slice().len() as u32;
@@ -129,10 +134,30 @@ impl Instances {
         ensures emitted { OnOk result (self.new ≡ record self.old { rows = numbered (emitted_row u.0 groups.now) 0 self.old.rows }) }
         ensures err { OnErr result (self.new ≡ self.old) }
     {
-        let span = self.spans[u.0 as usize];
-        let table = deps_table(self.alloc, groups, span.first, span.count)?;
-        emit_rows(&mut self.rows, u, span.first, table);
+        let prepared = self.prepare(u, groups)?;
+        self.emit_prepared(u, prepared);
         Ok(())
+    }
+
+    /// Takes the memory for an emission of the unit.
+    pub fn prepare(&self, u: UnitId, groups: &[Group]) -> Result<Prepared, AllocError>
+        requires { u.0 < self.now.units }
+        ensures { IfOk result (λ prepared. IsPrepared self.now.rows u.0 groups.now prepared) }
+    {
+        let span = self.spans[u.0 as usize];
+        let deps = deps_table(self.alloc, groups, span.first, span.count)?;
+        Ok(Prepared {
+            first: span.first,
+            deps,
+        })
+    }
+
+    /// Emits the unit with what was prepared; takes no memory.
+    pub fn emit_prepared(&mut self, u: UnitId, prepared: Prepared)
+        requires { (groups : List Group) × IsPrepared self.old.rows u.0 groups prepared }
+        ensures { (groups : List Group) → IsPrepared self.old.rows u.0 groups prepared → self.new ≡ record self.old { rows = numbered (emitted_row u.0 groups) 0 self.old.rows } }
+    {
+        emit_rows(&mut self.rows, u, prepared.first, prepared.deps);
     }
 
     /// Each of these instances fails; takes no memory.
@@ -150,6 +175,15 @@ impl Instances {
     {
         let span = self.spans[u.0 as usize];
         remove_rows(&mut self.rows, u, span);
+    }
+
+    /// Where the unit's instances stand.
+    pub fn span(&self, u: UnitId) -> Span
+        requires { u.0 < self.now.units }
+        ensures span { IsSpan self.now.rows u.0 result.first result.count }
+        ensures few { length self.now.rows ≤ INSTANCE_LIMIT }
+    {
+        self.spans[u.0 as usize]
     }
 
     /// The unit's present instances, in order.

@@ -4,7 +4,8 @@
 //!
 //! Contracts see `Instances` as the list of rows by number, how many units they are of, and for how many
 //! more instances and units there is room; and say each change by the definitions of `session_model`.
-//! `define` takes no memory, since `room` made it; only `emit` may want some, for lists of dependencies.
+//! `define` takes no memory, since `room` made it; only `emit` may want some, for lists of dependencies:
+//! `prepare` takes it, and `emit_prepared` does the rest.
 //!
 //! Read `jit_dylib` for which names of a unit stay, and `dep_groups` for which instances a failure hits.
 #![tactic(auto)]
@@ -17,4 +18,7 @@ mod span;
 #[cfg(test)]
 mod tests;
 
+pub use groups::Prepared;
 pub use instances::Instances;
+pub use row::address_of;
+pub use span::Span;
