@@ -1,0 +1,4 @@
+pub mod Sets
+pub mod Graph
+pub mod Tied
+pub mod Removal
