@@ -1,0 +1,4 @@
+pub mod Names
+pub mod Symbols
+pub mod Sections
+pub mod Reach

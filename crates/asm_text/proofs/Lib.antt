@@ -1,0 +1,4 @@
+pub mod Bounds
+pub mod Rooms
+pub mod Sizes
+pub mod Steps
