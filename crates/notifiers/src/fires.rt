@@ -70,6 +70,14 @@ impl<N: Notify + Send> Fires<N> {
         );
     }
 
+    /// Gives up a list of nobody.
+    pub fn end(self)
+        requires { self ≡ [] }
+    {
+        let Fires { queue } = self;
+        queue.end();
+    }
+
     /// Tells each its outcome, and adds it at the end of `done`, in order; takes no memory.
     pub fn fire_all(self, done: &mut FiredList<N>)
         ensures { Told N.heard self done.old done.new }

@@ -1,4 +1,4 @@
-ghost use Rattle.std.specs.Prelude.{◌≡◌, ◌+◌, ◌^◌, ◌<◌, None, length, slice_get, OnOk, OnErr, IfOk, IfSome, IfNone};
+ghost use Rattle.std.specs.Prelude.{◌≡◌, ◌≢◌, ◌+◌, ◌^◌, ◌<◌, None, length, slice_get, option_map, OnOk, OnErr, IfOk, IfSome, IfNone};
 ghost use Rattle.query_book.specs.Ends.{collected_of};
 ghost use Rattle.query_book.specs.Ledger.{nobody, account, lodged, settled, fires_of, IsSeen, IsCurrent, IsTold, without_due, without_first_of};
 ghost use Rattle.query_book.specs.Rows.{first_armed, armed_count};
@@ -40,6 +40,20 @@ impl<N: Notify + Send> Book<N> {
             rows: Rows::new(alloc),
             board: Board::new(alloc),
         }
+    }
+
+    /// How many queries there are.
+    pub fn len(&self) -> usize
+        ensures { result ≡ length self.now.queries }
+    {
+        self.rows.len()
+    }
+
+    /// The query of this number, if there is one.
+    pub fn query(&self, q: QueryId) -> Option<&Query>
+        ensures { option_map (λ x. x.now) result ≡ slice_get self.now.queries q.0 }
+    {
+        self.rows.get(q.0 as usize)
     }
 
     /// Lodges a query, with its notifier if there is one; a refused lodge leaves the notifier where
@@ -91,9 +105,10 @@ impl<N: Notify + Send> Book<N> {
         self.rows.next_unit()
     }
 
-    /// What is known of a query's end.
+    /// What is known of a query's end. Only that of one that has ended takes memory.
     pub fn collect(&self, q: QueryId) -> Result<Collected, AllocError>
-        ensures { IfOk result (λ c. c ≡ collected_of (slice_get self.now.ends q.0)) }
+        ensures collected { IfOk result (λ c. c ≡ collected_of (slice_get self.now.ends q.0)) }
+        ensures ended { OnErr result (slice_get self.now.ends q.0 ≢ Some None) }
     {
         self.rows.collect(q)
     }

@@ -1,4 +1,4 @@
-ghost use Rattle.std.specs.Prelude.{◌≡◌, ℕ, ◌+◌, ◌<◌, ◌≤◌, ◌++◌, None, Some, length, slice_get, OnOk, OnErr, IfOk, IfSome, option_and_then, option_to_list, option_map};
+ghost use Rattle.std.specs.Prelude.{◌≡◌, ◌≢◌, ℕ, ◌+◌, ◌<◌, ◌≤◌, ◌++◌, None, Some, length, slice_get, OnOk, OnErr, IfOk, IfSome, option_and_then, option_to_list, option_map};
 ghost use Rattle.std.specs.Vec.{vec_capacity};
 ghost use Rattle.std.specs.VecDeque.{deque_len, deque_capacity};
 ghost use Rattle.query_book.specs.Counts.{count};
@@ -64,7 +64,8 @@ fn take_room(alloc: Global, state: &mut State, count: usize) -> Vec<Option<(Inst
 
 /// What is known of a query's end.
 fn copy_state(alloc: Global, state: &State) -> Result<Collected, AllocError>
-    ensures { IfOk result (λ c. c ≡ collected_of (Some (end_of state.now))) }
+    ensures collected { IfOk result (λ c. c ≡ collected_of (Some (end_of state.now))) }
+    ensures ended { OnErr result (end_of state.now ≢ None) }
 {
     match state {
         State::Open(_) => Ok(Collected::Open),
@@ -187,6 +188,13 @@ impl<N: Notify + Send> Rows<N> {
         &self.queries[at]
     }
 
+    /// A query, if it is there.
+    pub(crate) fn get(&self, at: usize) -> Option<&Query>
+        ensures { option_map (λ x. x.now) result ≡ slice_get self.now.queries at }
+    {
+        self.queries.get(at)
+    }
+
     /// An open query ends: its unit is to be handed out, and its notifier is to be told.
     fn end_one<T: Standing>(&mut self, query: u32, at: u64, standing: &T, fires: &mut Fires<N>)
         requires { slice_get self.old.ends query ≡ Some None }
@@ -227,9 +235,10 @@ impl<N: Notify + Send> Rows<N> {
         self.due.pop_front()
     }
 
-    /// What is known of a query's end.
+    /// What is known of a query's end. Only that of one that has ended takes memory.
     pub(crate) fn collect(&self, q: QueryId) -> Result<Collected, AllocError>
-        ensures { IfOk result (λ c. c ≡ collected_of (slice_get self.now.ends q.0)) }
+        ensures collected { IfOk result (λ c. c ≡ collected_of (slice_get self.now.ends q.0)) }
+        ensures ended { OnErr result (slice_get self.now.ends q.0 ≢ Some None) }
     {
         match self.states.get(q.0 as usize) {
             None => Ok(Collected::Unknown),
