@@ -49,10 +49,10 @@ record Framed (m n : Plain) : Type 0 where
   trackers : TrackersHome n
   generators : GeneratorsHome n
 
-record SameFrame (m n : Plain) : Type 0 where
-  dylibs : n.dylibs ≡ m.dylibs
-  trackers : n.trackers ≡ m.trackers
-  generators : n.generators ≡ m.generators
+pub record SameFrame (m n : Plain) : Type 0 where
+  pub dylibs : n.dylibs ≡ m.dylibs
+  pub trackers : n.trackers ≡ m.trackers
+  pub generators : n.generators ≡ m.generators
 
 framed_same : (m n : Plain) → SameFrame m n → TrackersHome m → GeneratorsHome m → Framed m n
 framed_same m n s a b = record {
@@ -64,7 +64,7 @@ framed_same m n s a b = record {
     carried : (d t : ℕ) → IsTrackerIn m d t → IsTrackerIn n d t
     carried d t p = (p.0, ap (λ ts. slice_get ts t) s.trackers ∙ p.1, p.2)
 
-same_frame : (m : Plain) → SameFrame m m
+pub same_frame : (m : Plain) → SameFrame m m
 same_frame m = record { dylibs = refl; trackers = refl; generators = refl }
 
 claim_frame : (m : Plain) (i : InstId) (n : Plain) → SameFrame m n → SameFrame m (claimed_for i n)
@@ -74,7 +74,7 @@ claim_frame m i n s = split (slice_get n.rows i.0)
     split None = s
     split (Some r) = chosen (SameFrame m) (is_unsearched r.phase) (claimed r.unit.0 n) n (λ b. record { dylibs = s.dylibs; trackers = s.trackers; generators = s.generators }) (λ b. s)
 
-claims_frame : (m : Plain) (os : List (Option InstId)) (n : Plain) → SameFrame m n → SameFrame m (all_claimed os n)
+pub claims_frame : (m : Plain) (os : List (Option InstId)) (n : Plain) → SameFrame m n → SameFrame m (all_claimed os n)
 claims_frame m [] n s = s
 claims_frame m (None ∷ os) n s = claims_frame m os n s
 claims_frame m (Some i ∷ os) n s = claims_frame m os (claimed_for i n) (claim_frame m i n s)
@@ -166,7 +166,7 @@ framed m Nothing g a b = framed_same m m (same_frame m) a b
 framed m (MakeDylib name) g a b = made_framed m name.0 a b
 framed m (MakeTracker d) g a b = tracked_framed m d.0 g a b
 framed m (SetOrder d order) g a b = record { carried = λ e t p. p; trackers = λ t x e. subst (λ n. x.dylib < n) (sym (changed_length d.0 (ordered_dylib d.0 order) m.dylibs)) (a t x e); generators = b }
-framed m (Attach d t u) g a b = attached_framed m (record { dylib = d.0; tracker = t.0; meaning = u; spent = false }) g a b
+framed m (Attach d t u) g a b = attached_framed m (record { dylib = d.0; tracker = t.0; meaning = u; spent = false }) g.0 a b
 framed m (Define d t u found) g a b = record { carried = λ e v p. p; trackers = a; generators = b }
 framed m (Generate k found) g a b = generated_framed m k.0 found a b
 framed m (Spend k) g a b = record { carried = λ d t p. p; trackers = a; generators = spent_home m.trackers m.generators k.0 b }
@@ -298,7 +298,7 @@ homed_changed m s c h g k old = record { trackers = frame.trackers; generators =
 
 -- Settling
 
-settled_frame : (m : Plain) → SameFrame m (settled m)
+pub settled_frame : (m : Plain) → SameFrame m (settled m)
 settled_frame m = settling_keeps (SameFrame m) (λ v k q n s w b d. record { dylibs = s.dylibs; trackers = s.trackers; generators = s.generators }) 0 m.queries m (same_frame m)
 
 homed_settled : (m : Plain) → IsHomed m → IsHomed (settled m)

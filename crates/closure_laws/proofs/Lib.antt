@@ -19,4 +19,6 @@ pub mod RowSources
 pub mod Standing
 pub mod Staying
 pub mod Unrefused
+pub mod Unstirred
 pub mod Working
+pub mod Unspent

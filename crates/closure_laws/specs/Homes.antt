@@ -1,7 +1,7 @@
 -- Where the instances, units, generators and trackers of a session belong.
-use Rattle.std.specs.Prelude.{◌≡◌, ℕ, ◌<◌, List, length, slice_get, Some}
+use Rattle.std.specs.Prelude.{◌≡◌, ℕ, ◌<◌, true, false, List, length, slice_get, Some}
 use Rattle.session_model.specs.Meaning.{Meaning}
-use Rattle.session_model.specs.Plain.{Plain, UnitRow, GenRow}
+use Rattle.session_model.specs.Plain.{Plain, UnitRow, GenRow, is_tracker_of}
 use Rattle.session_model.specs.State.{state}
 use Rattle.session_model.specs.History.{IsLegal}
 use Rattle.session_model.specs.declared.entry.Entry.{Entry}
@@ -33,3 +33,11 @@ pub record HasHomes (m : Plain) : Type 0 where
 -- in every legal history
 abbrev pub RowsHaveHomes : Type 0
 RowsHaveHomes = (jmax : ℕ) (h : List (Entry Meaning)) → IsLegal jmax h → HasHomes (state h)
+
+-- The tracker of each unspent generator is there, and of its dylib.
+abbrev pub UnspentAreThere : Plain → Type 0
+UnspentAreThere m = (g : ℕ) (x : GenRow) → slice_get m.generators g ≡ Some x → x.spent ≡ false → is_tracker_of m x.dylib x.tracker ≡ true
+
+-- in every legal history
+abbrev pub UnspentHaveTrackers : Type 0
+UnspentHaveTrackers = (jmax : ℕ) (h : List (Entry Meaning)) → IsLegal jmax h → UnspentAreThere (state h)

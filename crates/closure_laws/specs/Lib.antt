@@ -9,3 +9,4 @@ pub mod Links
 pub mod Names
 pub mod Presence
 pub mod Queries
+pub mod Quiet

@@ -9,8 +9,8 @@
 //! has once it is done, and that it keeps it) and `Dependencies` (what an emitted instance depends
 //! on). Of tables: `Names` (a name has one present instance in each dylib at most), `Homes` (which
 //! dylib, unit and tracker each row is of), `Levels` (what came to a level stays at it or is lost,
-//! and what is lost stays so), `Queries` (a unit has one link query at most) and `Presence` (what
-//! was searched stays present until it is removed).
+//! and what is lost stays so), `Queries` (a unit has one link query at most), `Presence` (what was
+//! searched stays present until it is removed) and `Quiet` (which events settle no query).
 //!
 //! There is no code here, so nothing is tested, and no wrong body can be tried. The definitions are
 //! in `session_model`, and the laws that these are proved from in `session_laws`; read their
@@ -28,6 +28,7 @@ mod links;
 mod names;
 mod presence;
 mod queries;
+mod quiet;
 
 pub use aliases::aliases_stand;
 pub use bindings::{
@@ -36,10 +37,11 @@ pub use bindings::{
 };
 pub use bound::{done_is_bound, done_stays};
 pub use dependencies::dependencies_are_kept;
-pub use homes::rows_have_homes;
+pub use homes::{rows_have_homes, unspent_have_trackers};
 pub use instances::{instances_are_live, instances_are_offered, units_fit};
 pub use levels::{levels_stay, losses_stay};
 pub use links::{bound_by_name, links_are_lookups, unbound_is_weak};
 pub use names::names_are_once;
 pub use presence::searched_stay_present;
 pub use queries::{linked_unit_is_there, unit_is_linked_once, unlinked_has_no_query};
+pub use quiet::quiet_settles_none;
