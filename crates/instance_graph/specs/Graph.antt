@@ -32,6 +32,6 @@ TellsOn = (a b c : Graph) → length a.rows ≤ length b.rows → Tells a b → 
 abbrev pub NoneEmitted : ℕ → List InstRow → Type 0
 NoneEmitted u rows = (i : ℕ) (r : InstRow) → slice_get rows i ≡ Some r → is_owned u r ≡ true → is_emitted r.phase ≡ false
 
--- each instance of the unit is one of so many names
+-- each present instance of the unit is one of so many names
 abbrev pub OffersBelow : ℕ → ℕ → List InstRow → Type 0
-OffersBelow u n rows = (i : ℕ) (r : InstRow) → slice_get rows i ≡ Some r → r.unit.0 ≡ u → r.offer < n
+OffersBelow u n rows = (i : ℕ) (r : InstRow) → slice_get rows i ≡ Some r → is_owned u r ≡ true → r.offer < n

@@ -1,8 +1,8 @@
-ghost use Rattle.std.specs.Prelude.{◌≡◌, ◌<◌, ◌+◌, ◌≤◌, ◌++◌, [], ℕ, List, map, length, slice_get, Some, IfOk, OnOk, OnErr, option_and_then, if◌then◌else◌};
+ghost use Rattle.std.specs.Prelude.{◌≡◌, ◌<◌, ◌+◌, ◌≤◌, ◌++◌, [], ℕ, List, map, length, slice_get, Some, IfOk, OnOk, OnErr, true, option_and_then, if◌then◌else◌};
 ghost use Rattle.orc_ids.specs.declared.limits.TheConstants.{INSTANCE_LIMIT, UNIT_LIMIT};
 ghost use Rattle.orc_ids.specs.declared.groups.Group.{Group};
 ghost use Rattle.session_model.specs.Lists.{numbered};
-ghost use Rattle.session_model.specs.Plain.{is_unsearched, own_rows};
+ghost use Rattle.session_model.specs.Plain.{is_unsearched, is_owned, own_rows};
 ghost use Rattle.session_model.specs.Change.{claimed_row, emitted_row};
 ghost use Rattle.session_model.specs.declared.rows.InstRow.{InstRow};
 ghost use Rattle.instances.specs.Prepared.{IsPrepared};
@@ -120,7 +120,7 @@ impl Instances {
     /// Each of the unit's instances gets its address, with the unit at this base; takes no memory.
     pub fn resolve<U: UnitKind>(&mut self, u: UnitId, unit: &U, base: u64)
         requires there { u.0 < self.old.units }
-        requires offers { (i : ℕ) (r : InstRow) → slice_get self.old.rows i ≡ Some r → r.unit.0 ≡ u.0 → r.offer < length (U.meaning unit.now).offers }
+        requires offers { (i : ℕ) (r : InstRow) → slice_get self.old.rows i ≡ Some r → is_owned u.0 r ≡ true → r.offer < length (U.meaning unit.now).offers }
         ensures { self.new ≡ record self.old { rows = map (addressed_row u.0 (λ k. (U.meaning unit.now).address k base)) self.old.rows } }
     {
         let span = self.spans[u.0 as usize];

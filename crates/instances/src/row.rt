@@ -1,7 +1,7 @@
 //! What each change makes of one row.
 
-ghost use Rattle.std.specs.Prelude.{◌≡◌, ◌<◌, ◌&&◌, not, length, Option, false, if◌then◌else◌};
-ghost use Rattle.session_model.specs.Plain.{phase_address, is_unsearched};
+ghost use Rattle.std.specs.Prelude.{◌≡◌, ◌<◌, ◌&&◌, not, length, Option, true, false, if◌then◌else◌};
+ghost use Rattle.session_model.specs.Plain.{phase_address, is_owned, is_unsearched};
 ghost use Rattle.session_model.specs.Change.{claimed_row};
 ghost use Rattle.session_model.specs.declared.rows.Phase.TheVariants as phase;
 ghost use Rattle.instances.specs.Table.{removed_row};
@@ -38,7 +38,7 @@ pub fn claim_row(row: &mut InstRow, u: UnitId)
 }
 
 pub fn resolve_row<U: UnitKind>(row: &mut InstRow, u: UnitId, unit: &U, base: u64)
-    requires { row.old.offer < length (U.meaning unit.now).offers }
+    requires { is_owned u.0 row.old ≡ true → row.old.offer < length (U.meaning unit.now).offers }
     ensures { row.new ≡ addressed_row u.0 (λ k. (U.meaning unit.now).address k base) row.old }
 {
     if row.present && row.unit.0 == u.0 {

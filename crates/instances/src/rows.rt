@@ -1,6 +1,6 @@
 //! What each change makes of the rows: those of one unit, which stand in its span, or single ones.
 
-ghost use Rattle.std.specs.Prelude.{◌≡◌, ◌<◌, ◌+◌, ◌≤◌, ◌^◌, ◌∷◌, ◌++◌, [], ℕ, List, map, length, slice_get, Some, IfOk, OnOk, unwrap_or, vec_capacity, false, if◌then◌else◌};
+ghost use Rattle.std.specs.Prelude.{◌≡◌, ◌<◌, ◌+◌, ◌≤◌, ◌^◌, ◌∷◌, ◌++◌, [], ℕ, List, map, length, slice_get, Some, IfOk, OnOk, unwrap_or, vec_capacity, true, false, if◌then◌else◌};
 ghost use Rattle.orc_ids.specs.declared.groups.Group.{Group};
 ghost use Rattle.session_model.specs.Lists.{numbered};
 ghost use Rattle.session_model.specs.Plain.{is_owned, own_rows};
@@ -40,7 +40,7 @@ pub fn resolve_rows<U: UnitKind>(
     base: u64,
 )
     requires span { IsSpan rows.old.items u.0 span.first span.count }
-    requires offers { (i : ℕ) (r : InstRow) → slice_get rows.old.items i ≡ Some r → r.unit.0 ≡ u.0 → r.offer < length (U.meaning unit.now).offers }
+    requires offers { (i : ℕ) (r : InstRow) → slice_get rows.old.items i ≡ Some r → is_owned u.0 r ≡ true → r.offer < length (U.meaning unit.now).offers }
     ensures rows { rows.new.items ≡ map (addressed_row u.0 (λ k. (U.meaning unit.now).address k base)) rows.old.items }
     ensures capacity { vec_capacity rows.new ≡ vec_capacity rows.old }
 {

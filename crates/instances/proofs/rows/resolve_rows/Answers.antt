@@ -19,7 +19,7 @@ resolve_row-requires g c =
     let same = mapped_within f i c.args.rows.now.items in
     let there = sym (still_there f i c.args.rows.now.items c.loop-i.rows.items c.loop-i.invariant.rows)
     ∙ slice_get-get_or c.loop-i.rows.items i c.index_mut.result.now (omega (arith, c.loop-i-test.true, s.inside, ap length c.loop-i.invariant.rows, same)) ∙ ap Some (sym c.index_mut.ensures.value) in
-    c.requires.offers i c.index_mut.result.now there (s.its i c.index_mut.result.now there c.loop-i.auto.i c.loop-i-test.true)
+    λ own. c.requires.offers i c.index_mut.result.now there own
 
 pub loop-i-preserved : goal.loop-i-preserved
 loop-i-preserved g c =
