@@ -1,1 +1,4 @@
 pub mod Changes
+pub mod Trees
+pub mod Holding
+pub mod Joining

@@ -1,5 +1,7 @@
 -- What each tracker owns (ORC: `ResourceTracker`).
-use Rattle.std.specs.Prelude.{ℕ, Option, Some, None, ◌≤◌, ◌<◌, zero, suc, List, [], ◌∷◌, ◌++◌, length, set, slice_get, option_map, ◌==◌, if◌then◌else◌}
+use Rattle.std.specs.Prelude.{ℕ, Option, Some, None, ◌≤◌, ◌<◌, zero, suc, List, [], ◌∷◌, ◌++◌, length, set, slice_get, option_map, ◌==◌, Bool, false, if◌then◌else◌}
+use Rattle.std.specs.List.{list_any}
+use Rattle.std.specs.Option.{option_map_or}
 use Rattle.orc_ids.specs.declared.ids.DylibId.{DylibId}
 use Rattle.orc_ids.specs.declared.ids.GenId.{GenId}
 use Rattle.orc_ids.specs.declared.ids.TrackId.{TrackId}
@@ -27,6 +29,10 @@ within (Some o) = o
 -- what the tracker owns, if it is there
 abbrev pub owned_by : Owners → TrackId → Option Owned
 owned_by m t = within (slice_get m.tracks t.0)
+
+-- the tracker is there, and has the generator
+abbrev pub owns_generator : Owners → TrackId → GenId → Bool
+owns_generator m t g = option_map_or (λ o. list_any (λ (h : GenId). h.0 == g.0) o.generators) (owned_by m t) false
 
 -- what a tracker of a dylib owns at first
 abbrev pub empty : DylibId → Owned

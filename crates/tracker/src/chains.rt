@@ -1,4 +1,4 @@
-ghost use Rattle.std.specs.Prelude.{◌≡◌, ◌≢◌, true, false, ◌+◌, ◌<◌, ◌≤◌, ◌^◌, ◌++◌, ◌∷◌, [], None, length, set, slice_get, vec_len, IfSome, OnOk, OnErr};
+ghost use Rattle.std.specs.Prelude.{◌≡◌, ◌≢◌, true, false, ◌+◌, ◌<◌, ◌≤◌, ◌^◌, ◌++◌, ◌∷◌, [], None, Some, length, set, slice_get, vec_len, IsSome, IfSome, OnOk, OnErr};
 ghost use Rattle.tracker.specs.Owners.{within, change_at, and_all_of};
 ghost use Rattle.tracker.specs.Places.{HasOneMore, CanJoin};
 
@@ -85,7 +85,7 @@ fn join(owned: &mut Owned, more: &mut Owned)
 }
 
 /// Whether what the trackers of two places own can stand in one chain.
-fn can_merge(tracks: &[Option<Owned>], from: usize, to: usize) -> bool
+pub(crate) fn can_merge(tracks: &[Option<Owned>], from: usize, to: usize) -> bool
     ensures { result ≡ true → IfSome (within (slice_get tracks.now from)) (λ more. IfSome (within (slice_get tracks.now to)) (λ o. CanJoin more o)) }
 {
     match (tracks.get(from), tracks.get(to)) {
@@ -95,24 +95,25 @@ fn can_merge(tracks: &[Option<Owned>], from: usize, to: usize) -> bool
 }
 
 /// Makes all that one tracker owns belong to another one, in constant time; the one is gone then.
-pub(crate) fn merge_in(
-    tracks: &mut Vec<Option<Owned>>,
-    from: usize,
-    to: usize,
-) -> Result<(), AllocError>
+pub(crate) fn merge_in(tracks: &mut Vec<Option<Owned>>, from: usize, to: usize)
     requires from { from < vec_len tracks.old }
     requires to { to < vec_len tracks.old }
     requires apart { from ≢ to }
-    ensures ok { OnOk result (IfSome (within (slice_get tracks.old.items from)) (λ more. tracks.new.items ≡ change_at to (and_all_of more) (set tracks.old.items from None))) }
-    ensures err { OnErr result (tracks.new.items ≡ tracks.old.items) }
+    requires room { IfSome (within (slice_get tracks.old.items from)) (λ more. IfSome (within (slice_get tracks.old.items to)) (λ o. CanJoin more o)) }
+    ensures { IfSome (within (slice_get tracks.old.items from)) (λ more. tracks.new.items ≡ change_at to (and_all_of more) (set tracks.old.items from None)) }
 {
-    if !can_merge(tracks.as_slice(), from, to) {
-        return Err(AllocError);
-    }
     if let Some(mut more) = tracks[from].take() {
         join_at(tracks, to, &mut more);
     }
-    Ok(())
+}
+
+/// Takes away the tracker of a place, and gives what it owned; takes no memory.
+pub(crate) fn take_at(tracks: &mut Vec<Option<Owned>>, at: usize) -> Owned
+    requires { IsSome (within (slice_get tracks.old.items at)) }
+    ensures owned { within (slice_get tracks.old.items at) ≡ Some result }
+    ensures tracks { tracks.new.items ≡ set tracks.old.items at None }
+{
+    tracks[at].take().unwrap()
 }
 
 /// Puts all that a tracker owned behind what the one of a place has.

@@ -10,6 +10,7 @@
 #![tactic(auto)]
 
 mod chains;
+mod holders;
 mod owned;
 #[cfg(test)]
 mod tests;

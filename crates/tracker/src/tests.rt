@@ -41,6 +41,8 @@ fn all_that_one_owns_goes_behind_what_the_other_has(rt: HostRuntime) {
     trackers.merge(TrackId(1), TrackId(1)).expect(&rt, "memory");
     trackers.merge(TrackId(0), TrackId(1)).expect(&rt, "memory");
     assert!(rt; trackers.dylib(TrackId(0)).is_none());
+    assert_eq!(rt; trackers.owner(GenId(0)), Some(TrackId(1)));
+    assert!(rt; trackers.owner(GenId(1)).is_none());
     let mut owned = trackers.take(TrackId(1));
     assert_eq!(rt; owned.units.pop_front(), Some(UnitId(1)));
     assert_eq!(rt; owned.units.pop_front(), Some(UnitId(0)));

@@ -1,8 +1,9 @@
-ghost use Rattle.std.specs.Prelude.{◌≡◌, ◌<◌, length, option_map, Some, IsSome, IfOk, OnOk, IfErr, OnErr, IfSome};
+ghost use Rattle.std.specs.Prelude.{◌≡◌, ◌<◌, length, option_map, Some, true, IsSome, IfOk, OnOk, IfErr, OnErr, IfSome};
 ghost use Rattle.orc_ids.specs.declared.limits.TheConstants.{TRACKER_LIMIT};
-ghost use Rattle.tracker.specs.Owners.{nobody, owned_by, with_tracker, with_room, with_unit, with_generator, merged, without, IsRefused};
+ghost use Rattle.tracker.specs.Owners.{nobody, owned_by, with_tracker, with_room, with_unit, with_generator, merged, without, owns_generator, IsRefused};
 
-use crate::chains::{add_at, add_generator_at, has_place, merge_in};
+use crate::chains::{add_at, add_generator_at, can_merge, has_place, merge_in, take_at};
+use crate::holders::Holders;
 use crate::owned::Owned;
 use orc_ids::{DylibId, GenId, TRACKER_LIMIT, TrackId, UnitId};
 use std::alloc::{AllocError, Global};
@@ -26,6 +27,7 @@ pub struct Trackers {
     tracks: Vec<Option<Owned>>,
     spare: LinkedList<UnitId>,
     room: Option<TrackId>,
+    holders: Holders,
 }
 
 impl Model for Trackers {
@@ -34,10 +36,11 @@ impl Model for Trackers {
     ghost Value = { Owners };
 
     ghost use Rattle.tracker.specs.Places.{HasPlace};
+    ghost use Rattle.tracker.specs.Holders.{AreHeld};
 
     ghost view = { λ t. record { tracks = t.tracks.items; room = t.room } };
 
-    ghost invariant = { λ t. HasPlace t.tracks.items t.spare t.room };
+    ghost invariant = { λ t. HasPlace t.tracks.items t.spare t.room × AreHeld t.tracks.items t.holders.nodes.items t.holders.roots.items t.holders.homes.items };
 }
 
 impl Trackers {
@@ -50,7 +53,15 @@ impl Trackers {
             tracks: Vec::new(alloc),
             spare: LinkedList::new(alloc),
             room: None,
+            holders: Holders::new(alloc),
         }
+    }
+
+    /// How many trackers were made.
+    pub fn len(&self) -> usize
+        ensures { result ≡ length self.now.tracks }
+    {
+        self.tracks.len()
     }
 
     /// Makes the next tracker, which owns nothing yet.
@@ -65,7 +76,7 @@ impl Trackers {
         if number >= TRACKER_LIMIT {
             return Err(TrackError::TooMany);
         }
-        if self.tracks.reserve(1).is_err() {
+        if self.tracks.reserve(1).is_err() || self.holders.make(number as u32).is_err() {
             return Err(TrackError::NoMemory);
         }
         self.room = None;
@@ -96,6 +107,14 @@ impl Trackers {
             Some(Some(owned)) => Some(owned),
             _ => None,
         }
+    }
+
+    /// The tracker that has the generator now, in constant time, whatever moves there were.
+    pub fn owner(&self, g: GenId) -> Option<TrackId>
+        ensures { (t : TrackId) → owns_generator self.now t g ≡ true → result ≡ Some t }
+    {
+        let t = self.holders.find(g.0)?;
+        Some(TrackId(t))
     }
 
     /// Makes the room in the tracker for one more unit, which lasts until the next change.
@@ -130,7 +149,9 @@ impl Trackers {
         ensures ok { OnOk result (self.new ≡ with_generator self.old t g) }
         ensures err { OnErr result (self.new ≡ self.old) }
     {
+        let root = self.holders.room(g.0, t.0)?;
         add_generator_at(&mut self.tracks, t.0 as usize, g)?;
+        self.holders.settle(g.0, root);
         self.room = None;
         Ok(())
     }
@@ -145,7 +166,11 @@ impl Trackers {
         if from.0 == to.0 {
             return Ok(());
         }
-        merge_in(&mut self.tracks, from.0 as usize, to.0 as usize)?;
+        if !can_merge(self.tracks.as_slice(), from.0 as usize, to.0 as usize) {
+            return Err(AllocError);
+        }
+        self.holders.join(from.0, to.0)?;
+        merge_in(&mut self.tracks, from.0 as usize, to.0 as usize);
         self.room = None;
         Ok(())
     }
@@ -157,6 +182,6 @@ impl Trackers {
         ensures gone { self.new ≡ without self.old t }
     {
         self.room = None;
-        self.tracks[t.0 as usize].take().unwrap()
+        take_at(&mut self.tracks, t.0 as usize)
     }
 }
