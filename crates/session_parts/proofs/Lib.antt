@@ -8,8 +8,8 @@ pub mod Ties
 pub mod Memories
 pub mod TrackerChanges
 pub mod OwnerChanges
-pub mod Removing
-pub mod Defining
+pub mod Removed
+pub mod NewUnits
 pub mod Others
 pub mod Whole
 pub mod BookEnds
@@ -17,4 +17,13 @@ pub mod Steps
 pub mod Claims
 pub mod Links
 pub mod Moves
+pub mod Unemitted
 pub mod Resolved
+pub mod Names
+pub mod Retiring
+pub mod Removal
+pub mod Asking
+pub mod LostNames
+pub mod Exchanges
+pub mod Entered
+pub mod Beginning

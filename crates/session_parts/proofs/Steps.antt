@@ -76,7 +76,7 @@ ranged_parts means t y e = let q = and_parts (is_some y.base) (not (is_some (mea
     negated true h = absurd (both_ways false refl h)
     negated false h = refl
 
-bare_parts : {U : Type 0} (means : U → Meaning) (t : ℕ) (y : OneUnit U) → is_ranged means y ≡ false → HasNoRange (unit_row means t y)
+pub bare_parts : {U : Type 0} (means : U → Meaning) (t : ℕ) (y : OneUnit U) → is_ranged means y ≡ false → HasNoRange (unit_row means t y)
 bare_parts means t y e = split y.base (is_some (means y.unit).source) refl refl e
   where
     split : (o : Option ℕ) (b : Bool) → y.base ≡ o → is_some (means y.unit).source ≡ b → (is_some o && not b) ≡ false → HasNoRange (unit_row means t y)

@@ -35,10 +35,10 @@ use Rattle.session_parts.specs.Stored.{IsStored, is_placed}
 use Rattle.session_parts.specs.Defined.{AreLost}
 use Rattle.session_parts.specs.Removed.{AreRemoved, AreFreed, AreSpent}
 use Rattle.session_parts.specs.Tied.{Kept, IsTied, AreDylibs}
-use Rattle.session_parts.proofs.Defining.{units_lost, units_pushed, stored_lost, stored_pushed}
+use Rattle.session_parts.proofs.NewUnits.{units_lost, units_pushed, stored_lost, stored_pushed}
 use Rattle.session_parts.proofs.Memories.{no_range}
 use Rattle.session_parts.proofs.OwnerChanges.{owners_with_unit}
-use Rattle.session_parts.proofs.Removing.{units_removed, generators_removed, memory_removed, owners_removed}
+use Rattle.session_parts.proofs.Removed.{units_removed, generators_removed, memory_removed, owners_removed}
 use Rattle.session_parts.proofs.RowChanges.{IsSeenSame, dylibs_mapped}
 use Rattle.session_parts.proofs.Storing.{changed_one, rephased}
 use Rattle.session_parts.proofs.Ties.{unit_ties, as_kept, phase_of_kept, ready_after}

@@ -5,4 +5,7 @@ pub mod Stored
 pub mod Tied
 pub mod Removed
 pub mod Defined
+pub mod Addressed
 pub mod Parts
+pub mod Replies
+pub mod Lodged

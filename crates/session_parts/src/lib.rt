@@ -6,18 +6,23 @@
 //! invariant; `specs/Tied` says what ties them to the plain session of the definitions. The contract of
 //! each change is that the parts were those of a session, and are now those of the session so changed
 //! (`AreParts`). `settle` is what follows an entry: the session has settled, and the ends of its queries
-//! are noted. `Units`, `Stored` and `Tied` state the ties, `Ends` and `Dues` what settling does.
+//! are noted. `Units`, `Stored` and `Tied` state the ties, `Ends` and `Dues` what settling does, `Defined` how a
+//! unit is entered.
 //!
-//! Of the changes some aren't calls yet; that they keep the tie is proved in `proofs/` (`Whole`, `Others`)
-//! for the calls to come. Read `session_model` for the definitions.
+//! Read `session_model` for the definitions, and `session_replies` and `session_lookups` next, which only look.
 #![tactic(auto)]
 
 mod claiming;
+mod defining;
+mod lodging;
 mod making;
 mod memory;
 mod parts;
 mod phases;
+mod removing;
 mod resolving;
 mod settling;
 
+pub use defining::{NewUnit, Undefined};
+pub use lodging::note_of;
 pub use parts::Parts;

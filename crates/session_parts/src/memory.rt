@@ -7,14 +7,14 @@ ghost use Rattle.session_model.specs.Plain.{Plain, UnitRow, unit_shape, own_rows
 ghost use Rattle.session_model.specs.Change.{placed, emitted, failed};
 ghost use Rattle.session_model.specs.Memory.{unit_image};
 ghost use Rattle.session_model.specs.declared.rows.UnitPhase.TheVariants as stage;
-ghost use Rattle.code_memory.specs.Places.{IsLowestFree, IsRefused, placement_of, with_bytes, without};
+ghost use Rattle.code_memory.specs.Places.{AreLaidOut, IsLowestFree, IsRefused, placement_of, with_bytes, with_range, without};
 ghost use Rattle.mat_unit.specs.declared.unit.Unit.{Unit as OneUnit};
 ghost use Rattle.instance_graph.specs.Graph.{Tells, NoneEmitted};
 ghost use Rattle.session_parts.specs.Parts.{AreParts, is_ranged, IsDoneTo};
 
 use crate::parts::Parts;
-use code_memory::SpaceError;
-use mat_unit::Unit;
+use code_memory::{Space, SpaceError};
+use mat_unit::{Unit, Units};
 use orc_ids::{Bytes, Group, Shape, UnitId};
 use orc_io::Notify;
 use session_model::UnitKind;
@@ -25,6 +25,18 @@ fn is_ranged<U: UnitKind>(unit: &Unit<U>) -> bool
     ensures { result ≡ is_ranged U.meaning unit.now }
 {
     unit.base.is_some() && unit.unit.source().is_none()
+}
+
+/// The unit's range, if it has one, is free.
+pub(crate) fn free<U: UnitKind>(units: &Units<U>, space: &mut Space, u: UnitId)
+    requires placed { (x : OneUnit U) → slice_get units.now.units u.0 ≡ Some x → is_ranged U.meaning x ≡ true → IsSome (placement_of space.old u) }
+    ensures { IsDoneTo U.meaning units.now.units u space.old (without space.old u) space.new }
+{
+    if let Some(unit) = units.get(u) {
+        if is_ranged(unit) {
+            space.free(u);
+        }
+    }
 }
 
 impl<U: UnitKind, N: Notify + Send> Parts<U, N> {
@@ -38,6 +50,8 @@ impl<U: UnitKind, N: Notify + Send> Parts<U, N> {
         ensures ok { IfOk result (λ base. AreParts U.meaning self.new (placed u.0 base m)) }
         ensures lowest { IfOk result (λ base. IsLowestFree self.old.space shape base) }
         ensures refused { IfErr result (λ e. IsRefused self.old.space shape e) }
+        ensures space { IfOk result (λ base. self.new.space ≡ with_range self.old.space u shape base) }
+        ensures laid_out { AreLaidOut self.new.space }
         ensures err { OnErr result (self.new ≡ self.old) }
         ensures rest { self.new ≡ record self.old { units = self.new.units; space = self.new.space } }
     {
@@ -55,19 +69,6 @@ impl<U: UnitKind, N: Notify + Send> Parts<U, N> {
         if let Some(unit) = self.units.get(u) {
             if is_ranged(unit) {
                 self.space.deposit(u, bytes);
-            }
-        }
-    }
-
-    /// The unit's range, if it has one, is free.
-    fn free(&mut self, u: UnitId)
-        requires placed { (x : OneUnit U) → slice_get self.old.units.units u.0 ≡ Some x → is_ranged U.meaning x ≡ true → IsSome (placement_of self.old.space u) }
-        ensures rest { self.new ≡ record self.old { space = self.new.space } }
-        ensures done { IsDoneTo U.meaning self.old.units.units u self.old.space (without self.old.space u) self.new.space }
-    {
-        if let Some(unit) = self.units.get(u) {
-            if is_ranged(unit) {
-                self.space.free(u);
             }
         }
     }
@@ -101,7 +102,7 @@ impl<U: UnitKind, N: Notify + Send> Parts<U, N> {
         ensures rest { self.new ≡ record self.old { graph = self.new.graph; units = self.new.units; space = self.new.space } }
     {
         self.graph.fail(u);
-        self.free(u);
+        free(&self.units, &mut self.space, u);
         self.units.fail(u);
     }
 }

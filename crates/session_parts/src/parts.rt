@@ -1,3 +1,9 @@
+ghost use Rattle.std.specs.Prelude.{◌≡◌, [], None};
+ghost use Rattle.session_model.specs.Plain.{empty};
+ghost use Rattle.query_book.specs.Ledger.{nobody};
+ghost use Rattle.query_book.specs.Rows.{first_armed};
+ghost use Rattle.session_parts.specs.Parts.{AreParts};
+
 use code_memory::Space;
 use generators::Generators;
 use instance_graph::InstanceGraph;
@@ -19,4 +25,41 @@ pub struct Parts<U: UnitKind, N: Notify + Send> {
     pub trackers: Trackers,
     pub space: Space,
     pub book: Book<N>,
+}
+
+impl<U: UnitKind, N: Notify + Send> Parts<U, N> {
+    /// The parts of a session before its first entry; takes no memory.
+    pub fn new(alloc: Global) -> Parts<U, N>
+        ensures parts { AreParts U.meaning result empty }
+        ensures book { result.book ≡ nobody }
+        ensures changed { result.graph.changed ≡ [] }
+    {
+        Parts {
+            alloc,
+            dylibs: Dylibs::new(alloc),
+            graph: InstanceGraph::new(alloc),
+            units: Units::new(alloc),
+            generators: Generators::new(alloc),
+            trackers: Trackers::new(alloc),
+            space: Space::new(alloc),
+            book: Book::new(alloc),
+        }
+    }
+
+    /// Gives up the parts.
+    pub fn end(self)
+        requires { first_armed self.book.armed ≡ None }
+    {
+        let Parts {
+            alloc: _alloc,
+            dylibs: _dylibs,
+            graph: _graph,
+            units: _units,
+            generators: _generators,
+            trackers: _trackers,
+            space: _space,
+            book,
+        } = self;
+        book.end();
+    }
 }

@@ -5,6 +5,7 @@ ghost use Rattle.session_model.specs.Plain.{Plain, UnitRow};
 ghost use Rattle.session_model.specs.Query.{stand_at};
 ghost use Rattle.session_model.specs.Change.{finish_listed, settled};
 ghost use Rattle.session_model.specs.declared.rows.UnitPhase.TheVariants as stage;
+ghost use Rattle.query_book.specs.Ledger as book;
 ghost use Rattle.query_book.specs.Ledger.{fires_of, IsSeen, IsTold};
 ghost use Rattle.session_parts.specs.Dues.{linked_due, all_linked, WaitsOpen, WaitsOwn};
 ghost use Rattle.session_parts.specs.Ends.{noted};
@@ -69,6 +70,7 @@ impl<U: UnitKind, N: Notify + Send> Parts<U, N> {
         ensures handed_out { self.new.book.due ≡ [] }
         ensures seen { IsSeen (stand_at m.rows) self.new.book }
         ensures fires { result ≡ fires_of at (stand_at m.rows) self.old.book }
+        ensures armed { self.new.book.armed ≡ (book.settled at (stand_at m.rows) self.old.book).armed }
         ensures told { self.new.graph.changed ≡ [] }
     {
         let fires = self.book.settle(at, self.graph.changed(), &self.graph);
