@@ -1,0 +1,5 @@
+pub mod Sights
+pub mod Comparing
+pub mod Replying
+pub mod Walking
+pub mod Externals
