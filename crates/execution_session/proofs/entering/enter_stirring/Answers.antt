@@ -1,0 +1,28 @@
+use Rattle.std.proofs.Common.{sym, subst, refl, rules}
+use Rattle.std.specs.Vec.{vec_capacity}
+use Rattle.session_model.specs.State.{plain_event, plain_history}
+use Rattle.execution_session.specs.Performs.{state_of}
+use Rattle.execution_session.specs.Moved.{CanEnter}
+use Rattle.execution_session.proofs.Listless.{listless}
+use Rattle.execution_session.proofs.entering.enter_stirring.Goals as goal
+
+pub enter-told-requires-send-N : goal.enter-told-requires-send-N
+enter-told-requires-send-N g c κs within = (
+  within.0,
+  (
+    within.1,
+    (
+      (search rules),
+      (
+        c.type_bounds.send-N,
+        (
+          refl,
+          subst (λ r. CanEnter g.U.UnitKind.meaning g.row.JMAX c.args.live.now.journal.items (vec_capacity c.args.live.now.journal) (record { seat = c.args.seat; event = c.args.event; reply = r }) c.args.live.now.parts) (sym c.copy_reply.ensures) c.requires.can,
+        ),
+      ),
+    ),
+  ),
+)
+
+pub copy_reply-requires : goal.copy_reply-requires
+copy_reply-requires g c = listless g.row.JMAX (plain_history g.U.UnitKind.meaning c.args.live.now.journal.items) (state_of g.U.UnitKind.meaning c.args.live.now.journal.items) c.args.seat.0 (plain_event g.U.UnitKind.meaning c.args.event) c.args.reply c.requires.plain c.requires.can.answered

@@ -1,0 +1,9 @@
+-- The event finds the session that the journal led to.
+use Rattle.execution_session.specs.Performs.{state_of}
+use Rattle.execution_session.proofs.session.Session.ask_telling.Given as goal
+
+abbrev pub ghost-check_places : goal.ghost-check_places
+ghost-check_places g a = state_of g.U.UnitKind.meaning a.live.now.journal.items
+
+abbrev pub ghost-look_up : goal.ghost-look_up
+ghost-look_up g a = state_of g.U.UnitKind.meaning a.self.now.journal.items

@@ -1,0 +1,12 @@
+-- The event finds the session that the journal led to.
+use Rattle.execution_session.specs.Performs.{state_of}
+use Rattle.execution_session.proofs.session.Session.fail.Given as goal
+
+abbrev pub ghost-check_places : goal.ghost-check_places
+ghost-check_places g a = state_of g.U.UnitKind.meaning a.live.now.journal.items
+
+abbrev pub ghost-fail_unit : goal.ghost-fail_unit
+ghost-fail_unit g a = state_of g.U.UnitKind.meaning a.self.now.journal.items
+
+abbrev pub ghost-places_to_fail : goal.ghost-places_to_fail
+ghost-places_to_fail g a = state_of g.U.UnitKind.meaning a.self.now.journal.items

@@ -1,0 +1,51 @@
+//! Trackers that are removed.
+
+ghost use Rattle.std.specs.Prelude.{◌≡◌, ℕ, Err};
+ghost use Rattle.orc_ids.specs.declared.lookup.Stop.TheVariants.{NoMemory};
+ghost use Rattle.session_model.specs.Plain.{Plain};
+ghost use Rattle.session_model.specs.declared.entry.Event.TheVariants as event;
+ghost use Rattle.execution_session.specs.Fires.{FiresBy};
+ghost use Rattle.execution_session.specs.Performs.{Performs};
+ghost use Rattle.execution_session.specs.Stands.{Stands};
+ghost use Rattle.execution_session.specs.Steps.{IsTellingStep};
+
+use crate::answering::{enter_telling, stopped};
+use crate::live::Live;
+use crate::places::check_places;
+use crate::session::{Session, Told};
+use orc_ids::{SeatNo, TrackId};
+use orc_io::Notify;
+use session_model::{Event, Reply, UnitKind};
+use session_replies::refuse_remove;
+
+impl<U: UnitKind, N: Notify + Send> Live<U, N> {
+    /// All that the tracker has goes, or it is gone already. Takes no memory.
+    fn remove_tracker(&mut self, t: TrackId) -> Reply
+        ghost m: { Plain }
+        requires stands { Stands U.meaning m self.old.parts }
+        ensures step { (s : ℕ) → IsTellingStep U.meaning m s (event.Remove t) result self.old.parts self.new.parts }
+        ensures rest { self.new ≡ record self.old { parts = self.new.parts } }
+    {
+        if let Some(refusal) = refuse_remove(&self.parts, t) {
+            return refusal;
+        }
+        self.parts.remove(t);
+        Reply::Removed
+    }
+}
+
+impl<U: UnitKind, N: Notify + Send, const JMAX: usize> Session<U, N, JMAX> {
+    /// Removes all that the tracker has: its units with their names, jobs and ranges, and its generators
+    /// (ORC: `ResourceTracker::remove`). Takes no memory.
+    pub fn remove(&mut self, s: SeatNo, t: TrackId) -> Told<N>
+        ensures performs { Performs U.meaning JMAX self.old.journal self.new.journal s (event.Remove t) result.answer }
+        ensures fires { FiresBy U.meaning result.answer self.old self.new result.fires }
+        ensures memory { result.answer ≡ Err NoMemory → ⊥ }
+    {
+        if let Err(stop) = check_places::<U, N, JMAX>(&self.live, 1) {
+            return stopped(stop);
+        }
+        let reply = self.live.remove_tracker(t);
+        enter_telling::<U, N, JMAX>(&mut self.live, s, Event::Remove(t), reply)
+    }
+}

@@ -1,0 +1,69 @@
+ghost use Rattle.std.specs.Prelude.{◌≡◌, ◌≤◌, [], length, true, false, IfOk, OnOk, IfErr};
+ghost use Rattle.orc_ids.specs.declared.limits.TheConstants.{ENTRY_LIMIT};
+ghost use Rattle.orc_ids.specs.declared.lookup.Stop.TheVariants as stop;
+ghost use Rattle.session_model.specs.State.{plain_history};
+ghost use Rattle.session_model.specs.History.{IsLegal, HasPlaces};
+ghost use Rattle.execution_session.specs.Performs.{lacks_places};
+
+use crate::live::Live;
+use crate::places::check_places;
+use notifiers::{Armed, Fires};
+use orc_ids::{ENTRY_LIMIT, Stop};
+use orc_io::Notify;
+use session_model::{Entry, Reply, UnitKind};
+use session_parts::Parts;
+use std::alloc::{AllocError, Global};
+use std::marker::Model;
+
+/// The most entries that a journal can have.
+pub const JOURNAL_LIMIT: usize = ENTRY_LIMIT;
+
+/// A session, with a journal of at most `JMAX` entries; it must be ended, for its notifiers. Contracts see
+/// the journal, and which query has a notifier.
+pub struct Session<U: UnitKind, N: Notify + Send, const JMAX: usize> {
+    pub(crate) live: Live<U, N>,
+}
+
+impl<U: UnitKind, N: Notify + Send, const JMAX: usize> Model for Session<U, N, JMAX> {
+    ghost use Rattle.execution_session.specs.Log.{Log};
+
+    ghost Value = { Log U N };
+
+    ghost use Rattle.execution_session.specs.Log.{log_of};
+    ghost use Rattle.execution_session.specs.Rest.{Rests};
+
+    ghost view = { λ s. log_of s.live };
+
+    ghost invariant = { λ s. Rests U.meaning JMAX s.live };
+}
+
+/// The answer of an event, and the notifiers that are to be told.
+pub struct Told<N: Notify + Send> {
+    pub answer: Result<Reply, Stop>,
+    pub fires: Fires<N>,
+}
+
+/// The answer of an event that was handed a unit, and the unit where the session didn't take it.
+#[derive(Drop)]
+pub struct Offered<U> {
+    pub answer: Result<Reply, Stop>,
+    pub back: Option<U>,
+}
+
+/// The answer of a lookup, its notifier where no query was lodged, and the notifiers that are to be told.
+pub struct Asked<N: Notify + Send> {
+    pub answer: Result<Reply, Stop>,
+    pub back: Option<Armed<N>>,
+    pub fires: Fires<N>,
+}
+
+impl<U: UnitKind, N: Notify + Send, const JMAX: usize> Session<U, N, JMAX> {
+    /// The entries so far.
+    pub fn journal(&self) -> &[Entry<U>]
+        ensures entries { result.now ≡ self.now.journal }
+        ensures legal { IsLegal JMAX (plain_history U.meaning self.now.journal) }
+        ensures places { HasPlaces JMAX (plain_history U.meaning self.now.journal) }
+    {
+        self.live.journal.as_slice()
+    }
+}
