@@ -1,5 +1,6 @@
-ghost use Rattle.std.specs.Prelude.{◌≡◌, ◌+◌, ◌≤◌, length, OnOk, false};
+ghost use Rattle.std.specs.Prelude.{◌≡◌, ◌+◌, ◌≤◌, length, OnOk, false, All};
 ghost use Rattle.rv_insn.specs.Range.{InRange};
+ghost use Rattle.asm_state.specs.declared.section.Code.{Code as CodeSeen};
 ghost use Rattle.asm_state.specs.Sections as want;
 
 use asm_lines::SectionKind;
@@ -105,13 +106,16 @@ impl Making {
     }
 
     pub fn bytes(&self) -> &[u8]
-        ensures { result.now ≡ self.now.bytes }
+        ensures exact { result.now ≡ self.now.bytes }
+        ensures sized { want.is_bss self.now.kind ≡ false → self.now.size ≡ length result.now }
     {
         self.bytes.as_slice()
     }
 
     pub fn code(&self) -> &[Code]
-        ensures { result.now ≡ self.now.code }
+        ensures exact { result.now ≡ self.now.code }
+        ensures in_range { All (λ (c : CodeSeen). InRange c.insn) result.now }
+        ensures placed { want.StandIn 0 result.now (length self.now.bytes) }
     {
         self.code.as_slice()
     }

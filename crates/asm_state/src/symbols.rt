@@ -1,4 +1,4 @@
-ghost use Rattle.std.specs.Prelude.{◌≡◌, ◌<◌, ◌∷◌, ◌++◌, [], length, true, false, slice_get, slice_index_or, slice_set, Some, OnOk, OnErr, IfOk};
+ghost use Rattle.std.specs.Prelude.{◌≡◌, ◌<◌, ◌^◌, ◌∷◌, ◌++◌, [], length, true, false, slice_get, slice_index_or, slice_set, Some, OnOk, OnErr, IfOk, All};
 ghost use Rattle.asm_state.specs.Names.{has, number_of};
 ghost use Rattle.asm_state.specs.Symbols as want;
 
@@ -40,6 +40,7 @@ impl<'a> SymbolBook<'a> {
     pub fn len(&self) -> usize
         ensures names { result ≡ length self.now.names }
         ensures marks { result ≡ length self.now.marks }
+        ensures few { result < 2 ^ 32 }
     {
         self.names.len()
     }
@@ -62,7 +63,8 @@ impl<'a> SymbolBook<'a> {
 
     /// The numbers of the labels, in order of definition.
     pub fn labels(&self) -> &[u32]
-        ensures { result.now ≡ self.now.labels }
+        ensures exact { result.now ≡ self.now.labels }
+        ensures inside { All (λ n. n < length self.now.names) result.now }
     {
         self.labels.as_slice()
     }

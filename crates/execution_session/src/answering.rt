@@ -17,7 +17,7 @@ use orc_io::Notify;
 use session_model::{Event, Reply, UnitKind};
 
 /// The event was stopped, and tells nobody.
-pub(crate) fn stopped<N: Notify + Send>(stop: Stop) -> Told<N>
+pub(crate) fn stopped<N: Notify>(stop: Stop) -> Told<N>
     ensures answer { result.answer ≡ Err stop }
     ensures fires { result.fires ≡ [] }
 {
@@ -29,7 +29,7 @@ pub(crate) fn stopped<N: Notify + Send>(stop: Stop) -> Told<N>
 
 /// The entry of an event that lodges no query: the notifiers of the queries that it settles are handed
 /// out. Takes no memory.
-pub(crate) fn enter_telling<U: UnitKind, N: Notify + Send, const JMAX: usize>(
+pub(crate) fn enter_telling<U: UnitKind, N: Notify, const JMAX: usize>(
     live: &mut Live<U, N>,
     seat: SeatNo,
     event: Event<U>,

@@ -21,7 +21,7 @@ use orc_io::Notify;
 use session_model::{Event, Reply, UnitKind};
 use session_replies::refuse_attach;
 
-impl<U: UnitKind, N: Notify + Send> Live<U, N> {
+impl<U: UnitKind, N: Notify> Live<U, N> {
     /// Makes a generator of the unit, or refuses it and hands the unit back.
     fn attach(&mut self, d: DylibId, t: TrackId, unit: U) -> Offered<U>
         ghost m: { Plain }
@@ -55,7 +55,7 @@ impl<U: UnitKind, N: Notify + Send> Live<U, N> {
 }
 
 /// Makes a generator of the unit and enters it with this share, or hands the unit back.
-fn enter_attached<U: UnitKind, N: Notify + Send, const JMAX: usize>(
+fn enter_attached<U: UnitKind, N: Notify, const JMAX: usize>(
     live: &mut Live<U, N>,
     s: SeatNo,
     d: DylibId,
@@ -80,7 +80,7 @@ fn enter_attached<U: UnitKind, N: Notify + Send, const JMAX: usize>(
     Offered { answer, back }
 }
 
-impl<U: UnitKind, N: Notify + Send, const JMAX: usize> Session<U, N, JMAX> {
+impl<U: UnitKind, N: Notify, const JMAX: usize> Session<U, N, JMAX> {
     /// Attaches the unit to the dylib as a generator (ORC: `JITDylib::addGenerator`). Where no
     /// generator is made of it the unit is handed back.
     pub fn attach(&mut self, s: SeatNo, d: DylibId, t: TrackId, unit: U) -> Offered<U>

@@ -29,7 +29,7 @@ fn end_reply(q: QueryId, collected: Collected) -> Reply
 }
 
 /// The reply of a collect. Only that of a query that has ended takes memory.
-fn collect_end<N: Notify + Send>(book: &Book<N>, q: QueryId) -> Result<Reply, AllocError>
+fn collect_end<N: Notify>(book: &Book<N>, q: QueryId) -> Result<Reply, AllocError>
     ensures end { IfOk result (λ r. r ≡ end_reply q (collected_of (slice_get book.now.ends q.0))) }
     ensures ended { OnErr result (slice_get book.now.ends q.0 ≢ Some None) }
 {
@@ -44,7 +44,7 @@ fn is_open(reply: &Reply) -> bool
 }
 
 /// A collect of a query that has ended, or isn't there, is entered with this reply.
-fn enter_end<U: UnitKind, N: Notify + Send, const JMAX: usize>(
+fn enter_end<U: UnitKind, N: Notify, const JMAX: usize>(
     live: &mut Live<U, N>,
     s: SeatNo,
     q: QueryId,
@@ -72,7 +72,7 @@ fn enter_end<U: UnitKind, N: Notify + Send, const JMAX: usize>(
     Ok(reply)
 }
 
-impl<U: UnitKind, N: Notify + Send, const JMAX: usize> Session<U, N, JMAX> {
+impl<U: UnitKind, N: Notify, const JMAX: usize> Session<U, N, JMAX> {
     /// The end of a query, where it has settled. One that is open takes no entry, and no memory (ORC: the
     /// result of an `AsynchronousSymbolQuery`).
     pub fn collect(&mut self, s: SeatNo, q: QueryId) -> Result<Reply, Stop>

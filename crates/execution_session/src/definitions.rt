@@ -53,7 +53,7 @@ fn answer_undefined<U>(undefined: Undefined<U>) -> Offered<U>
     }
 }
 
-impl<U: UnitKind, N: Notify + Send> Live<U, N> {
+impl<U: UnitKind, N: Notify> Live<U, N> {
     /// Defines the unit, or hands it back with why it isn't defined.
     fn define(&mut self, d: DylibId, t: TrackId, unit: U) -> Offered<U>
         ghost m: { Plain }
@@ -83,7 +83,7 @@ impl<U: UnitKind, N: Notify + Send> Live<U, N> {
     }
 }
 
-impl<U: UnitKind, N: Notify + Send> Live<U, N> {
+impl<U: UnitKind, N: Notify> Live<U, N> {
     /// The generator is spent where its unit has a name that clashes.
     fn spend_clashing(&mut self, g: GenId, why: DefineError) -> Result<Reply, AllocError>
         ghost m: { Plain }
@@ -125,7 +125,7 @@ impl<U: UnitKind, N: Notify + Send> Live<U, N> {
     }
 }
 
-impl<U: UnitKind, N: Notify + Send> Live<U, N> {
+impl<U: UnitKind, N: Notify> Live<U, N> {
     /// A share of the unit of a generator that isn't spent, with its dylib and its tracker.
     fn generated(&self, g: GenId) -> Result<Generated<U>, AllocError>
         ghost m: { Plain }
@@ -184,7 +184,7 @@ impl<U: UnitKind, N: Notify + Send> Live<U, N> {
 }
 
 /// Defines the unit, and enters what was answered, with this share of it.
-fn define_shared<U: UnitKind, N: Notify + Send, const JMAX: usize>(
+fn define_shared<U: UnitKind, N: Notify, const JMAX: usize>(
     live: &mut Live<U, N>,
     s: SeatNo,
     d: DylibId,
@@ -212,7 +212,7 @@ fn define_shared<U: UnitKind, N: Notify + Send, const JMAX: usize>(
     Offered { answer, back }
 }
 
-impl<U: UnitKind, N: Notify + Send, const JMAX: usize> Session<U, N, JMAX> {
+impl<U: UnitKind, N: Notify, const JMAX: usize> Session<U, N, JMAX> {
     /// Defines the unit in the dylib, for the tracker (ORC: `JITDylib::define`); a unit that isn't defined is
     /// handed back.
     pub fn define(&mut self, s: SeatNo, d: DylibId, t: TrackId, unit: U) -> Offered<U>

@@ -28,7 +28,7 @@ fn copy_order(alloc: Global, order: &[OrderItem]) -> Result<Order, AllocError>
     Ok(Items::from_vec(items))
 }
 
-impl<U: UnitKind, N: Notify + Send> Live<U, N> {
+impl<U: UnitKind, N: Notify> Live<U, N> {
     /// Makes a dylib of this name, or refuses it.
     fn make_dylib(&mut self, name: NameId) -> Result<Reply, AllocError>
         ghost m: { Plain }
@@ -62,7 +62,7 @@ impl<U: UnitKind, N: Notify + Send> Live<U, N> {
     }
 }
 
-impl<U: UnitKind, N: Notify + Send, const JMAX: usize> Session<U, N, JMAX> {
+impl<U: UnitKind, N: Notify, const JMAX: usize> Session<U, N, JMAX> {
     /// Makes a dylib of this name (ORC: `ExecutionSession::createJITDylib`).
     pub fn dylib(&mut self, s: SeatNo, name: NameId) -> Result<Reply, Stop>
         ensures performs { Performs U.meaning JMAX self.old.journal self.new.journal s (event.Dylib name) result }

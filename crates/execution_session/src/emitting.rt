@@ -21,7 +21,7 @@ use session_model::{Event, Reply, UnitKind};
 use session_replies::{Call, bad_dependency, turn_away};
 use std::alloc::AllocError;
 
-impl<U: UnitKind, N: Notify + Send> Live<U, N> {
+impl<U: UnitKind, N: Notify> Live<U, N> {
     /// The unit's bytes are in memory, and its instances have their groups' dependencies; or the call is
     /// turned away, or a dependency is refused.
     fn emit_unit(
@@ -51,7 +51,7 @@ impl<U: UnitKind, N: Notify + Send> Live<U, N> {
     }
 }
 
-impl<U: UnitKind, N: Notify + Send, const JMAX: usize> Session<U, N, JMAX> {
+impl<U: UnitKind, N: Notify, const JMAX: usize> Session<U, N, JMAX> {
     /// Puts the unit's bytes into memory, with its dependence groups (ORC: `notifyEmitted`). The groups
     /// and the bytes are the unit's for its live names, its base and its bindings, and no edge of it is
     /// out of range.

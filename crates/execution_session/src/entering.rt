@@ -29,7 +29,7 @@ pub(crate) fn count<T>(journal: &[T]) -> u64
 }
 
 /// The entry is written into its place, and the queries that are met now end. Takes no memory.
-pub(crate) fn enter<U: UnitKind, N: Notify + Send, const JMAX: usize>(
+pub(crate) fn enter<U: UnitKind, N: Notify, const JMAX: usize>(
     parts: &mut Parts<U, N>,
     journal: &mut Vec<Entry<U>>,
     entry: Entry<U>,
@@ -47,7 +47,7 @@ pub(crate) fn enter<U: UnitKind, N: Notify + Send, const JMAX: usize>(
 }
 
 /// The entry of an event that stirs no instance: no query settles. Takes no memory.
-pub(crate) fn enter_quietly<U: UnitKind, N: Notify + Send, const JMAX: usize>(
+pub(crate) fn enter_quietly<U: UnitKind, N: Notify, const JMAX: usize>(
     live: &mut Live<U, N>,
     seat: SeatNo,
     event: Event<U>,
@@ -71,7 +71,7 @@ pub(crate) fn enter_quietly<U: UnitKind, N: Notify + Send, const JMAX: usize>(
 }
 
 /// The entry of an event whose reply has no list: whom it settles is to be told. Takes no memory.
-pub(crate) fn enter_stirring<U: UnitKind, N: Notify + Send, const JMAX: usize>(
+pub(crate) fn enter_stirring<U: UnitKind, N: Notify, const JMAX: usize>(
     live: &mut Live<U, N>,
     seat: SeatNo,
     event: Event<U>,
@@ -97,7 +97,7 @@ pub(crate) fn enter_stirring<U: UnitKind, N: Notify + Send, const JMAX: usize>(
 }
 
 /// An entry that stirs no instance, whatever its reply is: no query settles. Takes no memory.
-pub(crate) fn enter_silently<U: UnitKind, N: Notify + Send, const JMAX: usize>(
+pub(crate) fn enter_silently<U: UnitKind, N: Notify, const JMAX: usize>(
     live: &mut Live<U, N>,
     entry: Entry<U>,
 )

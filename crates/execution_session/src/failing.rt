@@ -36,7 +36,7 @@ fn is_held<U: UnitKind>(units: &Units<U>, s: SeatNo, u: UnitId) -> bool
     }
 }
 
-impl<U: UnitKind, N: Notify + Send> Live<U, N> {
+impl<U: UnitKind, N: Notify> Live<U, N> {
     /// How many places the seat's fail of the unit takes: none where it holds it.
     fn places_to_fail(&self, s: SeatNo, u: UnitId) -> usize
         ghost m: { Plain }
@@ -67,7 +67,7 @@ impl<U: UnitKind, N: Notify + Send> Live<U, N> {
     }
 }
 
-impl<U: UnitKind, N: Notify + Send, const JMAX: usize> Session<U, N, JMAX> {
+impl<U: UnitKind, N: Notify, const JMAX: usize> Session<U, N, JMAX> {
     /// Gives the unit up, for this cause (ORC: `failMaterialization`). Takes no memory, and the seat that
     /// holds the unit is never stopped.
     pub fn fail(&mut self, s: SeatNo, u: UnitId, why: Why) -> Told<N>

@@ -70,7 +70,7 @@ fn finish_taken<U: Finishes>(
 }
 
 /// Places a unit that was taken, in its own shape.
-pub fn place_taken<U: UnitKind, N: Notify + Send, const JMAX: usize>(
+pub fn place_taken<U: UnitKind, N: Notify, const JMAX: usize>(
     session: &mut Session<U, N, JMAX>,
     s: SeatNo,
     u: UnitId,
@@ -86,7 +86,7 @@ pub fn place_taken<U: UnitKind, N: Notify + Send, const JMAX: usize>(
 
 /// Emits a unit that was taken with these bindings, with its own groups and bytes. There is no answer
 /// where it can't be finished so.
-pub fn emit_taken<U: Finishes, N: Notify + Send, const JMAX: usize>(
+pub fn emit_taken<U: Finishes, N: Notify, const JMAX: usize>(
     alloc: Global,
     session: &mut Session<U, N, JMAX>,
     s: SeatNo,

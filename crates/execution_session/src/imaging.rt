@@ -39,7 +39,7 @@ impl Imaged {
     }
 }
 
-impl<U: UnitKind, N: Notify + Send> Live<U, N> {
+impl<U: UnitKind, N: Notify> Live<U, N> {
     /// A copy of the memory, which changes nothing.
     fn copy_memory(&self) -> Result<Image, AllocError>
         ghost m: { Plain }
@@ -51,7 +51,7 @@ impl<U: UnitKind, N: Notify + Send> Live<U, N> {
     }
 }
 
-impl<U: UnitKind, N: Notify + Send, const JMAX: usize> Session<U, N, JMAX> {
+impl<U: UnitKind, N: Notify, const JMAX: usize> Session<U, N, JMAX> {
     /// A copy of the memory: the bytes of the units that are done, at their addresses.
     pub fn image(&mut self, s: SeatNo) -> Imaged
         ensures performs { Performs U.meaning JMAX self.old.journal self.new.journal s event.Image result.answer }

@@ -99,7 +99,7 @@ fn finishing_of(end: Collected) -> Finishing
 }
 
 /// How the query of this number ended, for the holder of its unit.
-fn finishing_at<N: Notify + Send>(book: &Book<N>, q: QueryId) -> Result<Finishing, AllocError>
+fn finishing_at<N: Notify>(book: &Book<N>, q: QueryId) -> Result<Finishing, AllocError>
     requires { (end : QueryEnd) × (slice_get book.now.ends q.0 ≡ Some (Some end)) }
     ensures { IfOk result (λ how. (end : QueryEnd) → slice_get book.now.ends q.0 ≡ Some (Some end) → how ≡ finishing_of end.end) }
 {
@@ -117,7 +117,7 @@ fn bindings_of(how: Finishing) -> Option<Matches>
     }
 }
 
-impl<U: UnitKind, N: Notify + Send> Live<U, N> {
+impl<U: UnitKind, N: Notify> Live<U, N> {
     /// The oldest job that is listed.
     fn next_job(&self) -> Option<Job>
         ghost m: { Plain }
@@ -235,7 +235,7 @@ impl<U: UnitKind, N: Notify + Send> Live<U, N> {
     }
 }
 
-impl<U: UnitKind, N: Notify + Send, const JMAX: usize> Session<U, N, JMAX> {
+impl<U: UnitKind, N: Notify, const JMAX: usize> Session<U, N, JMAX> {
     /// Hands the oldest job out to the seat, with its unit (ORC: `MaterializationTask`). Where none is
     /// listed it answers how many units are held, and nothing is written.
     pub fn take(&mut self, s: SeatNo) -> Taken<U>

@@ -12,7 +12,7 @@ use session_model::UnitKind;
 use session_parts::Parts;
 use std::alloc::{AllocError, Global};
 
-impl<U: UnitKind, N: Notify + Send, const JMAX: usize> Session<U, N, JMAX> {
+impl<U: UnitKind, N: Notify, const JMAX: usize> Session<U, N, JMAX> {
     /// A session without an entry, with all places of its journal (ORC: `ExecutionSession`'s constructor).
     pub fn open(alloc: Global) -> Result<Session<U, N, JMAX>, AllocError>
         requires { JMAX ≤ JOURNAL_LIMIT }

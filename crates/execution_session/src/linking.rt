@@ -26,7 +26,7 @@ use session_model::{Event, Matched, Reply, UnitKind};
 use session_replies::{Call, turn_away};
 use std::alloc::AllocError;
 
-impl<U: UnitKind, N: Notify + Send> Live<U, N> {
+impl<U: UnitKind, N: Notify> Live<U, N> {
     /// The unit waits for what its externals matched.
     fn lodge_link(&mut self, u: UnitId, found: Matched) -> Result<Reply, AllocError>
         ghost m: { Plain }
@@ -77,7 +77,7 @@ impl<U: UnitKind, N: Notify + Send> Live<U, N> {
     }
 }
 
-impl<U: UnitKind, N: Notify + Send, const JMAX: usize> Session<U, N, JMAX> {
+impl<U: UnitKind, N: Notify, const JMAX: usize> Session<U, N, JMAX> {
     /// Links the unit, and tells whom that settles.
     fn link_telling(&mut self, s: SeatNo, u: UnitId, fires: &mut Fires<N>) -> Result<Reply, Stop>
         requires nobody { fires.old ≡ [] }

@@ -39,7 +39,7 @@ fn ask_event<U: UnitKind>(
     Ok(Event::Ask(order, wanted, level, note))
 }
 
-impl<U: UnitKind, N: Notify + Send> Live<U, N> {
+impl<U: UnitKind, N: Notify> Live<U, N> {
     /// A query is lodged for what a lookup matched; a refusal leaves the notifier where it was.
     fn lodge_ask(
         &mut self,
@@ -87,7 +87,7 @@ impl<U: UnitKind, N: Notify + Send> Live<U, N> {
     }
 }
 
-impl<U: UnitKind, N: Notify + Send, const JMAX: usize> Session<U, N, JMAX> {
+impl<U: UnitKind, N: Notify, const JMAX: usize> Session<U, N, JMAX> {
     /// Looks the names up, and tells whom that settles.
     fn ask_telling(
         &mut self,

@@ -13,7 +13,7 @@ use session_model::UnitKind;
 use session_replies::kept;
 
 /// The journal has places for so many more entries, beside those of the held units.
-pub(crate) fn check_places<U: UnitKind, N: Notify + Send, const JMAX: usize>(
+pub(crate) fn check_places<U: UnitKind, N: Notify, const JMAX: usize>(
     live: &Live<U, N>,
     places: usize,
 ) -> Result<(), Stop>

@@ -21,7 +21,7 @@ use session_model::{Event, Reply, UnitKind};
 use session_replies::{Call, turn_away};
 use std::alloc::AllocError;
 
-impl<U: UnitKind, N: Notify + Send> Live<U, N> {
+impl<U: UnitKind, N: Notify> Live<U, N> {
     /// The unit gets the lowest free range of its shape, if one is free.
     fn give_range(&mut self, s: SeatNo, u: UnitId, shape: Shape) -> Result<Reply, AllocError>
         ghost m: { Plain }
@@ -57,7 +57,7 @@ impl<U: UnitKind, N: Notify + Send> Live<U, N> {
     }
 }
 
-impl<U: UnitKind, N: Notify + Send, const JMAX: usize> Session<U, N, JMAX> {
+impl<U: UnitKind, N: Notify, const JMAX: usize> Session<U, N, JMAX> {
     /// Places the unit at the lowest free base for its shape (ORC: `JITLinkMemoryManager::allocate`).
     pub fn place(&mut self, s: SeatNo, u: UnitId, shape: Shape) -> Result<Reply, Stop>
         requires { (x : UnitRow) → called (state_of U.meaning self.old.journal) s.0 u can_place ≡ Right x → unit_shape x ≡ Some shape }

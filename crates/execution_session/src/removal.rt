@@ -18,7 +18,7 @@ use orc_io::Notify;
 use session_model::{Event, Reply, UnitKind};
 use session_replies::refuse_remove;
 
-impl<U: UnitKind, N: Notify + Send> Live<U, N> {
+impl<U: UnitKind, N: Notify> Live<U, N> {
     /// All that the tracker has goes, or it is gone already. Takes no memory.
     fn remove_tracker(&mut self, t: TrackId) -> Reply
         ghost m: { Plain }
@@ -34,7 +34,7 @@ impl<U: UnitKind, N: Notify + Send> Live<U, N> {
     }
 }
 
-impl<U: UnitKind, N: Notify + Send, const JMAX: usize> Session<U, N, JMAX> {
+impl<U: UnitKind, N: Notify, const JMAX: usize> Session<U, N, JMAX> {
     /// Removes all that the tracker has: its units with their names, jobs and ranges, and its generators
     /// (ORC: `ResourceTracker::remove`). Takes no memory.
     pub fn remove(&mut self, s: SeatNo, t: TrackId) -> Told<N>

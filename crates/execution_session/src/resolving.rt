@@ -18,7 +18,7 @@ use orc_io::Notify;
 use session_model::{Event, Reply, UnitKind};
 use session_replies::{Call, turn_away};
 
-impl<U: UnitKind, N: Notify + Send> Live<U, N> {
+impl<U: UnitKind, N: Notify> Live<U, N> {
     /// The unit's instances get their addresses, or the call is turned away. Takes no memory.
     fn resolve_unit(&mut self, s: SeatNo, u: UnitId) -> Reply
         ghost m: { Plain }
@@ -35,7 +35,7 @@ impl<U: UnitKind, N: Notify + Send> Live<U, N> {
     }
 }
 
-impl<U: UnitKind, N: Notify + Send, const JMAX: usize> Session<U, N, JMAX> {
+impl<U: UnitKind, N: Notify, const JMAX: usize> Session<U, N, JMAX> {
     /// Gives the unit's instances their addresses (ORC: `notifyResolved`). Takes no memory.
     pub fn resolve(&mut self, s: SeatNo, u: UnitId) -> Told<N>
         ensures performs { Performs U.meaning JMAX self.old.journal self.new.journal s (event.Resolve u) result.answer }

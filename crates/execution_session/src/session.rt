@@ -20,11 +20,11 @@ pub const JOURNAL_LIMIT: usize = ENTRY_LIMIT;
 
 /// A session, with a journal of at most `JMAX` entries; it must be ended, for its notifiers. Contracts see
 /// the journal, and which query has a notifier.
-pub struct Session<U: UnitKind, N: Notify + Send, const JMAX: usize> {
+pub struct Session<U: UnitKind, N: Notify, const JMAX: usize> {
     pub(crate) live: Live<U, N>,
 }
 
-impl<U: UnitKind, N: Notify + Send, const JMAX: usize> Model for Session<U, N, JMAX> {
+impl<U: UnitKind, N: Notify, const JMAX: usize> Model for Session<U, N, JMAX> {
     ghost use Rattle.execution_session.specs.Log.{Log};
 
     ghost Value = { Log U N };
@@ -38,7 +38,7 @@ impl<U: UnitKind, N: Notify + Send, const JMAX: usize> Model for Session<U, N, J
 }
 
 /// The answer of an event, and the notifiers that are to be told.
-pub struct Told<N: Notify + Send> {
+pub struct Told<N: Notify> {
     pub answer: Result<Reply, Stop>,
     pub fires: Fires<N>,
 }
@@ -51,13 +51,13 @@ pub struct Offered<U> {
 }
 
 /// The answer of a lookup, its notifier where no query was lodged, and the notifiers that are to be told.
-pub struct Asked<N: Notify + Send> {
+pub struct Asked<N: Notify> {
     pub answer: Result<Reply, Stop>,
     pub back: Option<Armed<N>>,
     pub fires: Fires<N>,
 }
 
-impl<U: UnitKind, N: Notify + Send, const JMAX: usize> Session<U, N, JMAX> {
+impl<U: UnitKind, N: Notify, const JMAX: usize> Session<U, N, JMAX> {
     /// The entries so far.
     pub fn journal(&self) -> &[Entry<U>]
         ensures entries { result.now ≡ self.now.journal }

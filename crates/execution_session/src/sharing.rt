@@ -12,7 +12,7 @@ use orc_io::Notify;
 use session_model::UnitKind;
 
 /// Another handle of the unit, for an entry that the journal has a place for.
-pub(crate) fn share_for_entry<U: UnitKind, N: Notify + Send, const JMAX: usize>(
+pub(crate) fn share_for_entry<U: UnitKind, N: Notify, const JMAX: usize>(
     live: &Live<U, N>,
     unit: &U,
 ) -> Result<U, Stop>

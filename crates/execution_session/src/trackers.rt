@@ -18,7 +18,7 @@ use session_model::{Event, Reply, UnitKind};
 use session_replies::{refuse_move, refuse_tracker};
 use std::alloc::AllocError;
 
-impl<U: UnitKind, N: Notify + Send> Live<U, N> {
+impl<U: UnitKind, N: Notify> Live<U, N> {
     /// Makes a tracker of the dylib, or refuses it.
     fn make_tracker(&mut self, d: DylibId) -> Result<Reply, AllocError>
         ghost m: { Plain }
@@ -52,7 +52,7 @@ impl<U: UnitKind, N: Notify + Send> Live<U, N> {
     }
 }
 
-impl<U: UnitKind, N: Notify + Send, const JMAX: usize> Session<U, N, JMAX> {
+impl<U: UnitKind, N: Notify, const JMAX: usize> Session<U, N, JMAX> {
     /// Makes a tracker of the dylib (ORC: `JITDylib::createResourceTracker`).
     pub fn tracker(&mut self, s: SeatNo, d: DylibId) -> Result<Reply, Stop>
         ensures performs { Performs U.meaning JMAX self.old.journal self.new.journal s (event.Tracker d) result }

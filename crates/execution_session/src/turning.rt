@@ -13,7 +13,7 @@ use orc_ids::{SeatNo, UnitId};
 use orc_io::Notify;
 use session_model::{Reply, UnitKind};
 
-impl<U: UnitKind, N: Notify + Send> Live<U, N> {
+impl<U: UnitKind, N: Notify> Live<U, N> {
     /// A seat that is told that the unit is gone doesn't hold it any longer; any other reply of a call that
     /// is turned away changes nothing.
     pub(crate) fn step_away(&mut self, s: SeatNo, u: UnitId, reply: &Reply)

@@ -1,4 +1,4 @@
--- The tests' unit offers one name.
+-- What the tests' units have in common: each offers one name.
 use Rattle.std.proofs.Common.{◌≡◌, ℕ, zero, suc, [], ◌∷◌, slice_get, Some, refl}
 use Rattle.std.proofs.lemmas.Option.{none-some}
 

@@ -3,9 +3,15 @@
 ghost use Rattle.std.specs.Prelude.{◌≡◌, is_some};
 
 mod endings;
+mod few_places;
+mod handed_back;
+mod limits;
 mod lookup;
 mod names;
+mod parts;
+mod ready;
 mod replies;
+mod turns;
 mod units;
 
 use execution_session::{Asked, Session, Taken, Told, emit_taken, place_taken};
@@ -14,7 +20,7 @@ use orc_ids::{
     DylibId, Level, NameId, OrderItem, Outcome, Scope, SeatNo, Stop, TrackId, UnitId, Wanted,
 };
 use orc_io::Note;
-use session_model::{Finishing, Reply};
+use session_model::{Finishing, Reply, UnitKind};
 use std::alloc::Global;
 use std::process::Abort;
 use units::Named;
@@ -70,8 +76,8 @@ fn has_heard(heard: &mut FiredList<Note>, note: u32, outcome: Outcome) -> bool {
 }
 
 /// Looks the name up in the dylib; whom that settles is told.
-fn ask<const JMAX: usize>(
-    session: &mut Session<Named, Note, JMAX>,
+fn ask<U: UnitKind, const JMAX: usize>(
+    session: &mut Session<U, Note, JMAX>,
     heard: &mut FiredList<Note>,
     d: DylibId,
     name: NameId,
@@ -104,9 +110,9 @@ fn asks<const JMAX: usize>(
 }
 
 /// A lookup of name 0 in the first dylib, with a notifier, waits.
-fn lookup_waits<const JMAX: usize>(
+fn lookup_waits<U: UnitKind, const JMAX: usize>(
     alloc: Global,
-    session: &mut Session<Named, Note, JMAX>,
+    session: &mut Session<U, Note, JMAX>,
     then: Option<Armed<Note>>,
 ) -> bool {
     let mut heard = FiredList::new();
@@ -152,9 +158,9 @@ fn takes_none<const JMAX: usize>(
 }
 
 /// The unit of this number is taken, and placed at the first address.
-fn places<const JMAX: usize>(
+fn places<U: UnitKind, const JMAX: usize>(
     alloc: Global,
-    session: &mut Session<Named, Note, JMAX>,
+    session: &mut Session<U, Note, JMAX>,
     number: u32,
 ) -> bool {
     let Taken { answer, unit } = session.take(SEAT);
@@ -204,9 +210,9 @@ fn removes<const JMAX: usize>(
 }
 
 /// A resolve of the first unit is answered so.
-fn resolves<const JMAX: usize>(
+fn resolves<U: UnitKind, const JMAX: usize>(
     alloc: Global,
-    session: &mut Session<Named, Note, JMAX>,
+    session: &mut Session<U, Note, JMAX>,
     text: &str,
 ) -> bool {
     let mut heard = FiredList::new();
@@ -215,9 +221,9 @@ fn resolves<const JMAX: usize>(
 }
 
 /// A link of the first unit is answered so.
-fn links<const JMAX: usize>(
+fn links<U: UnitKind, const JMAX: usize>(
     alloc: Global,
-    session: &mut Session<Named, Note, JMAX>,
+    session: &mut Session<U, Note, JMAX>,
     text: &str,
 ) -> bool {
     let mut heard = FiredList::new();
@@ -226,7 +232,7 @@ fn links<const JMAX: usize>(
 }
 
 /// Ends a session that has no notifiers.
-fn end<const JMAX: usize>(rt: &impl Abort, session: Session<Named, Note, JMAX>) {
+fn end<U: UnitKind, const JMAX: usize>(rt: &impl Abort, session: Session<U, Note, JMAX>) {
     let mut session = session;
     assert!(rt; !give_up(session.give_back()));
     session.end();

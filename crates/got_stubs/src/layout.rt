@@ -1,45 +1,10 @@
-ghost use Rattle.std.specs.Prelude.{◌≡◌, ◌+◌, ◌*◌, ◌<◌, ◌≤◌, ◌^◌, max, length, IfOk};
-ghost use Rattle.link_model.specs.Layout.{aligned, in_turn, layout_of, CELL_SIZE, STUB_SIZE};
+ghost use Rattle.std.specs.Prelude.{◌≡◌, ◌<◌, ◌^◌, IfOk};
+ghost use Rattle.link_model.specs.Layout.{layout_of};
 ghost use Rattle.link_model.specs.Sound.{Sound, IsSized};
 
-use crate::blocks::{PlacedBlocks, greatest_align, place_blocks};
-use crate::parts::{Parts, parts_of};
-use crate::turns::{align_up, place_in_turn};
+use crate::plan::plan_of;
 use link_model::{Layout, LinkGraph};
-use orc_ids::{Items, Shape};
 use std::alloc::{AllocError, Global};
-
-const CELL: u64 = 8;
-
-const STUB: u64 = 16;
-
-/// Cells and stubs with their offsets, and what the unit needs.
-#[derive(Drop)]
-struct Tables {
-    cells: Vec<(u32, u64)>,
-    stubs: Vec<(u32, u64)>,
-    need: u64,
-}
-
-/// The cells and stubs behind the blocks, which end here.
-fn place_tables(alloc: Global, end: u64, cells: &[u32], stubs: &[u32]) -> Result<Tables, AllocError>
-    requires low { end ≤ 80 * 1024 * 1024 }
-    requires few_cells { length cells.now ≤ 65536 }
-    requires few_stubs { length stubs.now ≤ 65536 }
-    ensures cells { IfOk result (λ t. t.cells.items ≡ in_turn (aligned end 8) CELL_SIZE cells.now) }
-    ensures stubs { IfOk result (λ t. t.stubs.items ≡ in_turn (aligned (aligned end 8 + CELL_SIZE * length cells.now) 16) STUB_SIZE stubs.now) }
-    ensures need { IfOk result (λ t. t.need ≡ max 16 (aligned (aligned (aligned end 8 + CELL_SIZE * length cells.now) 16 + STUB_SIZE * length stubs.now) 16)) }
-    ensures small { IfOk result (λ t. t.need < 2 ^ 27) }
-{
-    let cells_start = align_up(end, CELL);
-    let stubs_start = align_up(cells_start + CELL * cells.len() as u64, STUB);
-    let unit_end = align_up(stubs_start + STUB * stubs.len() as u64, STUB);
-    Ok(Tables {
-        cells: place_in_turn(alloc, cells_start, CELL, cells)?,
-        stubs: place_in_turn(alloc, stubs_start, STUB, stubs)?,
-        need: unit_end.max(16),
-    })
-}
 
 /// Where the parts of the unit of a graph lie, with these live names. `live` has a flag for each
 /// offered symbol, in symbol order; a flag that isn't there says that the symbol isn't live.
@@ -49,19 +14,5 @@ pub fn synthesise(alloc: Global, g: &LinkGraph, live: &[bool]) -> Result<Layout,
     ensures exact { IfOk result (λ l. l ≡ layout_of g.now live.now) }
     ensures small { IfOk result (λ l. l.shape.need < 2 ^ 27) }
 {
-    let PlacedBlocks { offsets, end } = place_blocks(alloc, g)?;
-    let parts = parts_of(alloc, g, live)?;
-    let Tables { cells, stubs, need } = place_tables(alloc, end, &parts.cells, &parts.stubs)?;
-    let live = live.to_vec(alloc)?;
-    Ok(Layout {
-        blocks: Items::from_vec(offsets),
-        cells: Items::from_vec(cells),
-        stubs: Items::from_vec(stubs),
-        shape: Shape {
-            need,
-            align: greatest_align(g),
-        },
-        externals: Items::from_vec(parts.externals),
-        live: Items::from_vec(live),
-    })
+    plan_of(alloc, g)?.layout(alloc, g, live)
 }

@@ -16,8 +16,10 @@ mod marks;
 mod owners;
 mod parts;
 mod plan;
+mod tables;
 mod turns;
 mod walks;
 
 pub use layout::synthesise;
+pub use owners::owners_of;
 pub use plan::{Plan, plan_of};

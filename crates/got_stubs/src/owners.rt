@@ -48,11 +48,7 @@ pub(crate) fn offer_behind(s: &GSym, offer: usize) -> usize
 }
 
 /// For each symbol whether the unit itself defines it.
-pub(crate) fn owners_of(
-    alloc: Global,
-    symbols: &[GSym],
-    live: &[bool],
-) -> Result<Vec<bool>, AllocError>
+pub fn owners_of(alloc: Global, symbols: &[GSym], live: &[bool]) -> Result<Vec<bool>, AllocError>
     ensures exact { IfOk result (λ own. own.items ≡ own_symbols symbols.now live.now) }
     ensures whole { IfOk result (λ own. length own.items ≡ length symbols.now) }
 {

@@ -1,10 +1,9 @@
 ghost use Rattle.std.specs.Prelude.{◌≡◌, ◌≤◌, length, IfOk};
 ghost use Rattle.link_model.specs.Graph.{numbers_where, external_symbols};
 ghost use Rattle.link_model.specs.Layout.{cell_symbols, stub_symbols};
-ghost use Rattle.link_model.specs.Sound.{Sound, IsSized};
-ghost use Rattle.got_stubs.specs.Marks.{has_part, part_at};
+ghost use Rattle.got_stubs.specs.Marks.{has_part, part_at, AreMarks};
 
-use crate::marks::{Mark, marks_of};
+use crate::marks::Mark;
 use crate::owners::owners_of;
 use link_model::LinkGraph;
 use std::alloc::{AllocError, Global};
@@ -79,16 +78,21 @@ fn lists_of(alloc: Global, own: &[bool], marks: &[Mark]) -> Result<Parts, AllocE
 }
 
 /// The externals, and the symbols that have cells and stubs.
-pub(crate) fn parts_of(alloc: Global, g: &LinkGraph, live: &[bool]) -> Result<Parts, AllocError>
-    requires sound { Sound g.now }
-    requires sized { IsSized g.now }
+pub(crate) fn parts_of(
+    alloc: Global,
+    g: &LinkGraph,
+    marks: &[Mark],
+    live: &[bool],
+) -> Result<Parts, AllocError>
+    requires few { length g.now.symbols ≤ 65536 }
+    requires whole { length marks.now ≡ length g.now.symbols }
+    requires marks { AreMarks g.now.edges marks.now }
     ensures externals { IfOk result (λ parts. parts.externals.items ≡ external_symbols g.now live.now) }
     ensures cells { IfOk result (λ parts. parts.cells.items ≡ cell_symbols g.now live.now) }
     ensures stubs { IfOk result (λ parts. parts.stubs.items ≡ stub_symbols g.now live.now) }
     ensures few_cells { IfOk result (λ parts. length parts.cells.items ≤ 65536) }
     ensures few_stubs { IfOk result (λ parts. length parts.stubs.items ≤ 65536) }
 {
-    let marks = marks_of(alloc, g)?;
     let own = owners_of(alloc, g.symbols.as_slice(), live)?;
-    Ok(lists_of(alloc, &own, &marks)?)
+    Ok(lists_of(alloc, &own, marks)?)
 }

@@ -1,4 +1,4 @@
-ghost use Rattle.std.specs.Prelude.{◌≡◌, ◌+◌, ◌*◌, ◌≤◌, max, length, slice_get, IfOk};
+ghost use Rattle.std.specs.Prelude.{◌≡◌, ◌+◌, ◌*◌, ◌<◌, ◌≤◌, ◌^◌, max, length, slice_get, IfOk};
 ghost use Rattle.link_model.specs.Graph.{external_symbols};
 ghost use Rattle.link_model.specs.Layout.{aligned, block_offsets, layout_of, CELL_SIZE, STUB_SIZE};
 ghost use Rattle.link_model.specs.Sound.{Sound, IsSized};
@@ -7,11 +7,12 @@ ghost use Rattle.got_stubs.specs.Plan.{IsPlan};
 use crate::blocks::{PlacedBlocks, greatest_align, place_blocks};
 use crate::candidates::{Candidates, candidates_of, nth_external};
 use crate::marks::{Mark, marks_of};
-use crate::parts::Part;
+use crate::parts::{Part, parts_of};
+use crate::tables::{Tables, place_tables};
 use crate::turns::align_up;
 use crate::walks::count_with;
-use link_model::LinkGraph;
-use orc_ids::Shape;
+use link_model::{Layout, LinkGraph};
+use orc_ids::{Items, Shape};
 use std::alloc::{AllocError, Global};
 
 /// What is prepared of a graph, so that its shape and the count of its externals with any live names
@@ -89,6 +90,35 @@ impl Plan {
             replaceable,
         } = &self.candidates;
         nth_external(missing, replaceable, live, k)
+    }
+
+    /// Where the parts of the unit lie. `live` has a flag for each offered symbol, in symbol order; a flag
+    /// that isn't there says that the symbol isn't live.
+    pub fn layout(&self, alloc: Global, g: &LinkGraph, live: &[bool]) -> Result<Layout, AllocError>
+        requires { IsPlan g.now self.now }
+        ensures exact { IfOk result (λ l. l ≡ layout_of g.now live.now) }
+        ensures small { IfOk result (λ l. l.shape.need < 2 ^ 27) }
+    {
+        let parts = parts_of(alloc, g, &self.marks, live)?;
+        let Tables { cells, stubs, need } = place_tables(
+            alloc,
+            self.end,
+            &parts.cells,
+            &parts.stubs,
+        )?;
+        let blocks = self.offsets.as_slice().to_vec(alloc)?;
+        let live = live.to_vec(alloc)?;
+        Ok(Layout {
+            blocks: Items::from_vec(blocks),
+            cells: Items::from_vec(cells),
+            stubs: Items::from_vec(stubs),
+            shape: Shape {
+                need,
+                align: self.align,
+            },
+            externals: Items::from_vec(parts.externals),
+            live: Items::from_vec(live),
+        })
     }
 
     /// The offsets of the blocks.

@@ -8,12 +8,12 @@ use std::alloc::{AllocError, Global};
 use std::marker::Model;
 
 /// A notifier that has heard nothing, with the node that it will stand in; it must be spent.
-pub struct Armed<N: Notify + Send> {
+pub struct Armed<N: Notify> {
     pub(crate) unheard: Unheard<N>,
     pub(crate) room: Box<Link<N>>,
 }
 
-impl<N: Notify + Send> Model for Armed<N> {
+impl<N: Notify> Model for Armed<N> {
     ghost use Rattle.std.specs.Prelude.{◌≡◌, None};
     ghost use Rattle.notifiers.specs.declared.notice.Unheard.{Unheard};
 
@@ -24,7 +24,7 @@ impl<N: Notify + Send> Model for Armed<N> {
     ghost invariant = { λ a. N.heard a.unheard.what ≡ None };
 }
 
-impl<N: Notify + Send> Armed<N> {
+impl<N: Notify> Armed<N> {
     /// Arms an object that has heard nothing; a refusal gives it up.
     pub fn new(alloc: Global, note: u32, what: N) -> Result<Armed<N>, AllocError>
         requires { N.heard what ≡ None }
@@ -74,11 +74,11 @@ impl<N: Notify + Send> Armed<N> {
 
 /// A notifier that has heard one outcome.
 #[derive(Drop)]
-pub struct Fired<N: Notify + Send> {
+pub struct Fired<N: Notify> {
     pub(crate) heard: Heard<N>,
 }
 
-impl<N: Notify + Send> Model for Fired<N> {
+impl<N: Notify> Model for Fired<N> {
     ghost use Rattle.std.specs.Prelude.{◌≡◌, Some};
     ghost use Rattle.notifiers.specs.declared.notice.Heard.{Heard};
 
@@ -89,7 +89,7 @@ impl<N: Notify + Send> Model for Fired<N> {
     ghost invariant = { λ f. N.heard f.heard.what ≡ Some f.heard.outcome };
 }
 
-impl<N: Notify + Send> Fired<N> {
+impl<N: Notify> Fired<N> {
     /// The object, which has heard the outcome.
     pub fn object(self) -> N
         ensures object { result ≡ self.what }

@@ -9,11 +9,11 @@ use orc_io::Notify;
 use std::marker::Model;
 
 /// Notifiers that are to be told, each with its outcome; they must be spent.
-pub struct Fires<N: Notify + Send> {
+pub struct Fires<N: Notify> {
     queue: Queue<N>,
 }
 
-impl<N: Notify + Send> Model for Fires<N> {
+impl<N: Notify> Model for Fires<N> {
     ghost use Rattle.std.specs.Prelude.{List};
     ghost use Rattle.notifiers.specs.declared.notice.Notice.{Notice};
     ghost use Rattle.notifiers.specs.Notices.{AreUnheard};
@@ -26,7 +26,7 @@ impl<N: Notify + Send> Model for Fires<N> {
 }
 
 /// Tells one object its outcome.
-fn tell<N: Notify + Send>(notice: Notice<N>) -> Notice<N>
+fn tell<N: Notify>(notice: Notice<N>) -> Notice<N>
     requires { N.heard notice.what ≡ None }
     ensures { IsTold N.heard notice result }
 {
@@ -36,7 +36,7 @@ fn tell<N: Notify + Send>(notice: Notice<N>) -> Notice<N>
 }
 
 /// Tells each object its outcome, and moves it to another list, in the node that it stands in.
-fn tell_all<N: Notify + Send>(from: &mut Queue<N>, to: &mut Queue<N>)
+fn tell_all<N: Notify>(from: &mut Queue<N>, to: &mut Queue<N>)
     requires { AreUnheard N.heard from.old }
     ensures { Told N.heard from.old to.old to.new }
 {
@@ -45,7 +45,7 @@ fn tell_all<N: Notify + Send>(from: &mut Queue<N>, to: &mut Queue<N>)
     }
 }
 
-impl<N: Notify + Send> Fires<N> {
+impl<N: Notify> Fires<N> {
     /// Nobody.
     pub fn new() -> Fires<N>
         ensures { result ≡ [] }
@@ -90,11 +90,11 @@ impl<N: Notify + Send> Fires<N> {
 }
 
 /// Notifiers that were told, with what each has heard.
-pub struct FiredList<N: Notify + Send> {
+pub struct FiredList<N: Notify> {
     queue: Queue<N>,
 }
 
-impl<N: Notify + Send> Model for FiredList<N> {
+impl<N: Notify> Model for FiredList<N> {
     ghost use Rattle.std.specs.Prelude.{List};
     ghost use Rattle.notifiers.specs.declared.notice.Notice.{Notice};
     ghost use Rattle.notifiers.specs.Notices.{AreHeard};
@@ -106,7 +106,7 @@ impl<N: Notify + Send> Model for FiredList<N> {
     ghost invariant = { λ f. AreHeard N.heard f.queue };
 }
 
-impl<N: Notify + Send> FiredList<N> {
+impl<N: Notify> FiredList<N> {
     /// Nobody.
     pub fn new() -> FiredList<N>
         ensures { result ≡ [] }
@@ -135,7 +135,7 @@ impl<N: Notify + Send> FiredList<N> {
     }
 }
 
-impl<N: Notify + Send> Drop for FiredList<N> {
+impl<N: Notify> Drop for FiredList<N> {
     fn drop(self) {
         let FiredList { queue } = self;
         let mut queue = queue;

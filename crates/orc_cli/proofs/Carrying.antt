@@ -37,7 +37,7 @@ use Rattle.fixups.specs.Sound.{Alone}
 use Rattle.orc_cli.proofs.Alone.{plain_is_alone}
 use Rattle.journal_text.specs.Journal.{text_of_history}
 use Rattle.journal_text.specs.Parts.{IsGiven}
-use Rattle.session_run.specs.Drive.{HasLooked, HasMissed, HasFound, IsStopped}
+use Rattle.session_run.specs.Drive.{HasLooked, HasFound, IsStopped}
 use Rattle.session_run.specs.Halts.{HasNoPlace}
 use Rattle.session_run.specs.Lone.{all_live}
 use Rattle.session_run.specs.Stages.{done}
@@ -88,7 +88,7 @@ use Rattle.orc_cli.specs.declared.answer.Answer.{Answer}
 use Rattle.orc_cli.specs.declared.answer.Answer.TheVariants.{Missing, JournalFull}
 use Rattle.orc_cli.specs.Outcomes.{answer_of, memory_of}
 use Rattle.orc_cli.specs.Words.{Request}
-use Rattle.orc_cli.specs.Carried.{AreGiven, IsRunOf, unnamed, named, cut}
+use Rattle.orc_cli.specs.Carried.{AreGiven, IsDriven, IsRunOf, unnamed, named, cut}
 
 -- its names are known
 
@@ -127,10 +127,7 @@ known_looked jmax names run h (Err stop) g x = subst (AreKnown names) (sym x.at.
 
 -- What a lookup answers
 
-pub missed_answer : (jmax : ℕ) (names : List (List ℕ)) (run : Run) (request : Request) (h : List (Entry ObjectUnit)) (answer : Answer) (output journal : List ℕ) → HasMissed run h → HasPlaces jmax (plain_history meaning_of h) → answer ≡ Missing request.entry → output ≡ [] → journal ≡ text_of_history names (plain_history meaning_of h) → IsRunOf jmax names run request answer output journal
-missed_answer jmax names run request h answer output journal x p e o j = unnamed x.unnamed (subst (HasPlaces jmax) x.whole p) e o (j ∙ ap (text_of_history names) x.whole)
-
-pub found_answer : (jmax : ℕ) (names : List (List ℕ)) (run : Run) (request : Request) (h : List (Entry ObjectUnit)) (pc : ℕ) (image : List Segment) (end : RunEnd) (answer : Answer) (output journal : List ℕ) → HasFound run h pc image → HasPlaces jmax (plain_history meaning_of h) → RunsTo (byte_at image) pc [] request.fuel end output → answer ≡ answer_of end → journal ≡ text_of_history names (plain_history meaning_of h) → IsRunOf jmax names run request answer output journal
+found_answer : (jmax : ℕ) (names : List (List ℕ)) (run : Run) (request : Request) (h : List (Entry ObjectUnit)) (pc : ℕ) (image : List Segment) (end : RunEnd) (answer : Answer) (output journal : List ℕ) → HasFound run h pc image → HasPlaces jmax (plain_history meaning_of h) → RunsTo (byte_at image) pc [] request.fuel end output → answer ≡ answer_of end → journal ≡ text_of_history names (plain_history meaning_of h) → IsRunOf jmax names run request answer output journal
 found_answer jmax names run request h pc image end answer output journal x places r e j = named x.offer end x.named (subst (HasPlaces jmax) x.whole places)
     (subst (λ p. RunsTo (memory (state (journal_of run))) p [] request.fuel end output) x.its (subst (λ m. RunsTo m pc [] request.fuel end output) same r))
     e (j ∙ ap (text_of_history names) x.whole)
@@ -143,11 +140,19 @@ take_again zero xs = refl
 take_again (suc n) [] = refl
 take_again (suc n) (x ∷ xs) = ap (λ ys. x ∷ ys) (take_again n xs)
 
-pub filled_answer : (jmax : ℕ) (names : List (List ℕ)) (run : Run) (request : Request) (h : List (Entry ObjectUnit)) (len : ℕ) (answer : Answer) (output journal : List ℕ) → IsStopped jmax run h (StopFull len) → HasPlaces jmax (plain_history meaning_of h) → answer ≡ JournalFull len → output ≡ [] → journal ≡ text_of_history names (plain_history meaning_of h) → IsRunOf jmax names run request answer output journal
+filled_answer : (jmax : ℕ) (names : List (List ℕ)) (run : Run) (request : Request) (h : List (Entry ObjectUnit)) (len : ℕ) (answer : Answer) (output journal : List ℕ) → IsStopped jmax run h (StopFull len) → HasPlaces jmax (plain_history meaning_of h) → answer ≡ JournalFull len → output ≡ [] → journal ≡ text_of_history names (plain_history meaning_of h) → IsRunOf jmax names run request answer output journal
 filled_answer jmax names run request h len answer output journal x p e o j = cut len (subst (λ hs. HasNoPlace jmax (journal_of run) hs len) same x.at.1) (subst (HasPlaces jmax) same p) e o (j ∙ ap (text_of_history names) same)
   where
     same : plain_history meaning_of h ≡ take len (journal_of run)
     same = x.at.0 ∙ (sym (take_again x.n (journal_of run)) ∙ ap (λ k. take k (journal_of run)) (sym (x.at.1.all ∙ ap length x.at.0)))
+
+-- What a run answers that went through a session
+
+pub driven_found : (jmax : ℕ) (names : List (List ℕ)) (run : Run) (request : Request) (looked : Result Looked Stop) (pc : ℕ) (image : List Segment) (end : RunEnd) (answer : Answer) (output journal : List ℕ) → IsDriven jmax names run looked journal → looked ≡ Ok (LookFound pc image) → RunsTo (byte_at image) pc [] request.fuel end output → answer ≡ answer_of end → IsRunOf jmax names run request answer output journal
+driven_found jmax names run request looked pc image end answer output journal d is r e = found_answer jmax names run request d.history pc image end answer output journal (subst (HasLooked jmax run d.history) is d.found) d.places r e d.text
+
+pub driven_filled : (jmax : ℕ) (names : List (List ℕ)) (run : Run) (request : Request) (looked : Result Looked Stop) (len : ℕ) (answer : Answer) (output journal : List ℕ) → IsDriven jmax names run looked journal → looked ≡ Err (StopFull len) → answer ≡ JournalFull len → output ≡ [] → IsRunOf jmax names run request answer output journal
+driven_filled jmax names run request looked len answer output journal d is e o = filled_answer jmax names run request d.history len answer output journal (subst (HasLooked jmax run d.history) is d.found) d.places e o d.text
 
 -- The memory of a whole run is the unit's image
 

@@ -24,9 +24,8 @@ use Rattle.elf_read.specs.declared.object.SymPlace.TheVariants.{Undef, Abs, Comm
 use Rattle.link_graph.specs.Object.{is_common, is_passed, is_global, graph_flags, graph_symbol, graph_symbols}
 use Rattle.session_model.specs.Change.{is_strong}
 use Rattle.orc_cli.specs.Form.{is_plain, is_placed}
-use Rattle.session_run.specs.Lone.{all_live, IsLone}
+use Rattle.session_run.specs.Lone.{all_live, AreStrong, IsLone}
 use Rattle.orc_cli.specs.Unit.{all_kept, lone_layout, lone_refusal}
-use Rattle.session_core.specs.Strong.{AreStrong}
 use Rattle.orc_cli.proofs.Alone.{plain_is_alone, plain_trimmed}
 use Rattle.session_model.specs.Meaning.{IsLawful}
 use Rattle.link_graph.specs.Object.{graph_of_parts}

@@ -6,10 +6,10 @@ ghost use Rattle.orc_cli.specs.Outcomes.{IsSilent};
 use crate::answer::Answer;
 use crate::running::{Found, run_object};
 use crate::words::{RunWords, read_command};
+use execution_session::JOURNAL_LIMIT;
 use orc_ids::Bytes;
 use orc_io::{FileError, Files};
 use orc_names::NameHasher;
-use session_core::JOURNAL_LIMIT;
 use std::alloc::Global;
 use std::rc::RcStr;
 

@@ -25,8 +25,8 @@ mod words;
 mod writing;
 
 pub use answer::{Answer, ObjectWhy};
+pub use execution_session::JOURNAL_LIMIT;
 pub use notes::{Noted, Notes};
-pub use session_core::JOURNAL_LIMIT;
 pub use texts::end_line;
 pub use top::{Ended, orc, orc_sized};
 pub use words::{FUEL_LIMIT, RunWords, UsageKind, read_command};

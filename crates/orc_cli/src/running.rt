@@ -2,18 +2,19 @@ ghost use Rattle.std.specs.Prelude.{◌≡◌, ◌≤◌, [], IfOk};
 ghost use Rattle.orc_cli.specs.Words.{request};
 ghost use Rattle.orc_cli.specs.Outcomes.{IsSilent, answer_of};
 ghost use Rattle.orc_cli.specs.Answered.{IsOfBytes};
-ghost use Rattle.orc_cli.specs.Carried.{IsCarried, AreGiven, IsRunOf};
+ghost use Rattle.orc_cli.specs.Carried.{IsCarried, AreGiven, IsDriven, IsRunOf};
 
 use crate::answer::{Answer, ObjectWhy};
 use crate::unit::{LinkError, Prepared, prepare};
 use crate::words::RunWords;
 use elf_read::{ElfError, read_object};
 use exec_run::{Ran, RunEnd, run};
+use execution_session::{JOURNAL_LIMIT, Session};
 use journal_text::text_of;
 use object_unit::ObjectUnit;
 use orc_ids::{Bytes, Stop};
+use orc_io::Note;
 use orc_names::NameHasher;
-use session_core::{JOURNAL_LIMIT, Session};
 use session_run::Looked;
 use std::alloc::{AllocError, Global};
 
@@ -48,6 +49,39 @@ pub fn run_object<const JMAX: usize>(
     }
 }
 
+/// How a run went through its session: what its lookup found, and the text of the journal.
+#[derive(Drop)]
+struct Driven {
+    looked: Result<Looked, Stop>,
+    journal: Bytes,
+}
+
+/// Gives up a session, with the notifiers that nobody was told by.
+fn end_session<const JMAX: usize>(session: Session<ObjectUnit, Note, JMAX>) {
+    let mut session = session;
+    while let Some(armed) = session.give_back() {
+        let _object = armed.back();
+    }
+    session.end();
+}
+
+/// Carries a run through a session of its own.
+fn drive<const JMAX: usize>(alloc: Global, prepared: &Prepared) -> Result<Driven, AllocError>
+    requires limit { JMAX ≤ JOURNAL_LIMIT }
+    requires fits { IsCarried prepared.now.run }
+    requires known { AreGiven prepared.now.names prepared.now.run }
+    ensures { IfOk result (λ d. IsDriven JMAX prepared.now.names prepared.now.run d.looked d.journal) }
+{
+    let mut session = Session::<ObjectUnit, Note, JMAX>::open(alloc)?;
+    let looked = prepared.run.lookup(alloc, &mut session);
+    let journal = text_of(alloc, session.journal(), &prepared.names);
+    end_session(session);
+    Ok(Driven {
+        looked,
+        journal: journal?,
+    })
+}
+
 /// Carries a run through a session, and runs what it found.
 fn run_prepared<const JMAX: usize>(
     alloc: Global,
@@ -59,9 +93,7 @@ fn run_prepared<const JMAX: usize>(
     requires known { AreGiven prepared.now.names prepared.now.run }
     ensures { IfOk result (λ f. IsRunOf JMAX prepared.now.names prepared.now.run (request words.now) f.answer f.output f.journal) }
 {
-    let mut session = Session::<ObjectUnit, JMAX>::open(alloc)?;
-    let looked = prepared.run.lookup(alloc, &mut session);
-    let journal = text_of(alloc, session.journal(), &prepared.names)?;
+    let Driven { looked, journal } = drive::<JMAX>(alloc, prepared)?;
     match looked {
         Ok(Looked::Missing) => Ok(Found {
             answer: Answer::Missing(Bytes::copy_of(alloc, words.entry.as_bytes())?),

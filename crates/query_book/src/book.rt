@@ -14,12 +14,12 @@ use std::alloc::{AllocError, Global};
 use std::marker::Model;
 
 /// The queries of a session, with their ends and notifiers; it must be spent.
-pub struct Book<N: Notify + Send> {
+pub struct Book<N: Notify> {
     rows: Rows<N>,
     board: Board,
 }
 
-impl<N: Notify + Send> Model for Book<N> {
+impl<N: Notify> Model for Book<N> {
     ghost use Rattle.query_book.specs.Ledger.{Ledger};
 
     ghost Value = { Ledger N };
@@ -31,7 +31,7 @@ impl<N: Notify + Send> Model for Book<N> {
     ghost invariant = { λ b. IsKept b.rows b.board };
 }
 
-impl<N: Notify + Send> Book<N> {
+impl<N: Notify> Book<N> {
     /// No queries; takes no memory.
     pub fn new(alloc: Global) -> Book<N>
         ensures { result ≡ nobody }

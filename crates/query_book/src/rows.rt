@@ -27,7 +27,7 @@ pub(crate) enum State {
 }
 
 /// The queries by number, with their ends and notifiers; they must be spent.
-pub(crate) struct Rows<N: Notify + Send> {
+pub(crate) struct Rows<N: Notify> {
     alloc: Global,
     queries: Vec<Query>,
     states: Vec<State>,
@@ -37,7 +37,7 @@ pub(crate) struct Rows<N: Notify + Send> {
     due: VecDeque<UnitId>,
 }
 
-impl<N: Notify + Send> Model for Rows<N> {
+impl<N: Notify> Model for Rows<N> {
     ghost use Rattle.std.specs.Prelude.{map};
     ghost use Rattle.std.specs.VecDeque.{deque_len, deque_capacity};
     ghost use Rattle.query_book.specs.Rows.{Account};
@@ -99,7 +99,7 @@ fn add_due(due: &mut VecDeque<UnitId>, q: &Query)
 }
 
 /// The notifier of an ended query, if it has one, is to be told.
-fn fire<N: Notify + Send>(armed: &mut Option<Armed<N>>, outcome: Outcome, fires: &mut Fires<N>)
+fn fire<N: Notify>(armed: &mut Option<Armed<N>>, outcome: Outcome, fires: &mut Fires<N>)
     ensures armed { armed.new ≡ None }
     ensures fires { fires.new ≡ fires.old ++ notices armed.old outcome }
 {
@@ -109,10 +109,7 @@ fn fire<N: Notify + Send>(armed: &mut Option<Armed<N>>, outcome: Outcome, fires:
 }
 
 /// Takes out the first notifier, and moves the number below which there is none past it.
-fn take_first<N: Notify + Send>(
-    armed: &mut Vec<Option<Armed<N>>>,
-    unarmed: &mut usize,
-) -> Option<Armed<N>>
+fn take_first<N: Notify>(armed: &mut Vec<Option<Armed<N>>>, unarmed: &mut usize) -> Option<Armed<N>>
     requires below { NoneBefore unarmed.old armed.old.items }
     requires within { unarmed.old ≤ length armed.old.items }
     ensures first { result ≡ first_armed armed.old.items }
@@ -131,7 +128,7 @@ fn take_first<N: Notify + Send>(
 }
 
 /// Gives up a notifier that was never told.
-fn let_go<N: Notify + Send>(armed: Option<Armed<N>>) {
+fn let_go<N: Notify>(armed: Option<Armed<N>>) {
     match armed {
         Some(armed) => {
             let _object = armed.back();
@@ -140,7 +137,7 @@ fn let_go<N: Notify + Send>(armed: Option<Armed<N>>) {
     }
 }
 
-impl<N: Notify + Send> Rows<N> {
+impl<N: Notify> Rows<N> {
     /// No queries; takes no memory.
     pub(crate) fn new(alloc: Global) -> Rows<N>
         ensures { result ≡ nobody }

@@ -16,7 +16,7 @@ use session_parts::Parts;
 use std::alloc::AllocError;
 
 /// What each name of an ask matches in its order, or why it is refused.
-pub fn match_ask<U: UnitKind, N: Notify + Send>(
+pub fn match_ask<U: UnitKind, N: Notify>(
     parts: &Parts<U, N>,
     order: &[OrderItem],
     wanted: &[Wanted],

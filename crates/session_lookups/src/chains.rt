@@ -51,7 +51,7 @@ fn awaited<U: UnitKind>(unit: &Unit<U>) -> Option<QueryId>
 }
 
 /// The next instance of a chain.
-fn next_instance<U: UnitKind, N: Notify + Send>(parts: &Parts<U, N>, i: InstId) -> Option<InstId>
+fn next_instance<U: UnitKind, N: Notify>(parts: &Parts<U, N>, i: InstId) -> Option<InstId>
     ensures { TellsNext U.meaning parts.now i result }
 {
     let unit = unit_of(parts.graph.rows(), &parts.units, i)?;
@@ -60,11 +60,7 @@ fn next_instance<U: UnitKind, N: Notify + Send>(parts: &Parts<U, N>, i: InstId) 
 }
 
 /// Whether the chain from an instance comes to one of the unit.
-fn comes_to_unit<U: UnitKind, N: Notify + Send>(
-    parts: &Parts<U, N>,
-    u: UnitId,
-    from: InstId,
-) -> bool
+fn comes_to_unit<U: UnitKind, N: Notify>(parts: &Parts<U, N>, u: UnitId, from: InstId) -> bool
     ensures { TellsComing U.meaning parts.now u from result }
 {
     let rows = parts.graph.rows();
@@ -82,7 +78,7 @@ fn comes_to_unit<U: UnitKind, N: Notify + Send>(
 }
 
 /// The instance that the target of an alias matched, where the alias is what it stands for.
-pub(crate) fn alias_cycle<U: UnitKind, N: Notify + Send>(
+pub(crate) fn alias_cycle<U: UnitKind, N: Notify>(
     parts: &Parts<U, N>,
     u: UnitId,
     found: &[Option<InstId>],

@@ -35,7 +35,7 @@ fn externals_of<U: UnitKind>(
 }
 
 /// What names match in an order of dylibs, or why they can't be asked for.
-fn search<U: UnitKind, N: Notify + Send>(
+fn search<U: UnitKind, N: Notify>(
     parts: &Parts<U, N>,
     order: &[OrderItem],
     wanted: &[Wanted],
@@ -48,11 +48,7 @@ fn search<U: UnitKind, N: Notify + Send>(
 }
 
 /// What an alias matched, unless it stands for itself.
-fn unless_cycle<U: UnitKind, N: Notify + Send>(
-    parts: &Parts<U, N>,
-    u: UnitId,
-    found: Matched,
-) -> Looked
+fn unless_cycle<U: UnitKind, N: Notify>(parts: &Parts<U, N>, u: UnitId, found: Matched) -> Looked
     ensures { TellsUnless U.meaning parts.now u found result }
 {
     match alias_cycle(parts, u, found.as_slice()) {
@@ -62,11 +58,7 @@ fn unless_cycle<U: UnitKind, N: Notify + Send>(
 }
 
 /// What the lookup of an alias comes to, unless it stands for itself.
-fn without_cycle<U: UnitKind, N: Notify + Send>(
-    parts: &Parts<U, N>,
-    u: UnitId,
-    looked: Looked,
-) -> Looked
+fn without_cycle<U: UnitKind, N: Notify>(parts: &Parts<U, N>, u: UnitId, looked: Looked) -> Looked
     ensures { TellsUncycled U.meaning parts.now u looked result }
 {
     match looked {
@@ -76,7 +68,7 @@ fn without_cycle<U: UnitKind, N: Notify + Send>(
 }
 
 /// What an alias matches in its source.
-fn search_alias<U: UnitKind, N: Notify + Send>(
+fn search_alias<U: UnitKind, N: Notify>(
     parts: &Parts<U, N>,
     u: UnitId,
     source: DylibId,
@@ -95,7 +87,7 @@ fn search_alias<U: UnitKind, N: Notify + Send>(
 
 /// What the externals of a unit match in its link order, or why it can't be linked. An alias looks its
 /// target up in its source alone.
-pub fn match_link<U: UnitKind, N: Notify + Send>(
+pub fn match_link<U: UnitKind, N: Notify>(
     parts: &Parts<U, N>,
     u: UnitId,
 ) -> Result<Looked, AllocError>

@@ -42,7 +42,7 @@ fn all_at(graph: &InstanceGraph, level: Level, matched: &[Option<InstId>]) -> bo
 
 /// The answer to a lookup that matched these: a query of the next number, which is done if all of them are
 /// at its level already. Takes no memory.
-pub fn lodged_reply<U: UnitKind, N: Notify + Send>(
+pub fn lodged_reply<U: UnitKind, N: Notify>(
     parts: &Parts<U, N>,
     level: Level,
     found: &[Option<InstId>],

@@ -34,7 +34,7 @@ impl<'a, U: UnitKind> Model for Shown<'a, U> {
 }
 
 impl<'a, U: UnitKind> Shown<'a, U> {
-    pub(crate) fn of<N: Notify + Send>(parts: &'a Parts<U, N>) -> Shown<'a, U>
+    pub(crate) fn of<N: Notify>(parts: &'a Parts<U, N>) -> Shown<'a, U>
         requires { (m : Plain) × AreParts U.meaning parts.now m }
         ensures { result ≡ sight_of parts.now }
     {

@@ -13,7 +13,7 @@ use orc_ids::{InstId, UnitId};
 use orc_io::Notify;
 use session_model::UnitKind;
 
-impl<U: UnitKind, N: Notify + Send> Parts<U, N> {
+impl<U: UnitKind, N: Notify> Parts<U, N> {
     /// A lookup asks for the unit, as the first.
     fn claim(&mut self, u: UnitId)
         requires { (m : Plain) × (x : UnitRow) × AreParts U.meaning self.old m × (slice_get m.units u.0 ≡ Some x) × (x.phase ≡ stage.Unclaimed) }

@@ -103,7 +103,7 @@ fn exchange(
     (graph.rows().len() - before) as u32
 }
 
-impl<U: UnitKind, N: Notify + Send> Parts<U, N> {
+impl<U: UnitKind, N: Notify> Parts<U, N> {
     /// Makes the room for the unit everywhere, and gives the names that it offers.
     fn make_room(&mut self, t: TrackId, unit: &U) -> Result<Vec<(NameId, SymFlags)>, AllocError>
         requires { IsSome (owned_by self.old.trackers t) }

@@ -20,7 +20,7 @@ use session_model::{Matched, Query, UnitKind};
 use std::alloc::{AllocError, Global};
 
 /// The note of a notifier, if there is one.
-pub fn note_of<N: Notify + Send>(then: &Option<Armed<N>>) -> Option<u32>
+pub fn note_of<N: Notify>(then: &Option<Armed<N>>) -> Option<u32>
     ensures { result ≡ note_of then.now }
 {
     match then {
@@ -30,7 +30,7 @@ pub fn note_of<N: Notify + Send>(then: &Option<Armed<N>>) -> Option<u32>
 }
 
 /// Gives up a place for a notifier that holds none.
-fn end_nobody<N: Notify + Send>(nobody: Option<Armed<N>>) {
+fn end_nobody<N: Notify>(nobody: Option<Armed<N>>) {
     match nobody {
         Some(armed) => {
             let _object = armed.back();
@@ -49,7 +49,7 @@ fn copy_matched(
     matched.to_vec(alloc)
 }
 
-impl<U: UnitKind, N: Notify + Send> Parts<U, N> {
+impl<U: UnitKind, N: Notify> Parts<U, N> {
     /// The book has one query more; a refusal leaves the notifier where it was.
     fn lodge(&mut self, q: Query, then: &mut Option<Armed<N>>) -> Result<(), AllocError>
         requires { length self.old.book.queries + 1 < 2 ^ 32 }

@@ -16,7 +16,7 @@ use session_model::UnitKind;
 use std::alloc::AllocError;
 use tracker::TrackError;
 
-impl<U: UnitKind, N: Notify + Send> Parts<U, N> {
+impl<U: UnitKind, N: Notify> Parts<U, N> {
     /// There is one dylib more.
     pub fn make_dylib(&mut self, name: NameId) -> Result<(), AllocError>
         ghost m: { Plain }

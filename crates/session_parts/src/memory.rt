@@ -39,7 +39,7 @@ pub(crate) fn free<U: UnitKind>(units: &Units<U>, space: &mut Space, u: UnitId)
     }
 }
 
-impl<U: UnitKind, N: Notify + Send> Parts<U, N> {
+impl<U: UnitKind, N: Notify> Parts<U, N> {
     /// The unit gets the lowest free range of this shape.
     pub fn place(&mut self, u: UnitId, shape: Shape) -> Result<u64, SpaceError>
         ghost m: { Plain }

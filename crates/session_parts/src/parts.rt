@@ -16,7 +16,7 @@ use std::alloc::Global;
 use tracker::Trackers;
 
 /// What a session keeps; it must be spent, for its notifiers.
-pub struct Parts<U: UnitKind, N: Notify + Send> {
+pub struct Parts<U: UnitKind, N: Notify> {
     pub alloc: Global,
     pub dylibs: Dylibs,
     pub graph: InstanceGraph,
@@ -27,7 +27,7 @@ pub struct Parts<U: UnitKind, N: Notify + Send> {
     pub book: Book<N>,
 }
 
-impl<U: UnitKind, N: Notify + Send> Parts<U, N> {
+impl<U: UnitKind, N: Notify> Parts<U, N> {
     /// The parts of a session before its first entry; takes no memory.
     pub fn new(alloc: Global) -> Parts<U, N>
         ensures parts { AreParts U.meaning result empty }

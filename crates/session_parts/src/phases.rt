@@ -13,7 +13,7 @@ use orc_ids::{QueryId, SeatNo, UnitId};
 use orc_io::Notify;
 use session_model::{Matches, UnitKind};
 
-impl<U: UnitKind, N: Notify + Send> Parts<U, N> {
+impl<U: UnitKind, N: Notify> Parts<U, N> {
     /// The seat takes the unit's job Start, which is the oldest.
     pub fn start(&mut self, s: SeatNo, u: UnitId)
         ghost m: { Plain }

@@ -108,7 +108,7 @@ fn spend_all<U: UnitKind>(generators: &mut Generators<U>, gone: &LinkedList<GenI
     }
 }
 
-impl<U: UnitKind, N: Notify + Send> Parts<U, N> {
+impl<U: UnitKind, N: Notify> Parts<U, N> {
     /// All that the tracker has goes: its units with their names, jobs and ranges, and its generators. It
     /// costs what it has, and a look at each job. Takes no memory.
     pub fn remove(&mut self, t: TrackId)

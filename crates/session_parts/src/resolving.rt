@@ -58,7 +58,7 @@ fn go_on<U>(units: &mut Units<U>, u: UnitId, target: Option<u64>)
     }
 }
 
-impl<U: UnitKind, N: Notify + Send> Parts<U, N> {
+impl<U: UnitKind, N: Notify> Parts<U, N> {
     /// Each instance of the unit gets its address, which an alias has of its target. Takes no memory.
     pub fn resolve(&mut self, u: UnitId)
         ghost m: { Plain }

@@ -17,7 +17,7 @@ use orc_ids::UnitId;
 use orc_io::Notify;
 use session_model::{UnitKind, UnitPhase};
 
-impl<U: UnitKind, N: Notify + Send> Parts<U, N> {
+impl<U: UnitKind, N: Notify> Parts<U, N> {
     /// The Finish of a unit that waited is listed.
     fn list_finish(&mut self, u: UnitId)
         requires { (m : Plain) × (x : UnitRow) × AreParts U.meaning self.old m × (slice_get m.units u.0 ≡ Some x) × (x.phase ≡ stage.Waiting) }

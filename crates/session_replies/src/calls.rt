@@ -152,7 +152,7 @@ fn turned_by<U: UnitKind>(units: &Units<U>, s: SeatNo, u: UnitId, call: Call) ->
 
 /// The answer of the seat's call where it isn't right: the unit is gone, or it isn't at the phase of the
 /// call or not held by the seat.
-pub fn turn_away<U: UnitKind, N: Notify + Send>(
+pub fn turn_away<U: UnitKind, N: Notify>(
     parts: &Parts<U, N>,
     s: SeatNo,
     u: UnitId,

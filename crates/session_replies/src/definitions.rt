@@ -51,7 +51,7 @@ fn unusable<U: UnitKind>(generators: &Generators<U>, g: GenId) -> Option<Reply>
 }
 
 /// Whether the session has no room for one more unit, which offers so many names.
-pub fn lacks_room<U: UnitKind, N: Notify + Send>(parts: &Parts<U, N>, count: u32) -> bool
+pub fn lacks_room<U: UnitKind, N: Notify>(parts: &Parts<U, N>, count: u32) -> bool
     ghost m: { Plain }
     requires parts { AreParts U.meaning parts.now m }
     ensures { result ≡ (nat_le UNIT_LIMIT (length m.units) || nat_lt INSTANCE_LIMIT (length m.rows + count)) }
@@ -60,7 +60,7 @@ pub fn lacks_room<U: UnitKind, N: Notify + Send>(parts: &Parts<U, N>, count: u32
 }
 
 /// Why no unit is attached to the dylib as a generator, if none is.
-pub fn refuse_attach<U: UnitKind, N: Notify + Send>(
+pub fn refuse_attach<U: UnitKind, N: Notify>(
     parts: &Parts<U, N>,
     d: DylibId,
     t: TrackId,
@@ -77,7 +77,7 @@ pub fn refuse_attach<U: UnitKind, N: Notify + Send>(
 
 /// Why no unit that offers so many names is defined in the dylib, whatever the names are. Where this
 /// answers none, a unit is refused for a name that clashes alone.
-pub fn refuse_define<U: UnitKind, N: Notify + Send>(
+pub fn refuse_define<U: UnitKind, N: Notify>(
     parts: &Parts<U, N>,
     d: DylibId,
     t: TrackId,
@@ -94,10 +94,7 @@ pub fn refuse_define<U: UnitKind, N: Notify + Send>(
 }
 
 /// Why the generator's unit isn't defined, whatever the names are that it offers.
-pub fn refuse_generate<U: UnitKind, N: Notify + Send>(
-    parts: &Parts<U, N>,
-    g: GenId,
-) -> Option<Reply>
+pub fn refuse_generate<U: UnitKind, N: Notify>(parts: &Parts<U, N>, g: GenId) -> Option<Reply>
     ghost m: { Plain }
     requires parts { AreParts U.meaning parts.now m }
     ensures refused { IfSome result (Refuses m (event.Generate g)) }

@@ -62,10 +62,7 @@ pub(crate) fn too_many(count: usize, limit: usize) -> Option<Reply>
 }
 
 /// Why no dylib of this name is made, if none is.
-pub fn refuse_dylib<U: UnitKind, N: Notify + Send>(
-    parts: &Parts<U, N>,
-    name: NameId,
-) -> Option<Reply>
+pub fn refuse_dylib<U: UnitKind, N: Notify>(parts: &Parts<U, N>, name: NameId) -> Option<Reply>
     ghost m: { Plain }
     requires parts { AreParts U.meaning parts.now m }
     ensures refused { IfSome result (Refuses m (event.Dylib name)) }
@@ -75,7 +72,7 @@ pub fn refuse_dylib<U: UnitKind, N: Notify + Send>(
 }
 
 /// Why the dylib isn't given this link order, if it isn't.
-pub fn refuse_order<U: UnitKind, N: Notify + Send>(
+pub fn refuse_order<U: UnitKind, N: Notify>(
     parts: &Parts<U, N>,
     d: DylibId,
     order: &[OrderItem],

@@ -59,7 +59,7 @@ fn first_bad(rows: &[InstRow], groups: &[Group]) -> Option<Reply>
 }
 
 /// The answer BadDep for the first dependency, in group order, that can't be depended on.
-pub fn bad_dependency<U: UnitKind, N: Notify + Send>(
+pub fn bad_dependency<U: UnitKind, N: Notify>(
     parts: &Parts<U, N>,
     groups: &[Group],
 ) -> Option<Reply>

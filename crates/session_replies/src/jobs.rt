@@ -9,7 +9,7 @@ use session_model::{Job, UnitKind};
 use session_parts::Parts;
 
 /// How many units a seat holds.
-pub fn kept<U: UnitKind, N: Notify + Send>(parts: &Parts<U, N>) -> u32
+pub fn kept<U: UnitKind, N: Notify>(parts: &Parts<U, N>) -> u32
     ghost m: { Plain }
     requires parts { AreParts U.meaning parts.now m }
     ensures { result ≡ kept m }
@@ -18,7 +18,7 @@ pub fn kept<U: UnitKind, N: Notify + Send>(parts: &Parts<U, N>) -> u32
 }
 
 /// The oldest job that is listed.
-pub fn first_job<U: UnitKind, N: Notify + Send>(parts: &Parts<U, N>) -> Option<Job>
+pub fn first_job<U: UnitKind, N: Notify>(parts: &Parts<U, N>) -> Option<Job>
     ghost m: { Plain }
     requires parts { AreParts U.meaning parts.now m }
     ensures { result ≡ slice_get m.jobs 0 }

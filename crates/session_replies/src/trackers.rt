@@ -59,10 +59,7 @@ fn other_dylib(trackers: &Trackers, t: TrackId, to: TrackId) -> Option<Reply>
 }
 
 /// Why no tracker of the dylib is made, if none is.
-pub fn refuse_tracker<U: UnitKind, N: Notify + Send>(
-    parts: &Parts<U, N>,
-    d: DylibId,
-) -> Option<Reply>
+pub fn refuse_tracker<U: UnitKind, N: Notify>(parts: &Parts<U, N>, d: DylibId) -> Option<Reply>
     ghost m: { Plain }
     requires parts { AreParts U.meaning parts.now m }
     ensures refused { IfSome result (Refuses m (event.Tracker d)) }
@@ -72,7 +69,7 @@ pub fn refuse_tracker<U: UnitKind, N: Notify + Send>(
 }
 
 /// Why what the first tracker has doesn't become the second's, if it doesn't.
-pub fn refuse_move<U: UnitKind, N: Notify + Send>(
+pub fn refuse_move<U: UnitKind, N: Notify>(
     parts: &Parts<U, N>,
     t: TrackId,
     to: TrackId,
@@ -88,10 +85,7 @@ pub fn refuse_move<U: UnitKind, N: Notify + Send>(
 }
 
 /// Why the tracker isn't removed, if it isn't.
-pub fn refuse_remove<U: UnitKind, N: Notify + Send>(
-    parts: &Parts<U, N>,
-    t: TrackId,
-) -> Option<Reply>
+pub fn refuse_remove<U: UnitKind, N: Notify>(parts: &Parts<U, N>, t: TrackId) -> Option<Reply>
     ghost m: { Plain }
     requires parts { AreParts U.meaning parts.now m }
     ensures refused { IfSome result (Refuses m (event.Remove t)) }

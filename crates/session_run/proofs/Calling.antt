@@ -21,7 +21,7 @@ use Rattle.session_model.specs.declared.entry.Event.TheVariants as event
 use Rattle.session_model.specs.declared.entry.Finishing.TheVariants.{Bound}
 use Rattle.session_model.specs.declared.entry.Reply.TheVariants as reply
 use Rattle.session_run.specs.Lone.{all_live, IsLone}
-use Rattle.session_core.specs.Given.{IsLowest}
+use Rattle.execution_session.specs.Handed.{IsLowest}
 use Rattle.session_run.specs.Run.{lookup_of, IsRun, PlacesLowest}
 use Rattle.session_run.specs.Whole.{said, so_far, setup_entries, found_entries, instances_from, whole_run, offer_named, client_entries}
 use Rattle.session_run.specs.Stages.{entry_query}

@@ -1,5 +1,5 @@
 -- Each call of a run has one right reply, and a journal of 12 entries has its place.
-use Rattle.std.proofs.Common.{◌≡◌, ℕ, ◌≤◌, Bool, true, false, cond, ◌&&◌, List, [], ◌∷◌, length, slice_get, refl, sym, ap, subst, ◌∙◌, arith, Some, None, unwrap_or, is_some}
+use Rattle.std.proofs.Common.{◌≡◌, ℕ, ◌≤◌, Bool, true, false, cond, List, [], ◌∷◌, length, slice_get, refl, sym, ap, subst, ◌∙◌, arith, Some, None, unwrap_or, is_some}
 use Rattle.std.specs.Prelude.{count_by}
 use Rattle.std.proofs.lemmas.Bool.{both_ways}
 use Rattle.orc_ids.specs.declared.ids.NameId.{NameId}
@@ -9,7 +9,7 @@ use Rattle.session_model.specs.Plain.{Plain, UnitRow}
 use Rattle.session_model.specs.State.{state, IsOpen, IsEnd}
 use Rattle.session_model.specs.Query.{is_met}
 use Rattle.session_model.specs.Calls.{lookup_event}
-use Rattle.session_model.specs.Answer.{Answers, AnswersCall, AnswersPlace, can_place, AnswersFinish, AnswersCollect, Called, Right, Wrong, called, is_stage}
+use Rattle.session_model.specs.Answer.{Answers, AnswersCall, AnswersPlace, can_place, AnswersFinish, AnswersCollect, Called, Right, Wrong, called}
 use Rattle.session_model.specs.Plain.{unit_shape}
 use Rattle.orc_ids.specs.declared.limits.TheConstants.{CODE_START}
 use Rattle.session_model.specs.declared.entry.Entry.{Entry}
@@ -22,7 +22,7 @@ use Rattle.session_model.specs.declared.rows.Ending.TheVariants.{Found}
 use Rattle.session_model.specs.declared.rows.UnitPhase.TheVariants as stage
 use Rattle.session_laws.specs.Replies.{is_placed}
 use Rattle.session_laws.proofs.Choosing.{reply_is_determined}
-use Rattle.session_core.specs.Given.{IsLowest}
+use Rattle.execution_session.specs.Handed.{IsLowest}
 use Rattle.session_run.specs.Lone.{all_live, IsLone}
 use Rattle.session_run.specs.Run.{lookup_of}
 use Rattle.session_run.specs.Whole.{said, so_far, made_entries, setup_entries, instances_from, offer_named}

@@ -35,10 +35,12 @@ use Rattle.code_memory.specs.Mapped.{byte_at}
 use Rattle.code_memory.specs.declared.image.Segment.{Segment}
 use Rattle.object_unit.specs.declared.unit.ObjectUnit.{ObjectUnit}
 use Rattle.object_unit.specs.Units.{meaning_of}
-use Rattle.session_core.specs.Given.{IsLowest, IsFinish, IsUnitOf, GivesUnit, IsCopied}
-use Rattle.session_core.specs.Performs.{Performs, Takes, Collects, state_of}
-use Rattle.session_core.specs.Replies.{may_place, may_emit}
-use Rattle.session_core.specs.declared.taken.TakenUnit.{TakenUnit}
+use Rattle.execution_session.specs.Handed.{IsLowest, IsCopied}
+use Rattle.execution_session.specs.Finish.{IsFinish}
+use Rattle.execution_session.specs.Taken.{IsUnitOf, GivesUnit}
+use Rattle.execution_session.specs.Performs.{Performs, Takes, Collects, state_of}
+use Rattle.session_model.specs.Answer.{can_place, can_emit}
+use Rattle.execution_session.specs.declared.jobs.TakenUnit.{TakenUnit}
 use Rattle.session_run.specs.Drive.{its_shape, unit_of, IsLoneRun, journal_of, entry_match, is_offered, ask_reply, IsAt, IsStopped, Went, Gives, HasLooked, HasFound}
 use Rattle.session_run.specs.Halts.{WentOn, HasNoPlace}
 use Rattle.session_run.specs.Lone.{all_live, IsLone}
@@ -161,12 +163,12 @@ right_is x y true refl_is = unit_in x y refl_is
 right_is x y false e = absurd cc
 
 pub place_allowed : (run : Run) (old : List (Entry ObjectUnit)) (shape : Shape) → IsLoneRun run → is_offered run ≡ true → shape ≡ its_shape (unit_of run) → IsAt 5 run old →
-    (x : UnitRow) → called (state_of meaning_of old) 1 (record { 0 = 0 }) may_place ≡ Right x → unit_shape x ≡ Some shape
+    (x : UnitRow) → called (state_of meaning_of old) 1 (record { 0 = 0 }) can_place ≡ Right x → unit_shape x ≡ Some shape
 place_allowed run old shape l o is at x c =
     let i = there_is (entry_match run) o in
     let f = found_at run.main run.entry (unit_of run) i.0 i.1 in
     let s = in_session run old (so_far 5 (unit_of run) (its_shape (unit_of run)) run.main run.entry i.0) (started run.main (unit_of run) i.0) (is_so_far run i.0 5 old i.1 at) (state_5 (unit_of run) (its_shape (unit_of run)) run.main run.entry i.0 f) in
-    let here = right_is (record { meaning = unit_of run; tracker = 0; live = all_live (unit_of run); phase = stage.Started; seat = Some 1; base = None; query = None; bound = None }) x (is_some (if is_some (unit_of run).source then None else (unit_of run).shape (all_live (unit_of run)))) (ap (λ m. called m 1 (record { 0 = 0 }) may_place) (sym s) ∙ c) in
+    let here = right_is (record { meaning = unit_of run; tracker = 0; live = all_live (unit_of run); phase = stage.Started; seat = Some 1; base = None; query = None; bound = None }) x (is_some (if is_some (unit_of run).source then None else (unit_of run).shape (all_live (unit_of run)))) (ap (λ m. called m 1 (record { 0 = 0 }) can_place) (sym s) ∙ c) in
     ap unit_shape (sym here) ∙ (ap (λ (b : Bool). if b then None else (unit_of run).shape (all_live (unit_of run))) (ap is_some l.own) ∙ (l.shaped ∙ ap Some (sym is)))
 
 pub place_goes : (jmax : ℕ) (run : Run) (shape : Shape) (old new : List (Entry ObjectUnit)) (result : Result Reply Stop) → IsLoneRun run → is_offered run ≡ true → shape ≡ its_shape (unit_of run) → IsAt 5 run old → IfOk result (λ r. IsLowest (state_of meaning_of old) shape r) → Performs meaning_of jmax old new one_seat (event.Place (record { 0 = 0 }) shape) result → Went 5 6 jmax run new (reply.Placed CODE_START) result
@@ -188,12 +190,12 @@ link_goes jmax run old new result l o at p = let i = there_is (entry_match run) 
     went_link meaning_of jmax (unit_of run) (its_shape (unit_of run)) run.main run.entry i.0 old new result l i.1 at p
 
 pub emit_allowed : (run : Run) (old : List (Entry ObjectUnit)) (groups : List Group) (bytes : List ℕ) → IsLoneRun run → is_offered run ≡ true → groups ≡ (unit_of run).groups (all_live (unit_of run)) CODE_START [] (instances_from 0 (unit_of run).offers) → bytes ≡ (unit_of run).image (all_live (unit_of run)) CODE_START [] → IsAt 9 run old →
-    (x : UnitRow) → called (state_of meaning_of old) 1 (record { 0 = 0 }) may_emit ≡ Right x → IsFinish (state_of meaning_of old) (record { 0 = 0 }) x groups bytes
+    (x : UnitRow) → called (state_of meaning_of old) 1 (record { 0 = 0 }) can_emit ≡ Right x → IsFinish (state_of meaning_of old) (record { 0 = 0 }) x groups bytes
 emit_allowed run old groups bytes l o g b at x c =
     let i = there_is (entry_match run) o in
     let f = found_at run.main run.entry (unit_of run) i.0 i.1 in
     let s = in_session run old (so_far 9 (unit_of run) (its_shape (unit_of run)) run.main run.entry i.0) (finishing run.main (unit_of run) (its_shape (unit_of run)) i.0) (is_so_far run i.0 9 old i.1 at) (state_9 (unit_of run) (its_shape (unit_of run)) run.main run.entry i.0 f l) in
-    let here = right_is (record { meaning = unit_of run; tracker = 0; live = all_live (unit_of run); phase = stage.Finishing; seat = Some 1; base = Some CODE_START; query = Some 1; bound = Some [] }) x (not (is_some (unit_of run).source) || true) (ap (λ m. called m 1 (record { 0 = 0 }) may_emit) (sym s) ∙ c) in
+    let here = right_is (record { meaning = unit_of run; tracker = 0; live = all_live (unit_of run); phase = stage.Finishing; seat = Some 1; base = Some CODE_START; query = Some 1; bound = Some [] }) x (not (is_some (unit_of run).source) || true) (ap (λ m. called m 1 (record { 0 = 0 }) can_emit) (sym s) ∙ c) in
     subst (λ (y : UnitRow). IsFinish (state_of meaning_of old) (record { 0 = 0 }) y groups bytes) here record {
       groups_are = g ∙ sym (ap (λ own. (unit_of run).groups (all_live (unit_of run)) CODE_START [] own) (ap (λ (m : Plain). own_rows 0 0 m.rows) s ∙ rows_own (resolved (unit_of run)) 0 (unit_of run).offers));
       allowed = l.allowed;

@@ -1,5 +1,5 @@
 -- Each entry of a run has the right reply.
-use Rattle.std.proofs.Common.{◌≡◌, ℕ, zero, suc, ◌+◌, ◌<◌, ◌≤◌, Bool, true, false, cond, ◌&&◌, not, List, [], ◌∷◌, length, slice_get, refl, sym, ap, ap₂, subst, ◌∙◌, arith, Option, Some, None, is_some}
+use Rattle.std.proofs.Common.{◌≡◌, ℕ, zero, suc, ◌+◌, ◌<◌, ◌≤◌, Bool, true, false, cond, not, List, [], ◌∷◌, length, slice_get, refl, sym, ap, ap₂, subst, ◌∙◌, arith, Option, Some, None, is_some}
 use Rattle.std.specs.Prelude.{count_by, nat_lt, All, IfSome}
 use Rattle.orc_ids.specs.declared.ids.DylibId.{DylibId}
 use Rattle.std.specs.Option.{option_map_or}
@@ -8,8 +8,6 @@ use Rattle.std.proofs.lemmas.Bool.{le-ltb}
 use Rattle.orc_ids.specs.declared.flags.SymFlags.{SymFlags}
 use Rattle.orc_ids.specs.declared.ids.NameId.{NameId}
 use Rattle.orc_ids.specs.declared.ids.UnitId.{UnitId}
-use Rattle.orc_ids.specs.declared.lookup.Level.TheVariants.{Resolved}
-use Rattle.orc_ids.specs.declared.lookup.Scope.TheVariants.{All as AllScope}
 use Rattle.orc_ids.specs.declared.place.Shape.{Shape}
 use Rattle.session_model.specs.Lists.{first_some, only_if}
 use Rattle.session_model.specs.Meaning.{Meaning}
@@ -20,7 +18,7 @@ use Rattle.session_model.specs.State.{state, after, IsEnd}
 use Rattle.session_model.specs.Calls.{lookup_event}
 use Rattle.session_model.specs.Change as change
 use Rattle.session_model.specs.Match.{match_of}
-use Rattle.session_model.specs.Answer.{Answers, AnswersCall, AnswersPlace, HasSource, IsFree, can_place, Called, Right, Wrong, Apart, called, is_stage, first_reply, clash, answer_lookup}
+use Rattle.session_model.specs.Answer.{Answers, AnswersCall, AnswersPlace, HasSource, IsFree, can_place, Called, Right, Wrong, Apart, called, first_reply, clash}
 use Rattle.session_model.specs.Plain.{unit_shape}
 use Rattle.orc_ids.specs.declared.limits.TheConstants.{CODE_START}
 use Rattle.session_model.specs.declared.entry.Entry.{Entry}

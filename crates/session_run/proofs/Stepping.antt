@@ -12,7 +12,7 @@ use Rattle.session_model.specs.Answer.{Answers}
 use Rattle.session_model.specs.declared.entry.Entry.{Entry}
 use Rattle.session_model.specs.declared.entry.Event.{Event}
 use Rattle.session_model.specs.declared.entry.Reply.{Reply}
-use Rattle.session_core.specs.Performs.{Performs}
+use Rattle.execution_session.specs.Performs.{Performs}
 use Rattle.session_run.specs.Halts.{WentOn}
 use Rattle.session_run.specs.Whole.{said}
 

@@ -19,8 +19,8 @@ use Rattle.session_model.specs.declared.entry.Reply.{Reply}
 use Rattle.session_model.specs.declared.entry.Reply.TheVariants as reply
 use Rattle.session_model.specs.declared.rows.Job.{Job}
 use Rattle.session_model.specs.declared.rows.Job.TheVariants as job
-use Rattle.session_core.specs.Given.{IsLowest}
-use Rattle.session_core.specs.Performs.{Performs, Takes, Collects, HasOpen, state_of}
+use Rattle.execution_session.specs.Handed.{IsLowest}
+use Rattle.execution_session.specs.Performs.{Performs, Takes, Collects, HasOpen, state_of}
 use Rattle.session_run.specs.Halts.{WentOn}
 use Rattle.session_run.specs.Drive.{ask_reply}
 use Rattle.session_run.specs.Lone.{all_live, IsLone}

@@ -9,7 +9,7 @@ use Rattle.session_model.specs.declared.entry.Entry.{Entry}
 use Rattle.orc_ids.specs.declared.ids.NameId.{NameId}
 use Rattle.session_model.specs.declared.entry.Reply.{Reply}
 use Rattle.session_model.specs.declared.entry.Reply.TheVariants as reply
-use Rattle.session_core.specs.declared.taken.TakenUnit.{TakenUnit}
+use Rattle.execution_session.specs.declared.jobs.TakenUnit.{TakenUnit}
 use Rattle.object_unit.specs.declared.unit.ObjectUnit.{ObjectUnit}
 use Rattle.object_unit.specs.Units.{meaning_of, StandsAlone}
 use Rattle.session_run.specs.Halts.{IsHalted, WentOn}
@@ -19,7 +19,7 @@ use Rattle.code_memory.specs.Mapped.{byte_at}
 use Rattle.code_memory.specs.declared.image.Segment.{Segment}
 use Rattle.orc_ids.specs.declared.limits.TheConstants.{CODE_START}
 use Rattle.session_model.specs.Memory.{memory}
-use Rattle.session_core.specs.Performs.{state_of}
+use Rattle.execution_session.specs.Performs.{state_of}
 use Rattle.session_run.specs.declared.run.Run.{Run}
 use Rattle.session_run.specs.declared.run.Looked.{Looked}
 use Rattle.session_run.specs.declared.run.Looked.TheVariants.{Missing, Found}

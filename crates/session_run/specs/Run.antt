@@ -15,7 +15,7 @@ use Rattle.session_model.specs.declared.entry.Event.{Event}
 use Rattle.session_model.specs.declared.entry.Event.TheVariants as event
 use Rattle.session_model.specs.declared.entry.Reply.{Reply}
 use Rattle.session_model.specs.declared.entry.Reply.TheVariants as reply
-use Rattle.session_core.specs.Given.{IsLowest}
+use Rattle.execution_session.specs.Handed.{IsLowest}
 
 -- a dylib, a tracker of it, and the definition of the unit in it
 abbrev pub setup_events : NameId → Meaning → List (Event Meaning)

@@ -2,7 +2,7 @@ ghost use Rattle.std.specs.Prelude.{◌≡◌, [], ℕ, true, Some, IfOk, IfErr,
 ghost use Rattle.code_memory.specs.Mapped.{byte_at};
 ghost use Rattle.session_model.specs.Memory.{memory};
 ghost use Rattle.session_model.specs.State.{plain_history};
-ghost use Rattle.session_core.specs.Performs.{state_of};
+ghost use Rattle.execution_session.specs.Performs.{state_of};
 ghost use Rattle.orc_ids.specs.declared.limits.TheConstants.{CODE_START};
 ghost use Rattle.object_unit.specs.Units.{meaning_of, StandsAlone};
 ghost use Rattle.session_run.specs.Drive.{IsLoneRun, IsAloneRun, main_of, entry_of, IsAt, IsStopped, HasLooked, entry_match, is_offered, unit_of};
@@ -10,10 +10,11 @@ ghost use Rattle.session_run.specs.Lone.{all_live};
 ghost use Rattle.session_run.specs.Run.{IsRun, IsBegun};
 
 use code_memory::Image;
+use execution_session::{Imaged, Session, Taken};
 use fixups::FixError;
 use object_unit::{ObjectUnit, finish};
 use orc_ids::{Bytes, Groups, InstId, NameId, Stop};
-use session_core::{Imaged, Session, Taken};
+use orc_io::Note;
 use session_model::{Reply, UnitKind};
 use std::alloc::{AllocError, Global};
 
@@ -50,12 +51,12 @@ impl Run {
     fn set_up<const JMAX: usize>(
         &self,
         alloc: Global,
-        session: &mut Session<ObjectUnit, JMAX>,
+        session: &mut Session<ObjectUnit, Note, JMAX>,
     ) -> Result<(), Stop>
         requires lone { IsLoneRun self.now }
-        requires empty { session.old ≡ [] }
-        ensures ok { OnOk result (IsAt 3 self.now session.new) }
-        ensures stopped { IfErr result (λ stop. IsStopped JMAX self.now session.new stop) }
+        requires empty { session.old.journal ≡ [] }
+        ensures ok { OnOk result (IsAt 3 self.now session.new.journal) }
+        ensures stopped { IfErr result (λ stop. IsStopped JMAX self.now session.new.journal stop) }
     {
         self.make_dylib(session)?;
         self.make_tracker(session)?;
@@ -67,12 +68,15 @@ impl Run {
     }
 
     /// Asks for the entry; whether the unit offers it.
-    fn ask<const JMAX: usize>(&self, session: &mut Session<ObjectUnit, JMAX>) -> Result<bool, Stop>
+    fn ask<const JMAX: usize>(
+        &self,
+        session: &mut Session<ObjectUnit, Note, JMAX>,
+    ) -> Result<bool, Stop>
         requires lone { IsLoneRun self.now }
-        requires at { IsAt 3 self.now session.old }
-        ensures at { OnOk result (IsAt 4 self.now session.new) }
+        requires at { IsAt 3 self.now session.old.journal }
+        ensures at { OnOk result (IsAt 4 self.now session.new.journal) }
         ensures offered { IfOk result (λ offered. offered ≡ is_offered self.now) }
-        ensures stopped { IfErr result (λ stop. IsStopped JMAX self.now session.new stop) }
+        ensures stopped { IfErr result (λ stop. IsStopped JMAX self.now session.new.journal stop) }
     {
         match self.ask_entry(session)? {
             Reply::Pending(_) => Ok(true),
@@ -81,12 +85,15 @@ impl Run {
     }
 
     /// Does the unit's first job: it is placed, resolved and linked.
-    fn start<const JMAX: usize>(&self, session: &mut Session<ObjectUnit, JMAX>) -> Result<(), Stop>
+    fn start<const JMAX: usize>(
+        &self,
+        session: &mut Session<ObjectUnit, Note, JMAX>,
+    ) -> Result<(), Stop>
         requires lone { IsLoneRun self.now }
         requires offered { is_offered self.now ≡ true }
-        requires at { IsAt 4 self.now session.old }
-        ensures ok { OnOk result (IsAt 8 self.now session.new) }
-        ensures stopped { IfErr result (λ stop. IsStopped JMAX self.now session.new stop) }
+        requires at { IsAt 4 self.now session.old.journal }
+        ensures ok { OnOk result (IsAt 8 self.now session.new.journal) }
+        ensures stopped { IfErr result (λ stop. IsStopped JMAX self.now session.new.journal stop) }
     {
         let Taken { answer, unit } = self.take_start(session);
         answer?;
@@ -127,14 +134,14 @@ impl Run {
     fn finish<const JMAX: usize>(
         &self,
         alloc: Global,
-        session: &mut Session<ObjectUnit, JMAX>,
+        session: &mut Session<ObjectUnit, Note, JMAX>,
     ) -> Result<(), Stop>
         requires lone { IsLoneRun self.now }
         requires alone { IsAloneRun self.now }
         requires offered { is_offered self.now ≡ true }
-        requires at { IsAt 8 self.now session.old }
-        ensures ok { OnOk result (IsAt 10 self.now session.new) }
-        ensures stopped { IfErr result (λ stop. IsStopped JMAX self.now session.new stop) }
+        requires at { IsAt 8 self.now session.old.journal }
+        ensures ok { OnOk result (IsAt 10 self.now session.new.journal) }
+        ensures stopped { IfErr result (λ stop. IsStopped JMAX self.now session.new.journal stop) }
     {
         let Taken { answer, unit } = self.take_finish(session);
         answer?;
@@ -153,14 +160,14 @@ impl Run {
     /// The address that the lookup found.
     fn address<const JMAX: usize>(
         &self,
-        session: &mut Session<ObjectUnit, JMAX>,
+        session: &mut Session<ObjectUnit, Note, JMAX>,
     ) -> Result<u64, Stop>
         requires lone { IsLoneRun self.now }
         requires offered { is_offered self.now ≡ true }
-        requires at { IsAt 10 self.now session.old }
-        ensures ok { OnOk result (IsAt 11 self.now session.new) }
+        requires at { IsAt 10 self.now session.old.journal }
+        ensures ok { OnOk result (IsAt 11 self.now session.new.journal) }
         ensures address { IfOk result (λ address. (i : ℕ) → entry_match self.now ≡ Some i → address ≡ (unit_of self.now).address i CODE_START) }
-        ensures stopped { IfErr result (λ stop. IsStopped JMAX self.now session.new stop) }
+        ensures stopped { IfErr result (λ stop. IsStopped JMAX self.now session.new.journal stop) }
     {
         match self.collect(session)? {
             Reply::Found(_, matches) => match matches.as_slice() {
@@ -174,14 +181,14 @@ impl Run {
     /// A copy of the memory.
     fn memory<const JMAX: usize>(
         &self,
-        session: &mut Session<ObjectUnit, JMAX>,
+        session: &mut Session<ObjectUnit, Note, JMAX>,
     ) -> Result<Image, Stop>
         requires lone { IsLoneRun self.now }
         requires offered { is_offered self.now ≡ true }
-        requires at { IsAt 11 self.now session.old }
-        ensures ok { OnOk result (IsAt 12 self.now session.new) }
-        ensures copied { IfOk result (λ image. (at : ℕ) → byte_at image at ≡ memory (state_of meaning_of session.old) at) }
-        ensures stopped { IfErr result (λ stop. IsStopped JMAX self.now session.new stop) }
+        requires at { IsAt 11 self.now session.old.journal }
+        ensures ok { OnOk result (IsAt 12 self.now session.new.journal) }
+        ensures copied { IfOk result (λ image. (at : ℕ) → byte_at image at ≡ memory (state_of meaning_of session.old.journal) at) }
+        ensures stopped { IfErr result (λ stop. IsStopped JMAX self.now session.new.journal stop) }
     {
         let Imaged { answer, image } = self.image(session);
         answer?;
@@ -195,12 +202,12 @@ impl Run {
     fn carry<const JMAX: usize>(
         &self,
         alloc: Global,
-        session: &mut Session<ObjectUnit, JMAX>,
+        session: &mut Session<ObjectUnit, Note, JMAX>,
     ) -> Result<Looked, Stop>
         requires lone { IsLoneRun self.now }
         requires alone { IsAloneRun self.now }
-        requires empty { session.old ≡ [] }
-        ensures { HasLooked JMAX self.now session.new result }
+        requires empty { session.old.journal ≡ [] }
+        ensures { HasLooked JMAX self.now session.new.journal result }
     {
         self.set_up(alloc, session)?;
         if !self.ask(session)? {
@@ -220,14 +227,14 @@ impl Run {
     pub fn lookup<const JMAX: usize>(
         &self,
         alloc: Global,
-        session: &mut Session<ObjectUnit, JMAX>,
+        session: &mut Session<ObjectUnit, Note, JMAX>,
     ) -> Result<Looked, Stop>
         requires lone { IsLoneRun self.now }
         requires alone { IsAloneRun self.now }
-        requires empty { session.old ≡ [] }
-        ensures looked { HasLooked JMAX self.now session.new result }
-        ensures run { OnOk result (IsRun JMAX (unit_of self.now) self.now.main self.now.entry (plain_history meaning_of session.new)) }
-        ensures begun { OnErr result (IsBegun JMAX (unit_of self.now) self.now.main self.now.entry (plain_history meaning_of session.new)) }
+        requires empty { session.old.journal ≡ [] }
+        ensures looked { HasLooked JMAX self.now session.new.journal result }
+        ensures run { OnOk result (IsRun JMAX (unit_of self.now) self.now.main self.now.entry (plain_history meaning_of session.new.journal)) }
+        ensures begun { OnErr result (IsBegun JMAX (unit_of self.now) self.now.main self.now.entry (plain_history meaning_of session.new.journal)) }
     {
         self.carry(alloc, session)
     }

@@ -1,6 +1,9 @@
 -- Lists of entries: what the definitions of specs/Lists say of a list that grows.
-use Rattle.std.proofs.Common.{◌≡◌, ◌≢◌, ◌⊎◌, ℕ, zero, suc, ◌+◌, ◌<◌, ◌≤◌, List, [], ◌∷◌, ◌++◌, length, Bool, true, false, cond, eqb, refl, sym, ap, ◌∙◌, subst, ⊎_elim, inl, inr, arith, All, AllPairs, append-nil, append_assoc, eq-eqb, ne_eqb, nat_lt}
+use Rattle.std.proofs.Common.{◌≡◌, ◌≢◌, ◌⊎◌, ℕ, zero, suc, ◌+◌, ◌<◌, ◌≤◌, List, [], ◌∷◌, ◌++◌, length, Bool, true, false, cond, eqb, refl, sym, ap, ◌∙◌, subst, ⊎_elim, inl, inr, arith, All, AllPairs, append-nil, append_assoc, take, drop, eq-eqb, ne_eqb, nat_lt}
+use Rattle.std.proofs.lemmas.Bool.{ltb-true}
+use Rattle.std.proofs.lemmas.List.{append_cancel_left, take-append-drop, take-append-le}
 use Rattle.std.proofs.lemmas.List.Kept.{AllPairs-cons}
+use Rattle.std.proofs.Math.Seq.{take-append_seam}
 use Rattle.std.proofs.lemmas.List.Elements.{filter-append, All-append, All-cons, All-head, All-tail, All-nil}
 use mathlib.Core.Option.{some, some-ne-none, some-injective}
 use lib.ListN.{get_elem?}
@@ -69,17 +72,44 @@ module _ {E : Type 0} where
       by true = a
       by false = b
 
-  -- what begins with the longer and the shorter of two lists begins with both
-  pub starts_both : (log xs ys : List E) → StartsWith log (longer xs ys) → StartsWith log (shorter xs ys) → StartsWith log xs × StartsWith log ys
-  starts_both log xs ys = by (nat_lt (length xs) (length ys))
-    where
-      by : (c : Bool) → StartsWith log (cond c ys xs) → StartsWith log (cond c xs ys) → StartsWith log xs × StartsWith log ys
-      by true a b = (b, a)
-      by false a b = (a, b)
-
   pub entry_of_it : (seat_of : E → ℕ) (number : ℕ) (log : List E) (e : E) → seat_of e ≡ number → entries_of seat_of number (log ++ e ∷ []) ≡ entries_of seat_of number log ++ e ∷ []
   entry_of_it seat_of number log e is = filter-append (λ x. eqb (seat_of x) number) log (e ∷ []) ∙ ap (λ (c : Bool). entries_of seat_of number log ++ cond c (e ∷ []) []) (eq-eqb (seat_of e) number is)
 
   pub entry_of_other : (seat_of : E → ℕ) (number : ℕ) (log : List E) (e : E) → seat_of e ≢ number → entries_of seat_of number (log ++ e ∷ []) ≡ entries_of seat_of number log
   entry_of_other seat_of number log e other = filter-append (λ x. eqb (seat_of x) number) log (e ∷ [])
       ∙ (ap (λ (c : Bool). entries_of seat_of number log ++ cond c (e ∷ []) []) (ne_eqb (seat_of e) number other) ∙ append-nil (entries_of seat_of number log))
+
+  -- of two beginnings of a list the one that is not longer begins the other
+  starts_within : (xs ys after_xs after_ys : List E) → xs ++ after_xs ≡ ys ++ after_ys → length xs ≤ length ys → ys ≡ xs ++ drop (length xs) ys
+  starts_within xs ys after_xs after_ys same shorter' = let front : xs ≡ take (length xs) ys = sym (take-append_seam xs after_xs) ∙ (ap (take (length xs)) same ∙ take-append-le (length xs) ys after_ys shorter') in
+      sym (take-append-drop (length xs) ys) ∙ ap (λ (l : List E). l ++ drop (length xs) ys) (sym front)
+
+  none_before : (xs ys : List E) → xs ++ ys ≡ [] → xs ≡ []
+  none_before [] ys none = refl
+  none_before (x ∷ xs) ys none = let long : suc (length (xs ++ ys)) ≡ 0 = ap length none in absurd (omega arith)
+
+  -- a number without an entry has none in any beginning
+  pub none_seen : (seat_of : E → ℕ) (number : ℕ) (log seen : List E) → StartsWith log seen → entries_of seat_of number log ≡ [] → entries_of seat_of number seen ≡ []
+  none_seen seat_of number log seen s none = none_before (entries_of seat_of number seen) (entries_of seat_of number s.0)
+      (sym (filter-append (λ x. eqb (seat_of x) number) seen s.0) ∙ (ap (entries_of seat_of number) (sym s.1) ∙ none))
+
+  -- where all entries of a number had been seen, those since are of other numbers
+  pub none_since : (seat_of : E → ℕ) (number : ℕ) (mine seen more : List E) → entries_of seat_of number seen ≡ mine → entries_of seat_of number (seen ++ more) ≡ mine → entries_of seat_of number more ≡ []
+  none_since seat_of number mine seen more own all = append_cancel_left (entries_of seat_of number seen) (entries_of seat_of number more) []
+      (sym (filter-append (λ x. eqb (seat_of x) number) seen more) ∙ (all ∙ (sym own ∙ sym (append-nil (entries_of seat_of number seen)))))
+
+  -- where all entries of a number were seen in one beginning of the history, they are in the longer of two
+  pub own_longer : (seat_of : E → ℕ) (number : ℕ) (mine log xs ys : List E) → StartsWith log xs → StartsWith log ys → entries_of seat_of number xs ≡ mine → entries_of seat_of number log ≡ mine
+      → entries_of seat_of number (longer xs ys) ≡ mine
+  own_longer seat_of number mine log xs ys a b own all = by (nat_lt (length xs) (length ys)) refl
+    where
+      by : (c : Bool) → nat_lt (length xs) (length ys) ≡ c → entries_of seat_of number (cond c ys xs) ≡ mine
+      by false _ = own
+      by true less =
+          let more : List E = drop (length xs) ys in
+          let low : length xs < length ys = ltb-true (length xs) (length ys) less in
+          let grown : ys ≡ xs ++ more = starts_within xs ys a.0 b.0 (sym a.1 ∙ b.1) (omega arith) in
+          let whole : log ≡ xs ++ (more ++ b.0) = b.1 ∙ (ap (λ (l : List E). l ++ b.0) grown ∙ append_assoc xs more b.0) in
+          let since = none_since seat_of number mine xs (more ++ b.0) own (ap (entries_of seat_of number) (sym whole) ∙ all) in
+          let none = none_seen seat_of number (more ++ b.0) more (b.0, refl) since in
+          ap (entries_of seat_of number) grown ∙ (filter-append (λ x. eqb (seat_of x) number) xs more ∙ (ap (λ (l : List E). entries_of seat_of number xs ++ l) none ∙ (append-nil (entries_of seat_of number xs) ∙ own)))

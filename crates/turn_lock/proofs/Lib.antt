@@ -2,3 +2,4 @@ pub mod Entries
 pub mod Parts
 pub mod Steps
 pub mod Seats
+pub mod Allowed

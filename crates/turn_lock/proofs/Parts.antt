@@ -8,11 +8,11 @@ use native.Mathlib.Decide.{ℕ_discrete}
 use lib.ListN.{get_elem?}
 use Rattle.atomic_table.proofs.Lists.{at_set, set_here, set_else}
 use Rattle.turn_lock.specs.declared.view.View.{View}
-use Rattle.turn_lock.specs.Lists.{StartsWith, shorter, unused}
+use Rattle.turn_lock.specs.Lists.{StartsWith, unused}
 use Rattle.turn_lock.specs.Rule.{Use, owned, took_in, spared, Accounts, Differ, Numbers}
 use Rattle.turn_lock.specs.Views.{tried, learns}
 use Rattle.turn_lock.specs.Told.{Shows}
-use Rattle.turn_lock.proofs.Entries.{within, starts_both, all_front, pairs_append, unused_all, unused_differ, entry_of_it, entry_of_other}
+use Rattle.turn_lock.proofs.Entries.{within, all_front, pairs_append, unused_all, unused_differ, entry_of_it, entry_of_other}
 
 pub off : false ≡ true → ⊥
 off e = true≢false (sym e)
@@ -111,6 +111,7 @@ module _ {E : Type 0} (seat_of : E → ℕ) (lawful : List E → Type 0) (posted
   told_tried log v u found same told = let s = subst (Shows seat_of lawful posted log) same told in record {
     later = s.later;
     told = s.told;
+    own = s.own;
     legal = s.legal;
     accounts = recount seat_of log (tried found v) v.turn v.shuts v.seen v.told v.found s.accounts;
     differ = s.differ;
@@ -119,9 +120,17 @@ module _ {E : Type 0} (seat_of : E → ℕ) (lawful : List E → Type 0) (posted
 
   -- what was told to a seat that had taken in a note holds of the seat before, and the history begins with the note
   pub told_note : (log : List E) (v w : View E) → Shows seat_of lawful posted log (learns v w) → Shows seat_of lawful posted log v × StartsWith log w.seen
-  told_note log v w s = let both = starts_both log v.seen w.seen s.later (All-head (StartsWith log) (shorter v.seen w.seen) (v.told ++ w.told) s.told) in (
-    record { later = both.0; told = all_front (StartsWith log) v.told w.told (All-tail (StartsWith log) (shorter v.seen w.seen) (v.told ++ w.told) s.told); legal = s.legal; accounts = recount seat_of log (learns v w) v.turn v.shuts v.seen v.told v.found s.accounts; differ = s.differ; noted = s.noted },
-    both.1,
+  told_note log v w s = (
+    record {
+      later = s.later;
+      told = all_front (StartsWith log) v.told w.told (All-tail (StartsWith log) w.seen (v.told ++ w.told) s.told);
+      own = s.own;
+      legal = s.legal;
+      accounts = recount seat_of log (learns v w) v.turn v.shuts v.seen v.told v.found s.accounts;
+      differ = s.differ;
+      noted = s.noted;
+    },
+    All-head (StartsWith log) w.seen (v.told ++ w.told) s.told,
   )
 
   -- the same, of a view that is given

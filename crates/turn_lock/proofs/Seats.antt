@@ -9,7 +9,7 @@ use Rattle.turn_lock.specs.declared.view.View.{View}
 use Rattle.turn_lock.specs.Lists.{StartsWith, entries_of, shorter, unused}
 use Rattle.turn_lock.specs.Views.{first_view, spent, spares_less, split_off, note_of, learns, handed_on, joined}
 use Rattle.turn_lock.specs.Rule.{Use, owned, took_in, spared, Fits, Kept}
-use Rattle.turn_lock.proofs.Entries.{at_end, starts_empty, starts_longer, starts_shorter, unused_all, pairs_nil, pairs_append}
+use Rattle.turn_lock.proofs.Entries.{at_end, starts_empty, starts_longer, starts_shorter, none_seen, own_longer, unused_all, pairs_nil, pairs_append}
 use Rattle.turn_lock.proofs.Parts.{off, set_each, still_taken, untaken, keep_numbers, all_differ}
 
 -- the number now stands with the view at this place, as its own
@@ -75,6 +75,7 @@ module _ {T E : Type 0} (history : T → List E) (seat_of : E → ℕ) (lawful :
         has_closed = λ no. absurd (off no);
         noted = All-nil (λ p. (get_elem? posts p.0 ≡ some p.1) × (p.1 ≢ 0));
         numbers = λ _. record { own = (some_seat, refl); ended = All-nil (λ p. (p.0 < seats) × (holder p.0 ≡ (0, took_in))); apart = pairs_nil (λ (p : ℕ × List E) (q : ℕ × List E). p.0 ≢ q.0); spare = λ n low high. (high, spares n low); seats_are = refl };
+        own = λ _. refl;
         accounts = λ _. record { mine = refl; ended = All-nil (λ p. entries_of seat_of p.0 [] ≡ p.1); spare = λ n low high. refl; below = All-nil (λ e. seat_of e < seats) };
       })
       one (suc place) v e = absurd (some-ne-none v (sym e))
@@ -137,6 +138,7 @@ module _ {T E : Type 0} (history : T → List E) (seat_of : E → ℕ) (lawful :
           spare = λ m low high. let t = n.spare m (omega arith) high in (t.0, given_else number place r.holder m (λ e. omega arith) ∙ t.1);
           seats_are = n.seats_are;
         };
+        own = f.own;
         accounts = λ _. record { mine = a.mine; ended = a.ended; spare = λ m low high. a.spare m (omega arith) high; below = a.below };
       })
       (record {
@@ -146,6 +148,7 @@ module _ {T E : Type 0} (history : T → List E) (seat_of : E → ℕ) (lawful :
         has_closed = λ no. absurd (off no);
         noted = All-nil (λ p. (get_elem? r.posts p.0 ≡ some p.1) × (p.1 ≢ 0));
         numbers = λ _. record { own = (its.0, given_here number place r.holder); ended = All-nil (λ p. (p.0 < key.0) × (holder' p.0 ≡ (place, took_in))); apart = pairs_nil (λ (p : ℕ × List E) (q : ℕ × List E). p.0 ≢ q.0); spare = λ m low high. absurd (omega arith); seats_are = n.seats_are };
+        own = λ _. none_seen seat_of number r.log v.seen f.seen none;
         accounts = λ _. record { mine = none; ended = All-nil (λ p. entries_of seat_of p.0 r.log ≡ p.1); spare = λ m low high. absurd (omega arith); below = a.below };
       })
       (λ j u apart e. let g = r.each j u e in record {
@@ -155,6 +158,7 @@ module _ {T E : Type 0} (history : T → List E) (seat_of : E → ℕ) (lawful :
         has_closed = g.has_closed;
         noted = g.noted;
         numbers = λ b. keep_numbers seat_of key.0 r.holder holder' j u (λ m use' h. stays m j use' (inl apart) h) (g.numbers b);
+        own = g.own;
         accounts = g.accounts;
       })
 
@@ -168,6 +172,7 @@ module _ {T E : Type 0} (history : T → List E) (seat_of : E → ℕ) (lawful :
         has_closed = λ no. absurd (off no);
         noted = All-nil (λ p. (get_elem? r.posts p.0 ≡ some p.1) × (p.1 ≢ 0));
         numbers = λ no. absurd (off no);
+        own = λ no. absurd (off no);
         accounts = λ no. absurd (off no);
       })
       (λ j u _ e. r.each j u e)
@@ -200,6 +205,7 @@ module _ {T E : Type 0} (history : T → List E) (seat_of : E → ℕ) (lawful :
           has_closed = λ no. absurd (off no);
           noted = All-nil (λ p. (get_elem? r.posts p.0 ≡ some p.1) × (p.1 ≢ 0));
           numbers = λ no. absurd (off no);
+          own = λ no. absurd (off no);
           accounts = λ no. absurd (off no);
         }) (λ j u far e. ⊎_elim (λ (t : (j ≡ id) × (both ≡ u)). subst (λ (x : ℕ × View E). F x.0 x.1) (λ i. (sym t.0 i, t.1 i)) fits)
             (λ (t : (j ≢ id) × (get_elem? s.views j ≡ some u)). others j u t.0 far t.1) (at_set s.views id j both u e));
@@ -239,6 +245,7 @@ module _ {T E : Type 0} (history : T → List E) (seat_of : E → ℕ) (lawful :
           spare = λ m low high. let t = n.spare m low high in (t.0, handed_else other id r.holder m id spared back t.1);
           seats_are = n.seats_are;
         };
+        own = λ _. own_longer seat_of v.number v.mine r.log v.seen w.seen f.seen g.seen (f.own numbered) a.mine;
         accounts = λ _. record {
           mine = a.mine;
           ended = All-append A v.ended (handed_on w) a.ended (All-cons A (w.number, w.mine) (w.ended ++ unused w.spare_from (w.spare_to - w.spare_from)) a'.mine
@@ -253,6 +260,7 @@ module _ {T E : Type 0} (history : T → List E) (seat_of : E → ℕ) (lawful :
         has_closed = h.has_closed;
         noted = h.noted;
         numbers = λ b. keep_numbers seat_of key.0 r.holder holder' j u (λ m use' x. handed_else other id r.holder m j use' far' x) (h.numbers b);
+        own = h.own;
         accounts = h.accounts;
       })
 
@@ -262,12 +270,13 @@ module _ {T E : Type 0} (history : T → List E) (seat_of : E → ℕ) (lawful :
       let f = r.each id v at in
       let g = r.each other w at' in
       merges key s r id v other w (learns v w) r.holder at apart there refl free' (record {
-        seen = starts_longer r.log v.seen w.seen f.seen g.seen;
-        told = All-cons (StartsWith r.log) (shorter v.seen w.seen) (v.told ++ w.told) (starts_shorter r.log v.seen w.seen f.seen g.seen) (All-append (StartsWith r.log) v.told w.told f.told g.told);
+        seen = f.seen;
+        told = All-cons (StartsWith r.log) w.seen (v.told ++ w.told) g.seen (All-append (StartsWith r.log) v.told w.told f.told g.told);
         has_turn = λ t. absurd (off (sym free ∙ t));
         has_closed = f.has_closed;
         noted = f.noted;
         numbers = λ b. let n = f.numbers b in record { own = n.own; ended = n.ended; apart = n.apart; spare = n.spare; seats_are = n.seats_are };
+        own = f.own;
         accounts = λ b. let a = f.accounts b in record { mine = a.mine; ended = a.ended; spare = a.spare; below = a.below };
       }) (λ j u _ _ e. r.each j u e)
 

@@ -8,7 +8,7 @@ use prog.Atomic.{either}
 use Rattle.atomic_table.specs.Table.{State, Me, step, Act, keeps, takes, gives, stepped, Allows, Valid, carried_after}
 use Rattle.atomic_table.proofs.Lists.{set_here, exchanged}
 use Rattle.turn_lock.specs.declared.view.View.{View}
-use Rattle.turn_lock.specs.Lists.{StartsWith}
+use Rattle.turn_lock.specs.Lists.{StartsWith, entries_of}
 use Rattle.turn_lock.specs.Views.{sees, takes_turn, finds_taken, adds, gives_turn, closes}
 use Rattle.turn_lock.specs.Rule.{Accounts, Fits, Kept}
 use Rattle.turn_lock.specs.Told.{Shows, Counted, Took, Added, Gave, Closed}
@@ -24,6 +24,7 @@ module _ {T E : Type 0} (history : T → List E) (seat_of : E → ℕ) (lawful :
   shows key s r id v at numbered = let f = r.each id v at in record {
     later = f.seen;
     told = f.told;
+    own = f.own numbered;
     legal = r.legal;
     accounts = f.accounts numbered;
     differ = all_differ seat_of key.0 r.holder id v (f.numbers numbered);
@@ -62,6 +63,7 @@ module _ {T E : Type 0} (history : T → List E) (seat_of : E → ℕ) (lawful :
       has_closed = f.has_closed;
       noted = f.noted;
       numbers = λ n. renumber seat_of key.0 r.holder id v v.turn v.shuts r.log [] v.mine v.found (f.numbers n);
+      own = λ n. (f.accounts n).mine;
       accounts = λ n. recount seat_of r.log v v.turn v.shuts r.log [] v.found (f.accounts n);
     }),
     (r.log, refl, ap (λ (ws : List ℕ). get_or ws 0 0) r.words, shows key s r id v at numbered),
@@ -86,6 +88,7 @@ module _ {T E : Type 0} (history : T → List E) (seat_of : E → ℕ) (lawful :
           has_closed = f.has_closed;
           noted = f.noted;
           numbers = λ b. renumber seat_of key.0 r.holder id v v.turn v.shuts v.seen v.told v.mine (v.found + 1) (f.numbers b);
+          own = f.own;
           accounts = λ b. recount seat_of r.log v v.turn v.shuts v.seen v.told (v.found + 1) (f.accounts b);
         }),
         ((λ z. absurd (ne z)), λ _. refl),
@@ -124,6 +127,7 @@ module _ {T E : Type 0} (history : T → List E) (seat_of : E → ℕ) (lawful :
                 has_closed = λ c. absurd (let h : r.turn ≡ 2 = f.has_closed c in omega arith);
                 noted = f.noted;
                 numbers = λ b. renumber seat_of key.0 r.holder id v true v.shuts (history x) [] v.mine v.found (f.numbers b);
+                own = λ b. ap (entries_of seat_of v.number) same ∙ (f.accounts b).mine;
                 accounts = λ b. recount seat_of r.log v true v.shuts (history x) [] v.found (f.accounts b);
               }) (λ j u _ e. let g = r.each j u e in record {
                 seen = g.seen;
@@ -132,6 +136,7 @@ module _ {T E : Type 0} (history : T → List E) (seat_of : E → ℕ) (lawful :
                 has_closed = λ c. absurd (let h : r.turn ≡ 2 = g.has_closed c in omega arith);
                 noted = g.noted;
                 numbers = g.numbers;
+                own = g.own;
                 accounts = g.accounts;
               });
             },
@@ -180,6 +185,7 @@ module _ {T E : Type 0} (history : T → List E) (seat_of : E → ℕ) (lawful :
             has_closed = f.has_closed;
             noted = f.noted;
             numbers = λ b. renumber seat_of key.0 r.holder id v v.turn v.shuts (v.seen ++ e ∷ []) v.told (v.mine ++ e ∷ []) v.found numbers;
+            own = λ _. accounts.mine;
             accounts = λ _. accounts;
           }) (λ j u apart p. let g = r.each j u p in record {
             seen = starts_more v.seen u.seen (e ∷ []) (subst (λ (l : List E). StartsWith l u.seen) (sym same) g.seen);
@@ -188,6 +194,7 @@ module _ {T E : Type 0} (history : T → List E) (seat_of : E → ℕ) (lawful :
             has_closed = g.has_closed;
             noted = g.noted;
             numbers = g.numbers;
+            own = g.own;
             accounts = λ b. other_accounts seat_of key.0 r.holder j id v.number u v.seen e apart is numbers.own.0 numbers.own.1 (g.numbers b) (subst (λ (l : List E). Accounts seat_of l u) (sym same) (g.accounts b));
           });
         },
@@ -225,6 +232,7 @@ module _ {T E : Type 0} (history : T → List E) (seat_of : E → ℕ) (lawful :
             has_closed = λ c. absurd (let q : r.turn ≡ 2 = f.has_closed c in omega arith);
             noted = f.noted;
             numbers = λ b. renumber seat_of key.0 r.holder id v false v.shuts v.seen v.told v.mine v.found (f.numbers b);
+            own = f.own;
             accounts = λ b. recount seat_of r.log v false v.shuts v.seen v.told v.found (f.accounts b);
           }) (λ j u apart p. let g = r.each j u p in record {
             seen = g.seen;
@@ -233,6 +241,7 @@ module _ {T E : Type 0} (history : T → List E) (seat_of : E → ℕ) (lawful :
             has_closed = λ c. absurd (let q : r.turn ≡ 2 = g.has_closed c in omega arith);
             noted = g.noted;
             numbers = g.numbers;
+            own = g.own;
             accounts = g.accounts;
           });
         },
@@ -270,6 +279,7 @@ module _ {T E : Type 0} (history : T → List E) (seat_of : E → ℕ) (lawful :
             has_closed = λ _. refl;
             noted = f.noted;
             numbers = λ b. renumber seat_of key.0 r.holder id v false true v.seen v.told v.mine v.found (f.numbers b);
+            own = f.own;
             accounts = λ b. recount seat_of r.log v false true v.seen v.told v.found (f.accounts b);
           }) (λ j u apart p. let g = r.each j u p in record {
             seen = g.seen;
@@ -278,6 +288,7 @@ module _ {T E : Type 0} (history : T → List E) (seat_of : E → ℕ) (lawful :
             has_closed = λ c. refl;
             noted = g.noted;
             numbers = g.numbers;
+            own = g.own;
             accounts = g.accounts;
           });
         },

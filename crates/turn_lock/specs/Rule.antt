@@ -58,6 +58,8 @@ module _ {E : Type 0} (seat_of : E → ℕ) where
     pub noted : All (λ p. (get_elem? posts p.0 ≡ some p.1) × (p.1 ≢ 0)) v.noted
     -- a seat has its numbers for itself, and its lists are the history's entries of these
     pub numbers : v.numbered ≡ true → Numbers seats holder place v
+    -- and it has seen all entries of its own number
+    pub own : v.numbered ≡ true → entries_of seat_of v.number v.seen ≡ v.mine
     pub accounts : v.numbered ≡ true → Accounts log v
 
 module _ {T E : Type 0} (history : T → List E) (seat_of : E → ℕ) (lawful : List E → Type 0) (posted : List E → ℕ → ℕ → Type 0) where

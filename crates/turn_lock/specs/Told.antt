@@ -2,7 +2,7 @@
 use Rattle.std.specs.Prelude.{◌≡◌, ◌≢◌, ℕ, List, [], ◌∷◌, ◌++◌, length, Option, Some, All}
 use Rattle.atomic_table.specs.Table.{Me, Step}
 use Rattle.turn_lock.specs.declared.view.View.{View}
-use Rattle.turn_lock.specs.Lists.{StartsWith}
+use Rattle.turn_lock.specs.Lists.{StartsWith, entries_of}
 use Rattle.turn_lock.specs.Rule.{Accounts, Differ}
 use Rattle.turn_lock.specs.Views.{sees, takes_turn, finds_taken, adds, gives_turn, closes}
 
@@ -13,6 +13,8 @@ module _ {E : Type 0} (seat_of : E → ℕ) (lawful : List E → Type 0) (posted
     pub later : StartsWith log v.seen
     -- and with each list that it was told
     pub told : All (StartsWith log) v.told
+    -- of the seat's own entries the seat had seen all
+    pub own : entries_of seat_of v.number v.seen ≡ v.mine
     -- it is lawful
     pub legal : lawful log
     -- its entries are those of the seat's lists, as far as they have the seat's numbers

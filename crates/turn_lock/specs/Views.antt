@@ -51,6 +51,10 @@ module _ {E : Type 0} where
   abbrev pub adds : E → View E → View E
   adds e v = record v { seen = v.seen ++ e ∷ []; mine = v.mine ++ e ∷ [] }
 
+  -- after these entries of its own
+  abbrev pub grows : List E → View E → View E
+  grows more v = record v { seen = v.seen ++ more; mine = v.mine ++ more }
+
   -- after the turn was given
   abbrev pub gives_turn : View E → View E
   gives_turn v = record v { turn = false }
@@ -73,7 +77,7 @@ module _ {E : Type 0} where
 
   -- v after it was told what w has seen
   abbrev pub learns : View E → View E → View E
-  learns v w = record v { seen = longer v.seen w.seen; told = shorter v.seen w.seen ∷ (v.told ++ w.told) }
+  learns v w = record v { told = w.seen ∷ (v.told ++ w.told) }
 
   -- the numbers that a seat hands on as it ends, each with its entries: its own, those that ended in it, and those that it still spared
   abbrev pub handed_on : View E → List (ℕ × List E)

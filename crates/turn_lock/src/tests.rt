@@ -1,8 +1,11 @@
-ghost use Rattle.std.specs.Prelude.{◌≡◌, ◌++◌, ◌∷◌, [], false, All, IfOk, OnOk, OnErr};
+ghost use Rattle.std.specs.Prelude.{◌≡◌, ◌++◌, ◌∷◌, [], false, true, All, IfOk, OnOk, OnErr, refl};
+ghost use Rattle.std.proofs.Common.{◌∙◌, ap, inl, inr, Ok, Err};
+ghost use Rattle.std.proofs.lemmas.List.Elements.{filter-append};
 ghost use Rattle.turn_lock.specs.Handles.{view, turn_id, IsReady};
+ghost use Rattle.turn_lock.specs.Lists.{entries_of};
 ghost use Rattle.turn_lock.specs.Views.{finds_taken};
 
-use crate::{Counted, Seat, Turn};
+use crate::{Call, Counted, Seat, Turn};
 use std::alloc::{AllocError, AllocFailed};
 use std::test::Fail;
 use std::thread;
@@ -45,6 +48,26 @@ impl Roll {
     }
 }
 
+/// Notes a seat that has no entry yet.
+#[derive(Drop)]
+struct NoteOnce;
+
+impl Call<Roll> for NoteOnce {
+    type Answer = Result<(), AllocFailed<u32>>;
+
+    ghost may = { λ _ seat log. entries_of (λ s. s) seat log ≡ [] };
+
+    ghost does = { λ _ seat old new answer. OnOk answer (new ≡ old ++ seat ∷ []) × OnErr answer (new ≡ old) };
+
+    fn make(self, value: &mut Roll, seat: u32) -> Result<(), AllocFailed<u32>> {
+        value.note(seat)
+    }
+
+    ghost stays_allowed = { λ _ seat log more _ others before. filter-append _ log more ∙ (ap (λ l. l ++ entries_of (λ s. s) seat more) before ∙ others) };
+
+    ghost one_at_most = { λ _ seat old new. elim [ Ok _ ↦ λ done. inr (seat, done.0, refl) | Err _ ↦ λ done. inl done.1 ] };
+}
+
 /// Makes one entry of the seat, if it is given the turn without waiting.
 fn note_once(turn: &Turn<Roll>, seat: &mut Seat<Roll, u32>) -> Result<bool, AllocError>
     requires { IsReady (turn_id turn.now) seat.old }
@@ -82,6 +105,28 @@ fn is_busy_meanwhile(
     let free = note_once(turn, second);
     held.leave();
     Ok(!free?)
+}
+
+/// Whether the second seat gets its call back while the first has the turn.
+fn is_handed_back_meanwhile(
+    turn: &Turn<Roll>,
+    first: &mut Seat<Roll, u32>,
+    second: &mut Seat<Roll, u32>,
+) -> bool
+    requires first { IsReady (turn_id turn.now) first.old }
+    requires second { IsReady (turn_id turn.now) second.old }
+    requires fresh { entries_of (λ s. s) (view second.old).number (view second.old).seen ≡ [] }
+    ensures first { IsReady (turn_id turn.now) first.new }
+    ensures mine { ((view first.new).number ≡ (view first.old).number) × ((view first.new).mine ≡ (view first.old).mine) }
+    ensures second { IsReady (turn_id turn.now) second.new }
+    ensures back { result ≡ true → view second.new ≡ finds_taken (view second.old) }
+{
+    let Ok(held) = first.try_enter(turn) else {
+        return false;
+    };
+    let back = turn.try_perform(second, NoteOnce).is_err();
+    held.leave();
+    back
 }
 
 /// Seats of one turn look at the history, each on a thread of its own. It stands here for its proof:
@@ -130,5 +175,24 @@ fn a_turn_is_busy_until_it_is_left(rt: HostRuntime) -> Result<(), Fail> {
     assert!(rt;
         busy? && noted? && front == 1 && len == 1 && roll.seats.as_slice() == [1].as_slice()
     );
+    Ok(())
+}
+
+#[test]
+fn a_call_is_made_once_the_turn_is_free(rt: HostRuntime) -> Result<(), Fail> {
+    let roll = Roll {
+        seats: Vec::new(rt.alloc()),
+    };
+    let Ok((turn, mut first)) = Turn::open(rt.alloc(), roll, 2) else {
+        panic!(rt; "memory")
+    };
+    let mut second = turn.split(&mut first);
+    assert!(rt; is_handed_back_meanwhile(&turn, &mut first, &mut second));
+    assert!(rt; turn.front(&mut first) == 0);
+    let tried = turn.try_perform(&mut second, NoteOnce);
+    assert!(rt; matches!(tried, Ok(Ok(()))));
+    assert!(rt; turn.perform(&rt, &mut first, NoteOnce).is_ok());
+    let roll = turn.close(&rt, first);
+    assert!(rt; roll.seats.as_slice() == [1, 0].as_slice());
     Ok(())
 }

@@ -10,6 +10,7 @@ use std::sync::atomic::AtomicU64;
 
 mod calls;
 mod ends;
+mod passes;
 
 /// The word that counts the entries of the history.
 pub(crate) const COUNT: usize = 0;

@@ -1,12 +1,35 @@
 //! The turns of one seat.
-ghost use Rattle.std.specs.Prelude.{◌≡◌, ◌++◌, ◌∷◌, [], false, OnOk, OnErr};
-ghost use Rattle.turn_lock.specs.Handles.{view, turn_id, turn_of, IsReady};
+ghost use Rattle.std.specs.Prelude.{◌≡◌, ◌++◌, ◌∷◌, [], false, OnOk, OnErr, refl};
+ghost use Rattle.std.proofs.Common.{inl, inr, Ok, Err};
+ghost use Rattle.turn_lock.specs.Handles.{view, turn_id, IsReady};
 ghost use Rattle.turn_soak.specs.Turns.{Took, mark, marks};
 
 use crate::roll::{Mark, Roll};
 use std::alloc::AllocError;
 use std::sync::Wait;
-use turn_lock::{Seat, Turn};
+use turn_lock::{Call, Seat, Turn};
+
+/// A seat's mark of its turn with this number.
+struct MarkTurn {
+    turn: u32,
+}
+
+impl Call<Roll> for MarkTurn {
+    type Answer = Result<(), AllocError>;
+
+    ghost may = { λ _ _ _. Unit {0} };
+
+    ghost does = { λ call seat old new answer. OnOk answer (new ≡ old ++ mark seat call.turn ∷ []) × OnErr answer (new ≡ old) };
+
+    fn make(self, value: &mut Roll, seat: u32) -> Result<(), AllocError> {
+        let MarkTurn { turn } = self;
+        value.note(Mark { seat, turn })
+    }
+
+    ghost stays_allowed = { λ _ _ _ _ _ _ _. tt };
+
+    ghost one_at_most = { λ call seat old new. elim [ Ok _ ↦ λ done. inr (mark seat call.turn, done.0, refl) | Err _ ↦ λ done. inl done.1 ] };
+}
 
 /// Takes one turn: the roll has one mark of this seat more, after all that the seat had seen.
 pub fn take_turn<R: Wait>(
@@ -21,18 +44,7 @@ pub fn take_turn<R: Wait>(
     ensures took { OnOk result (Took nth (view seat.old) (view seat.new)) }
     ensures same { OnErr result ((view seat.new).mine ≡ (view seat.old).mine) }
 {
-    let number = seat.number();
-    let mut held = turn.enter(rt, seat);
-    let entry = held.value().len() as u64;
-    let noted = held.value().note(Mark {
-        seat: number,
-        turn: nth,
-    });
-    if noted.is_ok() {
-        held.step(entry);
-    }
-    held.leave();
-    noted
+    turn.perform(rt, seat, MarkTurn { turn: nth })
 }
 
 /// A seat at work, and whether it had the memory for all of its turns.

@@ -53,7 +53,7 @@ fn are_lookup(alloc: Global, entries: &[Entry<Named>]) -> bool {
 }
 
 /// The unit is taken, placed, resolved and linked; then it is taken again and emitted, which tells `heard`.
-fn materializes<const JMAX: usize>(
+pub(super) fn materializes<const JMAX: usize>(
     alloc: Global,
     session: &mut Session<Named, Note, JMAX>,
     heard: &mut FiredList<Note>,

@@ -1,7 +1,7 @@
 //! The steps that a seat makes on the table of its turn.
-ghost use Rattle.std.specs.Prelude.{◌≡◌, ℕ, ◌+◌, ◌-◌, ◌<◌, ◌≤◌, ◌++◌, ◌∷◌, [], length, IfOk, OnErr, true};
+ghost use Rattle.std.specs.Prelude.{◌≡◌, ℕ, ◌+◌, ◌-◌, ◌<◌, ◌≤◌, ◌⊎◌, ◌++◌, ◌∷◌, List, [], length, IfOk, OnErr, true};
 ghost use Rattle.turn_lock.specs.Handles.{view, turn_of, turn_id, IsReady};
-ghost use Rattle.turn_lock.specs.Views.{takes_turn, finds_taken, tried, adds, gives_turn, closes};
+ghost use Rattle.turn_lock.specs.Views.{takes_turn, finds_taken, tried, adds, grows, gives_turn, closes};
 ghost use Rattle.turn_lock.specs.Told.{Shows};
 ghost use Rattle.turn_lock.specs.Rule.{Accounts};
 
@@ -9,6 +9,7 @@ use super::{Busy, Seat};
 use crate::counted::Counted;
 use crate::plays::{AddEntry, CloseTurn, GiveTurn, TakeTurn, Written};
 use crate::turn::{COUNT, TURN, Turn, VALUE};
+use std::marker::Brand;
 use std::sync::Wait;
 use std::sync::atomic::Ordering::SeqCst;
 
@@ -76,6 +77,22 @@ impl<T: Counted> Seat<T, T::Entry> {
         let _len = value.history_len();
         let shared = &turn.table.shared;
         shared.fetch_add::<AddEntry<T, W>>(&mut self.seat, COUNT, 1)
+    }
+
+    /// Raises the count if the value has an entry more than before.
+    pub(crate) fn add_new(&mut self, turn: &Turn<T>, value: &T, before: u64)
+        requires own { (turn_of self.old ≡ turn_id turn.now) × ((view self.old).turn ≡ true) }
+        requires before { before ≡ length (view self.old).seen }
+        requires one_at_most { (T.history value.now ≡ (view self.old).seen) ⊎ ((e : T.Entry) × (T.history value.now ≡ (view self.old).seen ++ e ∷ []) × (T.seat_of e ≡ (view self.old).number)) }
+        requires accounts { Accounts T.seat_of (view self.old).seen (view self.old) }
+        ensures same { turn_of self.new ≡ turn_of self.old }
+        ensures grown { (more : List T.Entry) × (T.history value.now ≡ (view self.old).seen ++ more) × (view self.new ≡ grows more (view self.old)) }
+        ensures legal { T.lawful (T.history value.now) }
+        ensures accounts { Accounts T.seat_of (T.history value.now) (view self.new) }
+    {
+        if value.history_len() > before {
+            self.add::<Brand>(turn, value);
+        }
     }
 
     /// Puts the value home, gives the turn, and wakes a seat that waits for it.

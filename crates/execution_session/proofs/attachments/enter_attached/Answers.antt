@@ -7,20 +7,17 @@ use Rattle.execution_session.proofs.Standing.{stands, can_step, did_step}
 use Rattle.execution_session.proofs.attachments.enter_attached.Goals as goal
 use Rattle.execution_session.proofs.attachments.enter_attached.Goals.{in-Ok, in-Err}
 
-pub attach-answer-requires-send-N : goal.attach-answer-requires-send-N
-attach-answer-requires-send-N g c κs within = (
+pub attach-answer-requires : goal.attach-answer-requires
+attach-answer-requires g c κs within = (
   within.0,
   (
     within.1,
-    (
-      c.type_bounds.send-N,
-      (stands g.U.UnitKind.meaning g.row.JMAX c.args.live.now.parts c.args.live.now.journal.items _ c.requires.rest, c.requires.source),
-    ),
+    (stands g.U.UnitKind.meaning g.row.JMAX c.args.live.now.parts c.args.live.now.journal.items _ c.requires.rest, c.requires.source),
   ),
 )
 
 pub enter_quietly-requires-clause-can : goal.enter_quietly-requires-clause-can
-enter_quietly-requires-clause-can g c κs within = can_step g.U.UnitKind.meaning g.row.JMAX 1 c.args.live.now c.attach-answer.new.self c.args.s (event.Attach c.args.d c.args.t c.args.share) c.in-Ok.reply c.requires.rest c.attach-answer.ensures.rest refl c.requires.place
+enter_quietly-requires-clause-can g c = can_step g.U.UnitKind.meaning g.row.JMAX 1 c.args.live.now c.attach-answer.new.self c.args.s (event.Attach c.args.d c.args.t c.args.share) c.in-Ok.reply c.requires.rest c.attach-answer.ensures.rest refl c.requires.place
     (told_step g.U.UnitKind.meaning (state_of g.U.UnitKind.meaning c.args.live.now.journal.items) c.args.s.0 (event.Attach c.args.d c.args.t) c.args.unit c.args.share c.attach-answer.result.answer c.in-Ok.reply c.args.live.now.parts c.attach-answer.new.self.parts c.requires.same c.in-Ok.is c.attach-answer.ensures.step)
 
 pub returns-clause-performs : goal.returns-clause-performs

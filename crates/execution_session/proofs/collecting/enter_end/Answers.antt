@@ -7,8 +7,8 @@ use Rattle.execution_session.proofs.Collected.{says_settled, has_no_open, collec
 use Rattle.execution_session.proofs.Standing.{stands, stopped, can_step, did_step}
 use Rattle.execution_session.proofs.collecting.enter_end.Goals as goal
 
-pub check_places-requires-send-N : goal.check_places-requires-send-N
-check_places-requires-send-N g c κs within = (within.0, (within.1, ((search rules), (c.type_bounds.send-N, (refl, (c.requires.rest, (omega arith)))))))
+pub check_places-requires : goal.check_places-requires
+check_places-requires g c κs within = (within.0, (within.1, ((search rules), (refl, (c.requires.rest, (omega arith))))))
 
 pub returns-in_err-check_places-clause-collects : goal.returns-in_err-check_places-clause-collects
 returns-in_err-check_places-clause-collects g c =
@@ -26,7 +26,7 @@ returns-in_default-clause-collects g c =
     (refl, has_no_open g.U.UnitKind.meaning live.journal.items c.args.q live.parts.book.ends c.requires.rest.ends settled)
 
 pub enter_silently-requires-clause-can : goal.enter_silently-requires-clause-can
-enter_silently-requires-clause-can g c κs within =
+enter_silently-requires-clause-can g c =
     let live = c.args.live.now in
     let h = live.journal.items in
     let settled : is_open c.in-Ok.copy ≡ false = ap is_open (c.in-Ok.ensures.end ∙ sym c.requires.end) ∙ c.requires.settled in

@@ -7,20 +7,17 @@ use Rattle.execution_session.proofs.Standing.{stands, can_step, did_step}
 use Rattle.execution_session.proofs.definitions.define_shared.Goals as goal
 use Rattle.execution_session.proofs.definitions.define_shared.Goals.{in-Ok, in-Err}
 
-pub define-answer-requires-send-N : goal.define-answer-requires-send-N
-define-answer-requires-send-N g c κs within = (
+pub define-answer-requires : goal.define-answer-requires
+define-answer-requires g c κs within = (
   within.0,
   (
     within.1,
-    (
-      c.type_bounds.send-N,
-      (stands g.U.UnitKind.meaning g.row.JMAX c.args.live.now.parts c.args.live.now.journal.items _ c.requires.rest, c.requires.source),
-    ),
+    (stands g.U.UnitKind.meaning g.row.JMAX c.args.live.now.parts c.args.live.now.journal.items _ c.requires.rest, c.requires.source),
   ),
 )
 
 pub enter_quietly-requires-clause-can : goal.enter_quietly-requires-clause-can
-enter_quietly-requires-clause-can g c κs within = can_step g.U.UnitKind.meaning g.row.JMAX 1 c.args.live.now c.define-answer.new.self c.args.s (event.Define c.args.d c.args.t c.args.share) c.in-Ok.reply c.requires.rest c.define-answer.ensures.rest refl c.requires.place
+enter_quietly-requires-clause-can g c = can_step g.U.UnitKind.meaning g.row.JMAX 1 c.args.live.now c.define-answer.new.self c.args.s (event.Define c.args.d c.args.t c.args.share) c.in-Ok.reply c.requires.rest c.define-answer.ensures.rest refl c.requires.place
     (told_step g.U.UnitKind.meaning (state_of g.U.UnitKind.meaning c.args.live.now.journal.items) c.args.s.0 (event.Define c.args.d c.args.t) c.args.unit c.args.share c.define-answer.result.answer c.in-Ok.reply c.args.live.now.parts c.define-answer.new.self.parts c.requires.same c.in-Ok.is c.define-answer.ensures.step)
 
 pub returns-clause-performs : goal.returns-clause-performs

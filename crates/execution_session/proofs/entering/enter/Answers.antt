@@ -17,32 +17,29 @@ use Rattle.execution_session.proofs.entering.enter.Goals as goal
 pub push_reserved-requires : goal.push_reserved-requires
 push_reserved-requires g c =
     let len : vec_len c.args.journal.now ≡ length c.args.journal.now.items = search rules in
-    subst (λ n. n < vec_capacity c.args.journal.now) (sym len) (place_left g.U.UnitKind.meaning g.row.JMAX c.args.journal.now.items _ c.args.entry c.args.parts.now c.requires.1.1.1.1.1)
+    subst (λ n. n < vec_capacity c.args.journal.now) (sym len) (place_left g.U.UnitKind.meaning g.row.JMAX c.args.journal.now.items _ c.args.entry c.args.parts.now c.requires.1.1.1.1)
 
-pub settle-requires-send-N : goal.settle-requires-send-N
-settle-requires-send-N g c κs within =
-    let can = c.requires.1.1.1.1.1 in
-    let same = sym c.requires.1.1.1.1.0 in
+pub settle-requires : goal.settle-requires
+settle-requires g c κs within =
+    let can = c.requires.1.1.1.1 in
+    let same = sym c.requires.1.1.1.0 in
     let step = entering g.U.UnitKind.meaning g.row.JMAX c.args.journal.now.items _ c.args.entry c.args.parts.now can in (
       within.0,
       (
         within.1,
         (
-          c.requires.1.1.1.0,
+          subst (AreParts g.U.UnitKind.meaning c.args.parts.now) same can.goes.parts,
           (
-            subst (AreParts g.U.UnitKind.meaning c.args.parts.now) same can.goes.parts,
+            can.goes.queries ∙ ap (λ m. m.queries) same,
             (
-              can.goes.queries ∙ ap (λ m. m.queries) same,
+              step.counted ∙ ap (λ m. length m.queries) same,
               (
-                step.counted ∙ ap (λ m. length m.queries) same,
+                subst (λ m. IsTold (stand_at m.rows) c.args.parts.now.graph.changed c.args.parts.now.book) same step.told,
                 (
-                  subst (λ m. IsTold (stand_at m.rows) c.args.parts.now.graph.changed c.args.parts.now.book) same step.told,
+                  subst (λ m. WaitsOpen m c.args.parts.now.book.ends) same step.waits,
                   (
-                    subst (λ m. WaitsOpen m c.args.parts.now.book.ends) same step.waits,
-                    (
-                      subst (λ m. WaitsOwn m.queries m.units) same step.own,
-                      step.due,
-                    ),
+                    subst (λ m. WaitsOwn m.queries m.units) same step.own,
+                    step.due,
                   ),
                 ),
               ),
@@ -54,8 +51,8 @@ settle-requires-send-N g c κs within =
 
 pub returns-clause-rest : goal.returns-clause-rest
 returns-clause-rest g c =
-    let can = c.requires.1.1.1.1.1 in
-    let same = c.requires.1.1.1.1.0 in
+    let can = c.requires.1.1.1.1 in
+    let same = c.requires.1.1.1.0 in
     let h = c.args.journal.now.items in
     let e = c.args.entry in
     let told = c.settle.ensures in
@@ -71,8 +68,8 @@ returns-clause-rest g c =
 
 pub returns-clause-fires : goal.returns-clause-fires
 returns-clause-fires g c =
-    let can = c.requires.1.1.1.1.1 in
-    let same = c.requires.1.1.1.1.0 in
+    let can = c.requires.1.1.1.1 in
+    let same = c.requires.1.1.1.0 in
     let h = c.args.journal.now.items in
     let e = c.args.entry in
     let told = c.settle.ensures in

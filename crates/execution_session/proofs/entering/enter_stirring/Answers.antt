@@ -6,19 +6,16 @@ use Rattle.execution_session.specs.Moved.{CanEnter}
 use Rattle.execution_session.proofs.Listless.{listless}
 use Rattle.execution_session.proofs.entering.enter_stirring.Goals as goal
 
-pub enter-told-requires-send-N : goal.enter-told-requires-send-N
-enter-told-requires-send-N g c κs within = (
+pub enter-told-requires : goal.enter-told-requires
+enter-told-requires g c κs within = (
   within.0,
   (
     within.1,
     (
       (search rules),
       (
-        c.type_bounds.send-N,
-        (
-          refl,
-          subst (λ r. CanEnter g.U.UnitKind.meaning g.row.JMAX c.args.live.now.journal.items (vec_capacity c.args.live.now.journal) (record { seat = c.args.seat; event = c.args.event; reply = r }) c.args.live.now.parts) (sym c.copy_reply.ensures) c.requires.can,
-        ),
+        refl,
+        subst (λ r. CanEnter g.U.UnitKind.meaning g.row.JMAX c.args.live.now.journal.items (vec_capacity c.args.live.now.journal) (record { seat = c.args.seat; event = c.args.event; reply = r }) c.args.live.now.parts) (sym c.copy_reply.ensures) c.requires.can,
       ),
     ),
   ),

@@ -4,8 +4,8 @@ use Rattle.execution_session.specs.Performs.{state_of}
 use Rattle.execution_session.proofs.HeldCalls.{finishes_itself}
 use Rattle.execution_session.proofs.holding.emit_taken.Goals as goal
 
-pub emit-requires-clause-finish : goal.emit-requires-clause-finish
-emit-requires-clause-finish g c κs within =
+pub emit-requires : goal.emit-requires
+emit-requires g c =
     let means = g.U.UnitKind.meaning in
     let taken = c.args.taken.now in
     let finished : IsFinished (means taken.share) taken.live (unwrap_or taken.base 0) c.args.bound.now taken.instances c.in_ok-made.made =

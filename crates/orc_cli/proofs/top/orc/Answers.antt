@@ -1,6 +1,6 @@
 -- Its journal has more places than a run has entries.
 use Rattle.std.proofs.Common.{◌⊎◌, inl, inr, arith}
-use Rattle.session_core.specs.declared.session.TheConstants.{JOURNAL_LIMIT}
+use Rattle.execution_session.specs.declared.session.TheConstants.{JOURNAL_LIMIT}
 use Rattle.orc_cli.specs.declared.answer.Answer.{Answer}
 use Rattle.orc_cli.specs.Causes.{HasFault, IsCutShort}
 use Rattle.orc_cli.proofs.top.orc.Goals as goal

@@ -10,7 +10,7 @@ use Rattle.session_lookups.proofs.asking.match_ask.Goals as goal
 
 pub returns : goal.returns
 returns g c =
-    let r = c.requires.1.1.1 in
+    let r = c.requires.1.1 in
     let sight = c.of-shown.result in
     let refusal = order_refusal (shown g.U.UnitKind.meaning sight) c.args.order.now c.args.wanted.now in
     let all = matched (shown g.U.UnitKind.meaning sight) c.args.order.now c.args.wanted.now in

@@ -9,7 +9,7 @@ use Rattle.session_lookups.proofs.linking.match_link.Goals as goal
 
 pub returns : goal.returns
 returns g c = λ x e.
-    let r = c.requires.1.1.1 in
+    let r = c.requires.1.1 in
     let y = c.in-Some.unit.now in
     let u = g.U.UnitKind.meaning y.unit in
     let order = c.order.result.now in
@@ -21,7 +21,7 @@ returns g c = λ x e.
 
 pub returns-in-Some-source : goal.returns-in-Some-source
 returns-in-Some-source g c = λ x e.
-    let r = c.requires.1.1.1 in
+    let r = c.requires.1.1 in
     let y = c.in-Some.unit.now in
     let u = g.U.UnitKind.meaning y.unit in
     let source = c.in-Some-source.source in

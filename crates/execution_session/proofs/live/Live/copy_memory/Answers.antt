@@ -6,7 +6,7 @@ use Rattle.execution_session.proofs.StoredMemory.{memory_copied}
 use Rattle.execution_session.proofs.live.Live.copy_memory.Goals as goal
 
 pub returns-clause-step : goal.returns-clause-step
-returns-clause-step g c = λ s. refused_step g.U.UnitKind.meaning g.m s event.Image reply.Image c.args.self.now.parts c.requires.1.1.1 (record { answered = λ jmax past s. refl; quiet = λ s. refl })
+returns-clause-step g c = λ s. refused_step g.U.UnitKind.meaning g.m s event.Image reply.Image c.args.self.now.parts c.requires.1.1 (record { answered = λ jmax past s. refl; quiet = λ s. refl })
 
 pub returns-clause-copy : goal.returns-clause-copy
-returns-clause-copy g c = memory_copied g.m c.args.self.now.parts.space c.image.result c.requires.1.1.1.parts.kept.memory c.image.ensures.laid_out c.image.ensures.image
+returns-clause-copy g c = memory_copied g.m c.args.self.now.parts.space c.image.result c.requires.1.1.parts.kept.memory c.image.ensures.laid_out c.image.ensures.image

@@ -2,19 +2,16 @@ use Rattle.std.proofs.Common.{◌≡◌, ◌∙◌, false, sym, subst}
 use Rattle.execution_session.specs.Generated.{lacks_room}
 use Rattle.execution_session.proofs.live.Live.define_ready.Goals as goal
 
-pub define_generated-requires-send-N : goal.define_generated-requires-send-N
-define_generated-requires-send-N g c κs within = (
+pub define_generated-requires : goal.define_generated-requires
+define_generated-requires g c κs within = (
   within.0,
   (
     within.1,
     (
       c.requires.1.1.0,
       (
-        c.requires.1.1.1.0,
-        (
-          c.requires.1.1.1.1,
-          subst (λ n. lacks_room g.m n ≡ false) c.count.ensures (sym c.lacks_room.ensures ∙ c.if-lacks_room.false),
-        ),
+        c.requires.1.1.1,
+        subst (λ n. lacks_room g.m n ≡ false) c.count.ensures (sym c.lacks_room.ensures ∙ c.if-lacks_room.false),
       ),
     ),
   ),

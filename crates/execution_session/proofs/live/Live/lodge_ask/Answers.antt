@@ -3,22 +3,22 @@ use Rattle.session_model.specs.Answer.{lodged_reply}
 use Rattle.execution_session.proofs.Lodging.{ask_lodging}
 use Rattle.execution_session.proofs.live.Live.lodge_ask.Goals as goal
 
-pub lodged_reply-reply-requires-send-N : goal.lodged_reply-reply-requires-send-N
-lodged_reply-reply-requires-send-N g c κs within =
-    let at = c.requires.1.1.1.0 in
+pub lodged_reply-reply-requires : goal.lodged_reply-reply-requires
+lodged_reply-reply-requires g c κs within =
+    let at = c.requires.1.1.0 in
     let few = at.few in
-    (within.0, (within.1, (c.requires.1.1.0, (at.parts, (at.queries, (omega (arith, few)))))))
+    (within.0, (within.1, (at.parts, (at.queries, (omega (arith, few))))))
 
-pub ask-requires-send-N : goal.ask-requires-send-N
-ask-requires-send-N g c κs within =
-    let r = c.requires.1.1.1 in
+pub ask-requires : goal.ask-requires
+ask-requires g c κs within =
+    let r = c.requires.1.1 in
     let at = r.0 in
     let asked : c.count-asked.result + 1 ≡ g.m.entries + 1 = search rules in
-    (within.0, (within.1, (c.requires.1.1.0, (at.parts, (at.sound, (at.queries, (at.few, (r.1.1, asked))))))))
+    (within.0, (within.1, (at.parts, (at.sound, (at.queries, (at.few, (r.1.1, asked)))))))
 
 pub returns-clause-lodges : goal.returns-clause-lodges
 returns-clause-lodges g c =
-    let r = c.requires.1.1.1 in
+    let r = c.requires.1.1 in
     let at = r.0 in
     let told = c.in_ok-ask.ensures in
     let asked : c.count-asked.result + 1 ≡ g.m.entries + 1 = search rules in

@@ -2,23 +2,23 @@ use Rattle.std.proofs.Common.{◌≡◌, ◌+◌, ap, ◌∙◌, arith, rules}
 use Rattle.execution_session.proofs.Lodging.{may_wait, link_lodging}
 use Rattle.execution_session.proofs.live.Live.lodge_link.Goals as goal
 
-pub lodged_reply-reply-requires-send-N : goal.lodged_reply-reply-requires-send-N
-lodged_reply-reply-requires-send-N g c κs within =
-    let at = c.requires.1.1.1.0 in
+pub lodged_reply-reply-requires : goal.lodged_reply-reply-requires
+lodged_reply-reply-requires g c κs within =
+    let at = c.requires.1.1.0 in
     let few = at.few in
-    (within.0, (within.1, (c.requires.1.1.0, (at.parts, (at.queries, (omega (arith, few)))))))
+    (within.0, (within.1, (at.parts, (at.queries, (omega (arith, few))))))
 
-pub link-requires-send-N : goal.link-requires-send-N
-link-requires-send-N g c κs within =
-    let r = c.requires.1.1.1 in
+pub link-requires : goal.link-requires
+link-requires g c κs within =
+    let r = c.requires.1.1 in
     let at = r.0 in
     let right = r.1.1.1 in
     let asked : c.count-asked.result + 1 ≡ g.m.entries + 1 = search rules in
-    (within.0, (within.1, (c.requires.1.1.0, (at.parts, (at.sound, (at.queries, (at.few, (r.1.1.0, (asked, (right.0, right.1, may_wait right.0 right.2))))))))))
+    (within.0, (within.1, (at.parts, (at.sound, (at.queries, (at.few, (r.1.1.0, (asked, (right.0, right.1, may_wait right.0 right.2)))))))))
 
 pub returns-clause-lodges : goal.returns-clause-lodges
 returns-clause-lodges g c =
-    let r = c.requires.1.1.1 in
+    let r = c.requires.1.1 in
     let at = r.0 in
     let told = c.in_ok-link.ensures in
     let asked : c.count-asked.result + 1 ≡ g.m.entries + 1 = search rules in

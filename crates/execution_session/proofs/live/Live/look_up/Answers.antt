@@ -10,21 +10,21 @@ use Rattle.execution_session.specs.Lookups.{Lodges, IsLodgingStep}
 use Rattle.execution_session.proofs.Lodging.{ask_here, ask_lodges, ask_refused, ask_unlodged}
 use Rattle.execution_session.proofs.live.Live.look_up.Goals as goal
 
-pub match_ask-requires-send-N : goal.match_ask-requires-send-N
-match_ask-requires-send-N g c κs within =
-    let r = c.requires.1.1.1 in
-    (within.0, (within.1, (c.requires.1.1.0, (r.0.parts, (r.1.1.0, r.1.1.1)))))
+pub match_ask-requires : goal.match_ask-requires
+match_ask-requires g c κs within =
+    let r = c.requires.1.1 in
+    (within.0, (within.1, (r.0.parts, (r.1.1.0, r.1.1.1))))
 
-pub lodge_ask-requires-send-N : goal.lodge_ask-requires-send-N
-lodge_ask-requires-send-N g c κs within =
-    let r = c.requires.1.1.1 in
+pub lodge_ask-requires : goal.lodge_ask-requires
+lodge_ask-requires g c κs within =
+    let r = c.requires.1.1 in
     let looks : IsAsked g.m c.args.order.now c.args.wanted.now (looked.Matched c.in-Matched.found) = subst (IsAsked g.m c.args.order.now c.args.wanted.now) c.in-Matched.is c.in_ok-reply.ensures in
-    (within.0, (within.1, (c.requires.1.1.0, (r.0, (r.1.0, ask_here g.m c.args.order.now c.args.wanted.now c.in-Matched.found looks)))))
+    (within.0, (within.1, (r.0, (r.1.0, ask_here g.m c.args.order.now c.args.wanted.now c.in-Matched.found looks))))
 
 pub returns-in-Refused-clause-step : goal.returns-in-Refused-clause-step
 returns-in-Refused-clause-step g c =
     let looks : IsAsked g.m c.args.order.now c.args.wanted.now (looked.Refused c.in-Refused.reply) = subst (IsAsked g.m c.args.order.now c.args.wanted.now) c.in-Refused.is c.in_ok-reply.ensures in
-    λ s. ask_refused g.U.UnitKind.meaning g.m c.args.order.now c.args.wanted.now c.args.level c.args.then.now c.in-Refused.reply c.args.self.now.parts c.requires.1.1.1.0 looks s
+    λ s. ask_refused g.U.UnitKind.meaning g.m c.args.order.now c.args.wanted.now c.args.level c.args.then.now c.in-Refused.reply c.args.self.now.parts c.requires.1.1.0 looks s
 
 pub returns-in-Refused-clause-back : goal.returns-in-Refused-clause-back
 returns-in-Refused-clause-back g c =
@@ -33,7 +33,7 @@ returns-in-Refused-clause-back g c =
 
 pub returns-in-Matched-clause-step : goal.returns-in-Matched-clause-step
 returns-in-Matched-clause-step g c =
-    let r = c.requires.1.1.1 in
+    let r = c.requires.1.1 in
     let old = c.args.self.now.parts in
     let new = c.lodge_ask.new.self.parts in
     let found = c.in-Matched.found in

@@ -12,23 +12,23 @@ use Rattle.execution_session.specs.Lookups.{Lodges, IsLodgingStep}
 use Rattle.execution_session.proofs.Lodging.{link_here, link_lodges, link_refused}
 use Rattle.execution_session.proofs.live.Live.look_up_externals.Goals as goal
 
-pub match_link-requires-send-N : goal.match_link-requires-send-N
-match_link-requires-send-N g c κs within =
-    let r = c.requires.1.1.1 in
+pub match_link-requires : goal.match_link-requires
+match_link-requires g c κs within =
+    let r = c.requires.1.1 in
     let at = r.0 in
-    (within.0, (within.1, (c.requires.1.1.0, (at.parts, (at.queries, (at.bound, ((λ i w t. (at.homes.rows i w t).dylib), r.1.1)))))))
+    (within.0, (within.1, (at.parts, (at.queries, (at.bound, ((λ i w t. (at.homes.rows i w t).dylib), r.1.1))))))
 
-pub lodge_link-requires-send-N : goal.lodge_link-requires-send-N
-lodge_link-requires-send-N g c κs within =
-    let r = c.requires.1.1.1 in
+pub lodge_link-requires : goal.lodge_link-requires
+lodge_link-requires g c κs within =
+    let r = c.requires.1.1 in
     let x = r.1.1.0 in
     let looks : IsLinked g.m c.args.u x (looked.Matched c.in-Matched.found) = subst (IsLinked g.m c.args.u x) c.in-Matched.is (c.in_ok-reply.ensures x r.1.1.1) in
-    (within.0, (within.1, (c.requires.1.1.0, (r.0, (r.1.0, (link_here g.m c.args.u x c.in-Matched.found looks, r.1.1))))))
+    (within.0, (within.1, (r.0, (r.1.0, (link_here g.m c.args.u x c.in-Matched.found looks, r.1.1)))))
 
 pub returns-in-Refused-clause-step : goal.returns-in-Refused-clause-step
 returns-in-Refused-clause-step g c = λ s x right.
     let unit = right_unit g.m s c.args.u can_link x right in
-    link_refused g.U.UnitKind.meaning g.m c.args.u x c.in-Refused.reply c.args.self.now.parts c.requires.1.1.1.0 (subst (IsLinked g.m c.args.u x) c.in-Refused.is (c.in_ok-reply.ensures x unit.0)) s right
+    link_refused g.U.UnitKind.meaning g.m c.args.u x c.in-Refused.reply c.args.self.now.parts c.requires.1.1.0 (subst (IsLinked g.m c.args.u x) c.in-Refused.is (c.in_ok-reply.ensures x unit.0)) s right
 
 pub returns-in-Matched-clause-step : goal.returns-in-Matched-clause-step
 returns-in-Matched-clause-step g c =

@@ -10,16 +10,16 @@ use Rattle.execution_session.proofs.Counting.{counted}
 use Rattle.execution_session.proofs.Standing.{stands, entry, can_step, did_step}
 use Rattle.execution_session.proofs.session.Session.ask_telling.Goals as goal
 
-pub check_places-requires-send-N : goal.check_places-requires-send-N
-check_places-requires-send-N g c κs within = (within.0, (within.1, ((search rules), (c.type_bounds.send-N, (refl, (c.self.invariant, (omega arith)))))))
+pub check_places-requires : goal.check_places-requires
+check_places-requires g c κs within = (within.0, (within.1, ((search rules), (refl, (c.self.invariant, (omega arith))))))
 
-pub look_up-requires-send-N : goal.look_up-requires-send-N
-look_up-requires-send-N g c κs within =
+pub look_up-requires : goal.look_up-requires
+look_up-requires g c κs within =
     let live = c.self.inside.live in
-    (within.0, (within.1, (c.type_bounds.send-N, (stands g.U.UnitKind.meaning g.row.JMAX live.parts live.journal.items _ c.self.invariant, (counted g.U.UnitKind.meaning live.journal.items, (c.requires.order, c.requires.wanted))))))
+    (within.0, (within.1, (stands g.U.UnitKind.meaning g.row.JMAX live.parts live.journal.items _ c.self.invariant, (counted g.U.UnitKind.meaning live.journal.items, (c.requires.order, c.requires.wanted)))))
 
 pub enter_stirring-requires-clause-can : goal.enter_stirring-requires-clause-can
-enter_stirring-requires-clause-can g c κs within =
+enter_stirring-requires-clause-can g c =
     let new = c.look_up.new.self in
     let asks = event.Ask c.args.order.now c.args.wanted.now c.args.level (note_of c.args.then.now) in
     let is : c.in-Ok.event ≡ asks = c.in-Ok.ensures ∙ ap (event.Ask c.args.order.now c.args.wanted.now c.args.level) c.note_of-note.ensures in

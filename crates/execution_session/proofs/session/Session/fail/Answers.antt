@@ -9,11 +9,11 @@ use Rattle.execution_session.proofs.Entries.{was_full}
 use Rattle.execution_session.proofs.Standing.{stands}
 use Rattle.execution_session.proofs.session.Session.fail.Goals as goal
 
-pub check_places-requires-send-N : goal.check_places-requires-send-N
-check_places-requires-send-N g c κs within = (within.0, (within.1, ((search rules), (c.type_bounds.send-N, (refl, (c.self.invariant, c.places_to_fail-places.ensures.few))))))
+pub check_places-requires : goal.check_places-requires
+check_places-requires g c κs within = (within.0, (within.1, ((search rules), (refl, (c.self.invariant, c.places_to_fail-places.ensures.few)))))
 
-pub fail_unit-reply-requires-send-N : goal.fail_unit-reply-requires-send-N
-fail_unit-reply-requires-send-N g c κs within = (within.0, (within.1, (c.type_bounds.send-N, stands g.U.UnitKind.meaning g.row.JMAX c.self.inside.live.parts c.self.inside.live.journal.items _ c.self.invariant)))
+pub fail_unit-reply-requires : goal.fail_unit-reply-requires
+fail_unit-reply-requires g c κs within = (within.0, (within.1, stands g.U.UnitKind.meaning g.row.JMAX c.self.inside.live.parts c.self.inside.live.journal.items _ c.self.invariant))
 
 pub returns-in-Err-clause-performs : goal.returns-in-Err-clause-performs
 returns-in-Err-clause-performs g c =
@@ -26,7 +26,7 @@ returns-in-Err-clause-held g c = λ x at held.
     absurd (holder_has_place g.U.UnitKind.meaning g.row.JMAX c.places_to_fail-places.result c.self.inside.live c.args.s c.args.u x c.args.why c.self.invariant (ap (λ h. slice_get (state_of g.U.UnitKind.meaning h).units c.args.u.0) (sym seen) ∙ at) held (sym (c.places_to_fail-places.ensures.places c.args.why)) c.in-Err.ensures.full.1)
 
 pub enter_telling-requires-clause-can : goal.enter_telling-requires-clause-can
-enter_telling-requires-clause-can g c κs within =
+enter_telling-requires-clause-can g c =
     let seen : c.args.self.now.journal ≡ c.self.inside.live.journal.items = search rules in
     can_fail g.U.UnitKind.meaning g.row.JMAX c.places_to_fail-places.result c.self.inside.live c.fail_unit-reply.new.self c.args.s c.args.u c.args.why c.fail_unit-reply.result c.self.invariant c.fail_unit-reply.ensures.rest (sym (c.places_to_fail-places.ensures.places c.args.why)) c.in_default.ensures.places
     (subst (λ h. MayFail g.row.JMAX (plain_history g.U.UnitKind.meaning h) (state_of g.U.UnitKind.meaning h) c.args.s.0 c.args.u c.args.why) seen c.requires.cause) (c.fail_unit-reply.ensures.step c.args.why)

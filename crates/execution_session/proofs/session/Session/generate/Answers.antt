@@ -5,23 +5,20 @@ use Rattle.closure_laws.proofs.Unspent.{unspent_have_trackers}
 use Rattle.execution_session.proofs.Standing.{stands, can_step, did_step}
 use Rattle.execution_session.proofs.session.Session.generate.Goals as goal
 
-pub check_places-requires-send-N : goal.check_places-requires-send-N
-check_places-requires-send-N g c κs within = (within.0, (within.1, ((search rules), (c.type_bounds.send-N, (refl, (c.self.invariant, (omega arith)))))))
+pub check_places-requires : goal.check_places-requires
+check_places-requires g c κs within = (within.0, (within.1, ((search rules), (refl, (c.self.invariant, (omega arith))))))
 
-pub generate-requires-send-N : goal.generate-requires-send-N
-generate-requires-send-N g c κs within = (
+pub generate-requires : goal.generate-requires
+generate-requires g c κs within = (
   within.0,
   (
     within.1,
-    (
-      c.type_bounds.send-N,
-      (stands g.U.UnitKind.meaning g.row.JMAX c.self.inside.live.parts c.self.inside.live.journal.items _ c.self.invariant, unspent_have_trackers g.row.JMAX (plain_history g.U.UnitKind.meaning c.self.inside.live.journal.items) c.self.invariant.legal),
-    ),
+    (stands g.U.UnitKind.meaning g.row.JMAX c.self.inside.live.parts c.self.inside.live.journal.items _ c.self.invariant, unspent_have_trackers g.row.JMAX (plain_history g.U.UnitKind.meaning c.self.inside.live.journal.items) c.self.invariant.legal),
   ),
 )
 
 pub enter_quietly-requires-clause-can : goal.enter_quietly-requires-clause-can
-enter_quietly-requires-clause-can g c κs within = can_step g.U.UnitKind.meaning g.row.JMAX 1 c.self.inside.live c.generate.new.self c.args.s (event.Generate c.args.g) c.in-Ok.reply c.self.invariant c.in-Ok.ensures.rest refl c.in_ok-check_places.ensures.places (c.in-Ok.ensures.step c.args.s.0).step
+enter_quietly-requires-clause-can g c = can_step g.U.UnitKind.meaning g.row.JMAX 1 c.self.inside.live c.generate.new.self c.args.s (event.Generate c.args.g) c.in-Ok.reply c.self.invariant c.in-Ok.ensures.rest refl c.in_ok-check_places.ensures.places (c.in-Ok.ensures.step c.args.s.0).step
 
 pub returns-clause-performs : goal.returns-clause-performs
 returns-clause-performs g c =

@@ -4,14 +4,14 @@ use Rattle.execution_session.proofs.Counting.{counted}
 use Rattle.execution_session.proofs.Standing.{stands, can_step, did_step}
 use Rattle.execution_session.proofs.session.Session.link_telling.Goals as goal
 
-pub check_places-requires-send-N : goal.check_places-requires-send-N
-check_places-requires-send-N g c κs within = (within.0, (within.1, ((search rules), (c.type_bounds.send-N, (refl, (c.self.invariant, (omega arith)))))))
+pub check_places-requires : goal.check_places-requires
+check_places-requires g c κs within = (within.0, (within.1, ((search rules), (refl, (c.self.invariant, (omega arith))))))
 
-pub link_unit-requires-send-N : goal.link_unit-requires-send-N
-link_unit-requires-send-N g c κs within = (within.0, (within.1, (c.type_bounds.send-N, (stands g.U.UnitKind.meaning g.row.JMAX c.self.inside.live.parts c.self.inside.live.journal.items _ c.self.invariant, counted g.U.UnitKind.meaning c.self.inside.live.journal.items))))
+pub link_unit-requires : goal.link_unit-requires
+link_unit-requires g c κs within = (within.0, (within.1, (stands g.U.UnitKind.meaning g.row.JMAX c.self.inside.live.parts c.self.inside.live.journal.items _ c.self.invariant, counted g.U.UnitKind.meaning c.self.inside.live.journal.items)))
 
 pub enter_stirring-requires-clause-can : goal.enter_stirring-requires-clause-can
-enter_stirring-requires-clause-can g c κs within = can_step g.U.UnitKind.meaning g.row.JMAX 1 c.self.inside.live c.link_unit.new.self c.args.s (event.Link c.args.u) c.in-Ok.reply c.self.invariant c.in-Ok.ensures.rest refl c.in_ok-check_places.ensures.places c.in-Ok.ensures.step.step
+enter_stirring-requires-clause-can g c = can_step g.U.UnitKind.meaning g.row.JMAX 1 c.self.inside.live c.link_unit.new.self c.args.s (event.Link c.args.u) c.in-Ok.reply c.self.invariant c.in-Ok.ensures.rest refl c.in_ok-check_places.ensures.places c.in-Ok.ensures.step.step
 
 pub returns-clause-performs : goal.returns-clause-performs
 returns-clause-performs g c =

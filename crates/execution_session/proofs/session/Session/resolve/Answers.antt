@@ -4,14 +4,14 @@ use Rattle.execution_session.proofs.Entries.{did_tell}
 use Rattle.execution_session.proofs.Standing.{stands, can_step}
 use Rattle.execution_session.proofs.session.Session.resolve.Goals as goal
 
-pub check_places-requires-send-N : goal.check_places-requires-send-N
-check_places-requires-send-N g c κs within = (within.0, (within.1, ((search rules), (c.type_bounds.send-N, (refl, (c.self.invariant, (omega arith)))))))
+pub check_places-requires : goal.check_places-requires
+check_places-requires g c κs within = (within.0, (within.1, ((search rules), (refl, (c.self.invariant, (omega arith))))))
 
-pub resolve_unit-reply-requires-send-N : goal.resolve_unit-reply-requires-send-N
-resolve_unit-reply-requires-send-N g c κs within = (within.0, (within.1, (c.type_bounds.send-N, stands g.U.UnitKind.meaning g.row.JMAX c.self.inside.live.parts c.self.inside.live.journal.items _ c.self.invariant)))
+pub resolve_unit-reply-requires : goal.resolve_unit-reply-requires
+resolve_unit-reply-requires g c κs within = (within.0, (within.1, stands g.U.UnitKind.meaning g.row.JMAX c.self.inside.live.parts c.self.inside.live.journal.items _ c.self.invariant))
 
 pub enter_telling-requires-clause-can : goal.enter_telling-requires-clause-can
-enter_telling-requires-clause-can g c κs within = can_step g.U.UnitKind.meaning g.row.JMAX 1 c.self.inside.live c.resolve_unit-reply.new.self c.args.s (event.Resolve c.args.u) c.resolve_unit-reply.result c.self.invariant c.resolve_unit-reply.ensures.rest refl c.in_default.ensures.places c.resolve_unit-reply.ensures.step.step
+enter_telling-requires-clause-can g c = can_step g.U.UnitKind.meaning g.row.JMAX 1 c.self.inside.live c.resolve_unit-reply.new.self c.args.s (event.Resolve c.args.u) c.resolve_unit-reply.result c.self.invariant c.resolve_unit-reply.ensures.rest refl c.in_default.ensures.places c.resolve_unit-reply.ensures.step.step
 
 pub returns-clause-performs : goal.returns-clause-performs
 returns-clause-performs g c =

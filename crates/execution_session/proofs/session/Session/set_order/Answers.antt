@@ -5,14 +5,14 @@ use Rattle.execution_session.specs.Steps.{IsStep}
 use Rattle.execution_session.proofs.Standing.{stands, can_step, did_step}
 use Rattle.execution_session.proofs.session.Session.set_order.Goals as goal
 
-pub check_places-requires-send-N : goal.check_places-requires-send-N
-check_places-requires-send-N g c κs within = (within.0, (within.1, ((search rules), (c.type_bounds.send-N, (refl, (c.self.invariant, (omega arith)))))))
+pub check_places-requires : goal.check_places-requires
+check_places-requires g c κs within = (within.0, (within.1, ((search rules), (refl, (c.self.invariant, (omega arith))))))
 
-pub set_order-requires-send-N : goal.set_order-requires-send-N
-set_order-requires-send-N g c κs within = (within.0, (within.1, (c.type_bounds.send-N, (stands g.U.UnitKind.meaning g.row.JMAX c.self.inside.live.parts c.self.inside.live.journal.items _ c.self.invariant, (search rules)))))
+pub set_order-requires : goal.set_order-requires
+set_order-requires g c κs within = (within.0, (within.1, (stands g.U.UnitKind.meaning g.row.JMAX c.self.inside.live.parts c.self.inside.live.journal.items _ c.self.invariant, (search rules))))
 
 pub enter_quietly-requires-clause-can : goal.enter_quietly-requires-clause-can
-enter_quietly-requires-clause-can g c κs within = can_step g.U.UnitKind.meaning g.row.JMAX 1 c.self.inside.live c.set_order.new.self c.args.s (event.SetOrder c.args.d c.in-Ok.copy) c.in-Ok-set_order.reply c.self.invariant c.in-Ok-set_order.ensures.rest refl c.in_ok-check_places.ensures.places
+enter_quietly-requires-clause-can g c = can_step g.U.UnitKind.meaning g.row.JMAX 1 c.self.inside.live c.set_order.new.self c.args.s (event.SetOrder c.args.d c.in-Ok.copy) c.in-Ok-set_order.reply c.self.invariant c.in-Ok-set_order.ensures.rest refl c.in_ok-check_places.ensures.places
     (subst (λ order. IsStep g.U.UnitKind.meaning (state_of g.U.UnitKind.meaning c.self.inside.live.journal.items) c.args.s.0 (event.SetOrder c.args.d order) c.in-Ok-set_order.reply c.self.inside.live.parts c.set_order.new.self.parts) (sym c.in-Ok.ensures) (c.in-Ok-set_order.ensures.step c.args.s.0).step)
 
 pub returns-clause-performs : goal.returns-clause-performs

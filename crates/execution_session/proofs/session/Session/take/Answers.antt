@@ -8,14 +8,14 @@ use Rattle.execution_session.proofs.Standing.{stands, can_step, did_step}
 use Rattle.execution_session.proofs.TakenJobs.{can_hand_out, first_of, gives_after, binds_after, take_entry, takes_none, takes_entered}
 use Rattle.execution_session.proofs.session.Session.take.Goals as goal
 
-pub next_job-requires-send-N : goal.next_job-requires-send-N
-next_job-requires-send-N g c κs within = (within.0, (within.1, (c.type_bounds.send-N, stands g.U.UnitKind.meaning g.row.JMAX c.self.inside.live.parts c.self.inside.live.journal.items _ c.self.invariant)))
+pub next_job-requires : goal.next_job-requires
+next_job-requires g c κs within = (within.0, (within.1, stands g.U.UnitKind.meaning g.row.JMAX c.self.inside.live.parts c.self.inside.live.journal.items _ c.self.invariant))
 
-pub held-requires-send-N : goal.held-requires-send-N
-held-requires-send-N g c κs within = (within.0, (within.1, (c.type_bounds.send-N, stands g.U.UnitKind.meaning g.row.JMAX c.self.inside.live.parts c.self.inside.live.journal.items _ c.self.invariant)))
+pub held-requires : goal.held-requires
+held-requires g c κs within = (within.0, (within.1, stands g.U.UnitKind.meaning g.row.JMAX c.self.inside.live.parts c.self.inside.live.journal.items _ c.self.invariant))
 
-pub check_places-requires-send-N : goal.check_places-requires-send-N
-check_places-requires-send-N g c κs within = (within.0, (within.1, ((search rules), (c.type_bounds.send-N, (refl, (c.self.invariant, (omega arith)))))))
+pub check_places-requires : goal.check_places-requires
+check_places-requires g c κs within = (within.0, (within.1, ((search rules), (refl, (c.self.invariant, (omega arith))))))
 
 pub returns-in_default-clause-performs : goal.returns-in_default-clause-performs
 returns-in_default-clause-performs g c =
@@ -25,27 +25,24 @@ returns-in_default-clause-performs g c =
     (subst (λ h. Takes g.U.UnitKind.meaning g.row.JMAX h h c.args.s (Ok (reply.Idle c.held.result))) (sym seen)
     (takes_none g.U.UnitKind.meaning g.row.JMAX c.self.inside.live.journal.items c.args.s c.held.result none c.held.ensures))
 
-pub hand_out-requires-send-N : goal.hand_out-requires-send-N
-hand_out-requires-send-N g c κs within =
+pub hand_out-requires : goal.hand_out-requires
+hand_out-requires g c κs within =
     let first : slice_get (state_of g.U.UnitKind.meaning c.self.inside.live.journal.items).jobs 0 ≡ Some c.in-Some.job = search rules in (
       within.0,
       (
         within.1,
         (
-          c.type_bounds.send-N,
+          stands g.U.UnitKind.meaning g.row.JMAX c.self.inside.live.parts c.self.inside.live.journal.items _ c.self.invariant,
           (
-            stands g.U.UnitKind.meaning g.row.JMAX c.self.inside.live.parts c.self.inside.live.journal.items _ c.self.invariant,
-            (
-              can_hand_out g.U.UnitKind.meaning g.row.JMAX c.self.inside.live.parts c.self.inside.live.journal.items _ c.self.invariant,
-              first_of (state_of g.U.UnitKind.meaning c.self.inside.live.journal.items) c.in-Some.job first,
-            ),
+            can_hand_out g.U.UnitKind.meaning g.row.JMAX c.self.inside.live.parts c.self.inside.live.journal.items _ c.self.invariant,
+            first_of (state_of g.U.UnitKind.meaning c.self.inside.live.journal.items) c.in-Some.job first,
           ),
         ),
       ),
     )
 
 pub enter_silently-requires-clause-can : goal.enter_silently-requires-clause-can
-enter_silently-requires-clause-can g c κs within = can_step g.U.UnitKind.meaning g.row.JMAX 2 c.self.inside.live c.hand_out.new.self c.args.s event.Take c.in-Ok.handed.entry c.self.invariant c.in-Ok.ensures.rest refl (c.in_default-check_places.ensures.places) c.in-Ok.ensures.step.step
+enter_silently-requires-clause-can g c = can_step g.U.UnitKind.meaning g.row.JMAX 2 c.self.inside.live c.hand_out.new.self c.args.s event.Take c.in-Ok.handed.entry c.self.invariant c.in-Ok.ensures.rest refl (c.in_default-check_places.ensures.places) c.in-Ok.ensures.step.step
 
 pub returns-clause-performs : goal.returns-clause-performs
 returns-clause-performs g c =

@@ -11,10 +11,10 @@ use Rattle.query_book.proofs.Finishing.{IsFinished, listed_is_open, finished_kep
 use Rattle.query_book.proofs.book.Book.settle.Goals as goal
 
 pub end_all-requires-clause-once : goal.end_all-requires-clause-once
-end_all-requires-clause-once g c = λ lives out k. subst (λ l. count k l ≤ 1) (sym c.met.ensures) (c.sort.ensures.once k)
+end_all-requires-clause-once g c = λ k. subst (λ l. count k l ≤ 1) (sym c.met.ensures) (c.sort.ensures.once k)
 
 pub end_all-requires-clause-unended : goal.end_all-requires-clause-unended
-end_all-requires-clause-unended g c = λ lives out k pos.
+end_all-requires-clause-unended g c = λ k pos.
     let t : IsSettling (g.T.Standing.stand c.args.standing.now) c.args.changed.now c.self.inside.rows c.self.inside.board c.tell_all.new.self = record { kept = c.self.invariant; heard = c.tell_all.ensures c.self.inside.rows.queries c.self.invariant.watches; told = subst (λ l. IsTold (g.T.Standing.stand c.args.standing.now) c.args.changed.now l) (sym c.self.view_is) c.requires } in
     listed_is_open (g.T.Standing.stand c.args.standing.now) c.args.changed.now c.self.inside.rows c.self.inside.board c.tell_all.new.self k t
     (let e : count k c.met.result.now ≡ count k c.tell_all.new.self.marks.met = ap (λ l. count k l) c.met.ensures ∙ c.sort.ensures.met k in omega (arith, e, pos))

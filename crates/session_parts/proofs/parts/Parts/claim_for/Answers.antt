@@ -3,8 +3,8 @@ use Rattle.session_parts.specs.Parts.{AreParts}
 use Rattle.session_parts.proofs.Steps.{claim_of}
 use Rattle.session_parts.proofs.parts.Parts.claim_for.Goals as goal
 
-pub claim-requires-after_bounds : goal.claim-requires-after_bounds
-claim-requires-after_bounds g c κs within = let x = c.requires in
+pub claim-requires : goal.claim-requires
+claim-requires g c = let x = c.requires in
     let q = claim_of x.0 c.args.self.now.graph.rows c.args.i c.in-Some.u x.1.kept.rows (sym c.unsearched_unit.ensures ∙ c.in-Some.is) x.2 x.3 in
     (x.0, q.unit, x.1, q.there, q.unclaimed)
 

@@ -6,8 +6,8 @@ use Rattle.session_parts.proofs.parts.Parts.let_go.Goals as goal
 
 pub returns-clause-parts : goal.returns-clause-parts
 returns-clause-parts g c =
-    with_units g.U.UnitKind.meaning c.args.self.now c.let_go.new.self _ g.m _ c.requires.1.1.1.0 c.let_go.ensures (changed_length c.args.u.0 _ g.m.units)
-    (let_go_tied g.U.UnitKind.meaning (kept_of c.args.self.now) g.m c.args.s c.args.u.0 c.requires.1.1.1.1.0 c.requires.1.1.1.0.kept c.requires.1.1.1.1.1)
+    with_units g.U.UnitKind.meaning c.args.self.now c.let_go.new.self _ g.m _ c.requires.1.1.0 c.let_go.ensures (changed_length c.args.u.0 _ g.m.units)
+    (let_go_tied g.U.UnitKind.meaning (kept_of c.args.self.now) g.m c.args.s c.args.u.0 c.requires.1.1.1.0 c.requires.1.1.0.kept c.requires.1.1.1.1)
 
 pub let_go-requires : goal.let_go-requires
-let_go-requires g c = unit_below g.U.UnitKind.meaning c.args.self.now g.m c.args.u.0 c.requires.1.1.1.1.0 c.requires.1.1.1.0 c.requires.1.1.1.1.1
+let_go-requires g c = unit_below g.U.UnitKind.meaning c.args.self.now g.m c.args.u.0 c.requires.1.1.1.0 c.requires.1.1.0 c.requires.1.1.1.1

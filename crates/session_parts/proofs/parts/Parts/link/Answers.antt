@@ -9,26 +9,23 @@ use Rattle.session_parts.proofs.Asking.{with_queries, link_stage, staged, link_s
 use Rattle.session_parts.proofs.Links.{with_book}
 use Rattle.session_parts.proofs.parts.Parts.link.Goals as goal
 
-pub claim_all-requires-send-N : goal.claim_all-requires-send-N
-claim_all-requires-send-N g c κs within =
-    let r = c.requires.1.1.1 in
+pub claim_all-requires : goal.claim_all-requires
+claim_all-requires g c κs within =
+    let r = c.requires.1.1 in
     let same : c.deref.result.now ≡ c.args.matched = search rules in (
       within.0,
       (
         within.1,
         (
-          c.requires.1.1.0,
-          (
-            subst (λ p. AreParts g.U.UnitKind.meaning p g.m) (sym c.lodge_link.ensures.rest) (with_book g.U.UnitKind.meaning c.args.self.now c.lodge_link.new.self.book g.m r.0),
-            (r.1.0, subst (AllMatched (λ i. present_at g.m.rows i ≡ true)) (sym same) r.1.1.1.1.0),
-          ),
+          subst (λ p. AreParts g.U.UnitKind.meaning p g.m) (sym c.lodge_link.ensures.rest) (with_book g.U.UnitKind.meaning c.args.self.now c.lodge_link.new.self.book g.m r.0),
+          (r.1.0, subst (AllMatched (λ i. present_at g.m.rows i ≡ true)) (sym same) r.1.1.1.1.0),
         ),
       ),
     )
 
-pub wait-requires-send-N : goal.wait-requires-send-N
-wait-requires-send-N g c κs within =
-    let r = c.requires.1.1.1 in
+pub wait-requires : goal.wait-requires
+wait-requires g c κs within =
+    let r = c.requires.1.1 in
     let u = c.args.u.0 in
     let found = c.args.matched in
     let right = r.1.1.1.1.1.1 in
@@ -42,18 +39,15 @@ wait-requires-send-N g c κs within =
       (
         within.1,
         (
-          c.requires.1.1.0,
-          (
-            subst (AreParts g.U.UnitKind.meaning c.claim_all.new.self) (sym stage) (with_queries g.U.UnitKind.meaning c.claim_all.new.self (all_claimed found g.m) _ (subst (λ os. AreParts g.U.UnitKind.meaning c.claim_all.new.self (all_claimed os g.m)) same c.claim_all.ensures.parts)),
-            (right.0, ap (λ n. slice_get n.units u) stage ∙ link_stays g.m u found right.0 r.1.0 right.1 right.2 r.1.1.1.1.0, right.2),
-          ),
+          subst (AreParts g.U.UnitKind.meaning c.claim_all.new.self) (sym stage) (with_queries g.U.UnitKind.meaning c.claim_all.new.self (all_claimed found g.m) _ (subst (λ os. AreParts g.U.UnitKind.meaning c.claim_all.new.self (all_claimed os g.m)) same c.claim_all.ensures.parts)),
+          (right.0, ap (λ n. slice_get n.units u) stage ∙ link_stays g.m u found right.0 r.1.0 right.1 right.2 r.1.1.1.1.0, right.2),
         ),
       ),
     )
 
 pub returns-clause-ok : goal.returns-clause-ok
 returns-clause-ok g c =
-    let r = c.requires.1.1.1 in
+    let r = c.requires.1.1 in
     let u = c.args.u.0 in
     let found = c.args.matched in
     let number : (c.next_query-q.result).0 ≡ length g.m.queries = c.next_query-q.ensures ∙ ap length r.1.1.0 in

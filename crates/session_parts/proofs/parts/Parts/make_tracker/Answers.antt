@@ -8,5 +8,5 @@ use Rattle.session_parts.proofs.Steps.{ok_map}
 use Rattle.session_parts.proofs.parts.Parts.make_tracker.Goals as goal
 
 pub returns-clause-ok : goal.returns-clause-ok
-returns-clause-ok g c = let a = c.requires.1.1.1 in
+returns-clause-ok g c = let a = c.requires.1.1 in
     ok_map c.make.result (λ e. record { kept = subst (λ owners. IsTied g.U.UnitKind.meaning (record (kept_of c.args.self.now) { owners = owners }) (changed (MakeTracker c.args.d) g.m)) (sym e) (tracker_made g.U.UnitKind.meaning (kept_of c.args.self.now) g.m c.args.d a.kept); spans = a.spans }) c.make.ensures.ok

@@ -11,7 +11,7 @@ use Rattle.session_parts.proofs.parts.Parts.settle.Goals as goal
 
 pub returns-clause-parts : goal.returns-clause-parts
 returns-clause-parts g c =
-    let r = c.requires.1.1.1 in
+    let r = c.requires.1.1 in
     let old = c.args.self.now.book in
     let book = book_settled (record (g.m) { entries = c.args.at }) old c.settle-fires.new.self (stands_same g.m.rows) (r.1.1.0 ∙ ap length (sym r.1.0))
     (c.settle-fires.ensures.settled ∙ ap (λ rows. settled c.args.at (stand_at rows) old) r.0.kept.rows) in
@@ -21,7 +21,7 @@ returns-clause-parts g c =
 
 pub returns-clause-ends : goal.returns-clause-ends
 returns-clause-ends g c =
-    let r = c.requires.1.1.1 in
+    let r = c.requires.1.1 in
     let old = c.args.self.now.book in
     let book = book_settled (record (g.m) { entries = c.args.at }) old c.settle-fires.new.self (stands_same g.m.rows) (r.1.1.0 ∙ ap length (sym r.1.0))
     (c.settle-fires.ensures.settled ∙ ap (λ rows. settled c.args.at (stand_at rows) old) r.0.kept.rows) in
@@ -29,7 +29,7 @@ returns-clause-ends g c =
 
 pub returns-clause-queries : goal.returns-clause-queries
 returns-clause-queries g c =
-    let r = c.requires.1.1.1 in
+    let r = c.requires.1.1 in
     let old = c.args.self.now.book in
     let book = book_settled (record (g.m) { entries = c.args.at }) old c.settle-fires.new.self (stands_same g.m.rows) (r.1.1.0 ∙ ap length (sym r.1.0))
     (c.settle-fires.ensures.settled ∙ ap (λ rows. settled c.args.at (stand_at rows) old) r.0.kept.rows) in

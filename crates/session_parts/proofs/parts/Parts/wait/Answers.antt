@@ -6,8 +6,8 @@ use Rattle.session_parts.proofs.parts.Parts.wait.Goals as goal
 
 pub returns-clause-parts : goal.returns-clause-parts
 returns-clause-parts g c =
-    with_units g.U.UnitKind.meaning c.args.self.now c.wait.new.self _ g.m _ c.requires.1.1.1.0 c.wait.ensures (changed_length c.args.u.0 _ g.m.units)
-    (unit_waits g.U.UnitKind.meaning (kept_of c.args.self.now) g.m c.args.u.0 c.args.query c.requires.1.1.1.1.0 c.requires.1.1.1.0.kept c.requires.1.1.1.1.1 c.requires.1.1.1.1.2)
+    with_units g.U.UnitKind.meaning c.args.self.now c.wait.new.self _ g.m _ c.requires.1.1.0 c.wait.ensures (changed_length c.args.u.0 _ g.m.units)
+    (unit_waits g.U.UnitKind.meaning (kept_of c.args.self.now) g.m c.args.u.0 c.args.query c.requires.1.1.1.0 c.requires.1.1.0.kept c.requires.1.1.1.1 c.requires.1.1.1.2)
 
 pub wait-requires : goal.wait-requires
-wait-requires g c = unit_below g.U.UnitKind.meaning c.args.self.now g.m c.args.u.0 c.requires.1.1.1.1.0 c.requires.1.1.1.0 c.requires.1.1.1.1.1
+wait-requires g c = unit_below g.U.UnitKind.meaning c.args.self.now g.m c.args.u.0 c.requires.1.1.1.0 c.requires.1.1.0 c.requires.1.1.1.1

@@ -7,7 +7,7 @@ use Rattle.session_run.proofs.Driving.{went_ok, went_stopped, define_goes}
 use Rattle.session_run.proofs.run.Run.define.Goals as goal
 
 pub returns-clause-ok : goal.returns-clause-ok
-returns-clause-ok g c = went_ok 2 3 _ c.args.self.now c.define.new.self (reply.Defined (record { 0 = 0 }) (record { 0 = 0 }) (count_by (λ (b : Bool). b) (all_live (unit_of c.args.self.now)))) c.define.result.answer (define_goes _ c.args.self.now c.args.share c.args.session.now c.define.new.self c.define.result.answer c.requires.lone c.requires.share c.requires.at c.define.ensures.performs)
+returns-clause-ok g c = went_ok 2 3 _ c.args.self.now c.define.new.self.journal (reply.Defined (record { 0 = 0 }) (record { 0 = 0 }) (count_by (λ (b : Bool). b) (all_live (unit_of c.args.self.now)))) c.define.result.answer (define_goes _ c.args.self.now c.args.share c.args.session.now.journal c.define.new.self.journal c.define.result.answer c.requires.lone c.requires.share c.requires.at c.define.ensures.performs)
 
 pub returns-clause-stopped : goal.returns-clause-stopped
-returns-clause-stopped g c = went_stopped 2 3 _ c.args.self.now c.define.new.self (reply.Defined (record { 0 = 0 }) (record { 0 = 0 }) (count_by (λ (b : Bool). b) (all_live (unit_of c.args.self.now)))) c.define.result.answer (define_goes _ c.args.self.now c.args.share c.args.session.now c.define.new.self c.define.result.answer c.requires.lone c.requires.share c.requires.at c.define.ensures.performs)
+returns-clause-stopped g c = went_stopped 2 3 _ c.args.self.now c.define.new.self.journal (reply.Defined (record { 0 = 0 }) (record { 0 = 0 }) (count_by (λ (b : Bool). b) (all_live (unit_of c.args.self.now)))) c.define.result.answer (define_goes _ c.args.self.now c.args.share c.args.session.now.journal c.define.new.self.journal c.define.result.answer c.requires.lone c.requires.share c.requires.at c.define.ensures.performs)

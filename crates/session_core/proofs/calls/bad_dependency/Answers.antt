@@ -1,8 +1,0 @@
-use Rattle.std.proofs.Common.{◌∙◌, sym}
-use Rattle.orc_ids.specs.declared.groups.Group.{Group}
-use Rattle.session_core.specs.Calls.{bad_dep_of}
-use Rattle.session_core.proofs.Calling.{first_flat}
-use Rattle.session_core.proofs.calls.bad_dependency.Goals as goal
-
-pub returns : goal.returns
-returns c = c.first_bad.ensures ∙ sym (first_flat (bad_dep_of c.args.rows.now) (λ (g : Group). g.deps) c.args.groups.now)
