@@ -1,0 +1,20 @@
+use Rattle.std.proofs.Common.{ℕ, List, refl, subst, sym, ◌∙◌, append-nil, arith}
+use Rattle.std.specs.Prelude.{Contains, IsPermutation}
+use Rattle.std.specs.List.{All}
+use Rattle.std.proofs.lemmas.List.{length-replicate}
+use Rattle.std.proofs.lemmas.List.Elements.{All-contains_itself}
+use Rattle.std.proofs.lemmas.List.Sorted.{IsPermutation-refl}
+use Rattle.orc_ids.specs.declared.ids.InstId.{InstId}
+use Rattle.session_model.specs.Meaning.{bound_instances}
+use Rattle.ring_lab.proofs.RingUnits.{first_place}
+use Rattle.ring_lab.proofs.unit.RingUnitUnitKind.known.Goals as goal
+
+pub returns : goal.returns
+returns c = record {
+  differ = λ j k a b e f same. first_place _ a j e ∙ sym (first_place _ b k f);
+  members = λ live base bound own fits. subst (λ (xs : List InstId). IsPermutation xs own) (sym (append-nil own)) (IsPermutation-refl own);
+  deps = λ live base bound own fits. subst (λ (xs : List InstId). All (Contains (bound_instances bound)) xs) (sym (append-nil (bound_instances bound))) (All-contains_itself (bound_instances bound));
+  shape = λ live. ((omega arith), (4, refl));
+  image = λ live base bound. length-replicate {A = ℕ} 48 7;
+  alias = tt;
+}
