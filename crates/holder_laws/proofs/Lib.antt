@@ -1,0 +1,5 @@
+pub mod Calling
+pub mod Dylibs
+pub mod Giving
+pub mod Others
+pub mod Passing

@@ -1,0 +1,5 @@
+pub mod Asked
+pub mod Events
+mod Noting
+mod OneMore
+mod Unlodged
