@@ -1,0 +1,8 @@
+use Rattle.note_laws.proofs.Events.{quiet_is_noted}
+use Rattle.session_model.specs.declared.entry.Event.TheVariants as event
+use Rattle.shared_session.specs.Does.{seat}
+use Rattle.std.proofs.Common.{refl}
+use Rattle.shared_session.proofs.calls.dylibs.SetOrderCallHome.make.Goals as goal
+
+pub invariant_of-home : goal.invariant_of-home
+invariant_of-home g c = record { noted = quiet_is_noted g.U.UnitKind.meaning g.row.JMAX c.args.home.now.session c.set_order.new.self (seat c.args.seat) (event.SetOrder c.args.self.dylib c.args.self.order.now) c.set_order.result c.requires.lawful.legal c.args.home.now.noted refl c.set_order.ensures.armed c.set_order.ensures.performs }

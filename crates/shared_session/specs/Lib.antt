@@ -1,0 +1,5 @@
+pub mod Home
+pub mod Carried
+pub mod Does
+pub mod Single
+pub mod SharedCalls

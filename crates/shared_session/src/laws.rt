@@ -1,0 +1,10 @@
+//! What a call leaves a seat knowing.
+ghost use Rattle.shared_session.specs.SharedCalls.{CallsAreShared};
+
+use session_model::UnitKind;
+
+/// An event that was answered by an entry is the last of what the seat has seen, and of its own list;
+/// one that was stopped was stopped rightly, by what the seat has seen.
+pub fn calls_are_shared<U: UnitKind>()
+    ensures { CallsAreShared U.meaning }
+{}

@@ -1,0 +1,27 @@
+//! A session that many threads share: every event is made in one turn, and each seat knows what it has
+//! seen of the one history (ORC: an `ExecutionSession` behind its session lock).
+//!
+//! A `Shared` is a turn round a session, and a `Pass` a seat of it. An event is a value (`Define`, `Ask`,
+//! `Take` and their kin, in `calls`), which `Turn::perform` makes when the turn comes, and
+//! `Turn::try_perform` makes or hands back at once; `front`, `split`, `join` and `meet` are those of the
+//! turn. Contracts say what an event did by the clauses of `execution_session`, between the history that
+//! the turn was taken at and the one that it was given at (`Turned`); what that makes of the pass is the
+//! law `calls_are_shared` (`specs/SharedCalls`). What an event has to know of a unit that the pass holds
+//! is said over the history that the pass has seen: what other seats do since leaves it true.
+//!
+//! The notifiers that an event tells are answered, to be fired after the turn was given. Read
+//! `turn_lock` and `execution_session` first.
+#![tactic(auto)]
+
+mod calls;
+mod home;
+mod laws;
+mod shared;
+
+pub use calls::{
+    Ask, Attach, Collect, CopyMemory, Define, Emit, Fail, Generate, Handed, Link, MakeDylib,
+    MakeTracker, MoveTracker, Place, Remove, Resolve, SetOrder, Take,
+};
+pub use home::Home;
+pub use laws::calls_are_shared;
+pub use shared::{Pass, Shared, close, open};
