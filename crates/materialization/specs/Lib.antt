@@ -1,0 +1,4 @@
+pub mod Stages
+pub mod Rest
+pub mod Laws
+pub mod Driving
