@@ -1,0 +1,214 @@
+-- The lists of blocks by the keys of their edges, and what an edge more changes.
+use Rattle.std.proofs.Common.{◌≡◌, ℕ, zero, suc, ◌+◌, ◌<◌, ◌≤◌, ◌==◌, cond, Bool, true, false, not, ◌&&◌, ◌||◌, List, [], ◌∷◌, ◌++◌, length, map, take, get_or, Option, Some, None, refl, sym, ap, subst, ◌∙◌, ◌⊎◌, inl, inr, arith}
+use Rattle.std.specs.Prelude.{Contains}
+use Rattle.std.specs.List.{All, filter, filter_map, list_any}
+use Rattle.std.proofs.lemmas.Bool.{cond_both, eq-eqb, eqb-true, false≢true, and_parts, or_left, or_right, or_cases}
+use Rattle.std.proofs.lemmas.List.{take_more, append-nil}
+use Rattle.std.proofs.lemmas.List.Elements.{All-nil, All-cons, All-head, All-tail, filter-append}
+use Rattle.std.proofs.lemmas.Option.{same_Some}
+use Rattle.link_model.specs.Graph.{is_defined, is_offered, first_flag, other_flags, own_symbols, is_referred, numbers_where, external_symbols}
+use Rattle.block_groups.specs.Groups.{block_of, is_own, leads_to, next_blocks, refers_to}
+use Rattle.link_model.specs.Image.{at_or, is_paired, place_of}
+use Rattle.link_model.specs.Sound.{PlaceFits, Sound}
+use Rattle.link_model.specs.declared.graph.Edge.{Edge}
+use Rattle.link_model.specs.declared.graph.GPlace.{GPlace}
+use Rattle.link_model.specs.declared.graph.GPlace.TheVariants.{In, Abs, External}
+use Rattle.link_model.specs.declared.graph.GSym.{GSym}
+use Rattle.link_model.specs.declared.graph.LinkGraph.{LinkGraph}
+use Rattle.block_groups.specs.Keys.{is_key, blocks_with, AreKeyed, target_of}
+use Rattle.block_groups.specs.Lists.{row, IsPushed}
+use Rattle.block_groups.proofs.Rows.{contains_here, contains_later, contains_cases, contains_none}
+
+map_append : {X Y : Type 0} (f : X → Y) (xs ys : List X) → map f (xs ++ ys) ≡ map f xs ++ map f ys
+map_append f [] ys = refl
+map_append {X} {Y} f (x ∷ xs) ys = ap (λ (zs : List Y). f x ∷ zs) (map_append f xs ys)
+
+-- one edge more
+keyed_more : (key : Edge → Option ℕ) (edges : List Edge) (i k : ℕ) (d : Edge) → i < length edges → blocks_with key (take (i + 1) edges) k ≡ cond (is_key k (key (get_or edges i d))) (blocks_with key (take i edges) k ++ (get_or edges i d).block ∷ []) (blocks_with key (take i edges) k)
+keyed_more key edges i k d lt =
+    let e : Edge = get_or edges i d in
+    let test : Edge → Bool = λ (x : Edge). is_key k (key x) in
+    let block : Edge → ℕ = λ (x : Edge). x.block in
+    ap (λ (es : List Edge). map block (filter test es)) (take_more edges i d lt)
+    ∙ ap (map block) (filter-append test (take i edges) (e ∷ []))
+    ∙ map_append block (filter test (take i edges)) (filter test (e ∷ []))
+    ∙ elim (test e) as (λ t. map block (filter test (take i edges)) ++ map block (cond t (e ∷ []) []) ≡ cond t (map block (filter test (take i edges)) ++ e.block ∷ []) (map block (filter test (take i edges)))) [
+      | true ↦ refl
+      | false ↦ append-nil (map block (filter test (take i edges)))
+    ]
+
+pub keyed_next : (key : Edge → Option ℕ) (edges : List Edge) (n i t : ℕ) (e : Edge) (old new : List (List ℕ)) → i < length edges → e ≡ get_or edges i e → key e ≡ Some t → IsPushed old t e.block new → AreKeyed key (take i edges) n old → AreKeyed key (take (i + 1) edges) n new
+keyed_next key edges n i t e old new lt is has pushed keyed = record {
+  whole = pushed.whole ∙ keyed.whole;
+  rows = λ k.
+      let before = blocks_with key (take i edges) k in
+      pushed.rows k
+      ∙ ap (λ (xs : List ℕ). cond (t == k) (xs ++ e.block ∷ []) xs) (keyed.rows k)
+      ∙ ap (λ (o : Option ℕ). cond (is_key k o) (before ++ e.block ∷ []) before) (sym has)
+      ∙ ap (λ (x : Edge). cond (is_key k (key x)) (before ++ x.block ∷ []) before) is
+      ∙ sym (keyed_more key edges i k e lt);
+}
+
+pub keyed_past : (key : Edge → Option ℕ) (edges : List Edge) (n i : ℕ) (e : Edge) (old : List (List ℕ)) → i < length edges → e ≡ get_or edges i e → key e ≡ None → AreKeyed key (take i edges) n old → AreKeyed key (take (i + 1) edges) n old
+keyed_past key edges n i e old lt is none keyed = record {
+  whole = keyed.whole;
+  rows = λ k.
+      let before = blocks_with key (take i edges) k in
+      keyed.rows k
+      ∙ ap (λ (o : Option ℕ). cond (is_key k o) (before ++ e.block ∷ []) before) (sym none)
+      ∙ ap (λ (x : Edge). cond (is_key k (key x)) (before ++ x.block ∷ []) before) is
+      ∙ sym (keyed_more key edges i k e lt);
+}
+
+pub keyed_none : (key : Edge → Option ℕ) (n : ℕ) (lists : List (List ℕ)) → length lists ≡ n → ((k : ℕ) → row lists k ≡ []) → AreKeyed key [] n lists
+keyed_none key n lists whole none = record { whole = whole; rows = λ k. none k }
+
+-- ---- what edges lead to
+
+fits_at : (g : LinkGraph) (ss : List GSym) (s : ℕ) → All (λ (x : GSym). PlaceFits g x.place) ss → PlaceFits g (at_or (Abs 0) (map (λ (x : GSym). x.place) ss) s)
+fits_at g [] s all = tt
+fits_at g (x ∷ ss) zero all = All-head (λ (y : GSym). PlaceFits g y.place) x ss all
+fits_at g (x ∷ ss) (suc s) all = fits_at g ss s (All-tail (λ (y : GSym). PlaceFits g y.place) x ss all)
+
+block_there : (g : LinkGraph) (p : GPlace) (b : ℕ) → PlaceFits g p → block_of p ≡ Some b → b < length g.blocks
+block_there g (In block offset) b fits e = subst (λ (x : ℕ). x < length g.blocks) (same_Some block b e) fits.0
+block_there g (Abs address) b fits e = absurd cc
+block_there g (External weak) b fits e = absurd cc
+
+-- an edge leads to a block of the graph
+pub lead_there : (g : LinkGraph) (live : List Bool) (e : Edge) (b : ℕ) → Sound g → leads_to g live e ≡ Some b → b < length g.blocks
+lead_there g live e b sound h = led (at_or false (own_symbols g.symbols live) e.target || (e.kind == 24 || e.kind == 25)) h
+  where
+    led : (t : Bool) → cond t (block_of (place_of g e.target)) None ≡ Some b → b < length g.blocks
+    led true h = block_there g (place_of g e.target) b (fits_at g g.symbols e.target sound.symbols) h
+    led false h = absurd cc
+
+-- the place of a symbol that is read
+pub place_at : (ss : List GSym) (k : ℕ) (d : GSym) → k < length ss → at_or (Abs 0) (map (λ (x : GSym). x.place) ss) k ≡ (get_or ss k d).place
+place_at [] k d within = absurd (omega arith)
+place_at (s ∷ ss) zero d within = refl
+place_at (s ∷ ss) (suc k) d within = place_at ss k d (omega arith)
+
+pub flag_at : (bs : List Bool) (k : ℕ) → get_or bs k false ≡ at_or false bs k
+flag_at [] k = refl
+flag_at (b ∷ bs) zero = refl
+flag_at (b ∷ bs) (suc k) = flag_at bs k
+
+pub length_own : (ss : List GSym) (live : List Bool) → length (own_symbols ss live) ≡ length ss
+length_own [] live = refl
+length_own (s ∷ ss) live =
+    cond_both (is_offered s) (first_flag live ∷ own_symbols ss (other_flags live)) (is_defined s.place ∷ own_symbols ss live) (λ (bs : List Bool). length bs ≡ suc (length ss))
+    (λ offered. ap suc (length_own ss (other_flags live)))
+    (λ other. ap suc (length_own ss live))
+
+numbers_below : (test : ℕ → Bool → Bool) (n k : ℕ) (bs : List Bool) → k + length bs ≤ n → All (λ s. s < n) (numbers_where test k bs)
+numbers_below test n k [] h = All-nil (λ (s : ℕ). s < n)
+numbers_below test n k (b ∷ bs) h =
+    let rest = numbers_below test n (k + 1) bs (omega (arith, h)) in
+    cond_both (test k b) (k ∷ numbers_where test (k + 1) bs) (numbers_where test (k + 1) bs) (λ (xs : List ℕ). All (λ s. s < n) xs)
+    (λ chosen. All-cons (λ (s : ℕ). s < n) k (numbers_where test (k + 1) bs) (omega (arith, h)) rest)
+    (λ passed. rest)
+
+pub externals_below : (g : LinkGraph) (live : List Bool) → All (λ s. s < length g.symbols) (external_symbols g live)
+externals_below g live = numbers_below (λ s own. not own && is_referred g.edges s) (length g.symbols) 0 (own_symbols g.symbols live) (omega (arith, length_own g.symbols live))
+
+-- what is found of an edge is what it leads to
+pub lead_is : (g : LinkGraph) (live : List Bool) (e : Edge) (own leads : Bool) → leads ≡ (own || is_paired e.kind) → own ≡ is_own g live e.target → leads_to g live e ≡ cond leads (block_of (place_of g e.target)) None
+lead_is g live e own leads is owns = sym (ap (λ (t : Bool). cond t (block_of (place_of g e.target)) None) (is ∙ ap (λ (b : Bool). b || is_paired e.kind) owns))
+
+-- ---- the lists as sets
+
+either : (t : Bool) → (t ≡ true) ⊎ (t ≡ false)
+either true = inl refl
+either false = inr refl
+
+some_or_none : (o : Option ℕ) → ((x : ℕ) × (o ≡ Some x)) ⊎ (o ≡ None)
+some_or_none (Some x) = inl (x, refl)
+some_or_none None = inr refl
+
+abbrev next : (Edge → Option ℕ) → ℕ → List Edge → List ℕ
+next key a es = filter_map key (filter (λ (e : Edge). e.block == a) es)
+
+later : (key : Edge → Option ℕ) (a b : ℕ) (e : Edge) (es : List Edge) → Contains (next key a es) b → Contains (next key a (e ∷ es)) b
+later key a b e es c = elim (either (e.block == a)) [
+  | inl on ↦ rw on (elim (some_or_none (key e)) [
+    | inl (x, is) ↦ rw is (contains_later x b (next key a es) c)
+    | inr none ↦ rw none c
+  ])
+  | inr off ↦ rw off c
+]
+
+first : (key : Edge → Option ℕ) (a b : ℕ) (e : Edge) (es : List Edge) → (e.block == a) ≡ true → key e ≡ Some b → Contains (next key a (e ∷ es)) b
+first key a b e es on is = rw (on, is) (contains_here b (next key a es))
+
+keyed : (k : ℕ) (o : Option ℕ) → is_key k o ≡ true → o ≡ Some k
+keyed k None h = absurd (false≢true h)
+keyed k (Some j) h = ap Some (eqb-true j k h)
+
+pub to_next : (key : Edge → Option ℕ) (a b : ℕ) (es : List Edge) → Contains (blocks_with key es b) a → Contains (next key a es) b
+to_next key a b [] c = contains_none a c
+to_next key a b (e ∷ es) c = elim (either (is_key b (key e))) [
+  | inl on ↦ (let c' : Contains (e.block ∷ blocks_with key es b) a = rw on at c in elim (contains_cases e.block a (blocks_with key es b) c') [
+    | inl same ↦ first key a b e es (eq-eqb e.block a same) (keyed b (key e) on)
+    | inr rest ↦ later key a b e es (to_next key a b es rest)
+  ])
+  | inr off ↦ (let c' : Contains (blocks_with key es b) a = rw off at c in later key a b e es (to_next key a b es c'))
+]
+
+behind : (key : Edge → Option ℕ) (a b : ℕ) (e : Edge) (es : List Edge) → Contains (blocks_with key es b) a → Contains (blocks_with key (e ∷ es) b) a
+behind key a b e es c = elim (either (is_key b (key e))) [
+  | inl on ↦ rw on (contains_later e.block a (blocks_with key es b) c)
+  | inr off ↦ rw off c
+]
+
+front : (key : Edge → Option ℕ) (a b : ℕ) (e : Edge) (es : List Edge) → e.block ≡ a → key e ≡ Some b → Contains (blocks_with key (e ∷ es) b) a
+front key a b e es same is =
+    let on : is_key b (key e) ≡ true = ap (is_key b) is ∙ eq-eqb b b refl in
+    rw on (subst (Contains (e.block ∷ blocks_with key es b)) same (contains_here e.block (blocks_with key es b)))
+
+pub from_next : (key : Edge → Option ℕ) (a b : ℕ) (es : List Edge) → Contains (next key a es) b → Contains (blocks_with key es b) a
+from_next key a b [] c = contains_none b c
+from_next key a b (e ∷ es) c = elim (either (e.block == a)) [
+  | inl on ↦ elim (some_or_none (key e)) [
+    | inl (x, is) ↦ (let c' : Contains (x ∷ next key a es) b = rw (on, is) at c in elim (contains_cases x b (next key a es) c') [
+      | inl same ↦ front key a b e es (eqb-true e.block a on) (is ∙ ap Some same)
+      | inr rest ↦ behind key a b e es (from_next key a b es rest)
+    ])
+    | inr none ↦ (let c' : Contains (next key a es) b = rw (on, none) at c in behind key a b e es (from_next key a b es c'))
+  ]
+  | inr off ↦ (let c' : Contains (next key a es) b = rw off at c in behind key a b e es (from_next key a b es c'))
+]
+
+abbrev refers : ℕ → ℕ → List Edge → Bool
+refers s a es = list_any (λ (e : Edge). e.block == a && e.target == s) es
+
+pub to_refers : (a s : ℕ) (es : List Edge) → Contains (blocks_with target_of es s) a → refers s a es ≡ true
+to_refers a s [] c = contains_none a c
+to_refers a s (e ∷ es) c = elim (either (e.target == s)) [
+  | inl on ↦ (let c' : Contains (e.block ∷ blocks_with target_of es s) a = rw on at c in elim (contains_cases e.block a (blocks_with target_of es s) c') [
+    | inl same ↦ or_left (e.block == a && e.target == s) (refers s a es) (rw (eq-eqb e.block a same) on)
+    | inr rest ↦ or_right (e.block == a && e.target == s) (refers s a es) (to_refers a s es rest)
+  ])
+  | inr off ↦ (let c' : Contains (blocks_with target_of es s) a = rw off at c in or_right (e.block == a && e.target == s) (refers s a es) (to_refers a s es c'))
+]
+
+pub from_refers : (a s : ℕ) (es : List Edge) → refers s a es ≡ true → Contains (blocks_with target_of es s) a
+from_refers a s [] h = absurd (false≢true h)
+from_refers a s (e ∷ es) h = elim (or_cases (e.block == a && e.target == s) (refers s a es) h) [
+  | inl here ↦ (let both = and_parts (e.block == a) (e.target == s) here in front target_of a s e es (eqb-true e.block a both.0) (ap Some (eqb-true e.target s both.1)))
+  | inr rest ↦ behind target_of a s e es (from_refers a s es rest)
+]
+
+-- the blocks of edges are blocks of the graph
+with_below : (key : Edge → Option ℕ) (n b k : ℕ) (es : List Edge) → All (λ (e : Edge). e.block < n) es → Contains (blocks_with key es k) b → b < n
+with_below key n b k [] all c = contains_none b c
+with_below key n b k (e ∷ es) all c = elim (either (is_key k (key e))) [
+  | inl on ↦ (let c' : Contains (e.block ∷ blocks_with key es k) b = rw on at c in elim (contains_cases e.block b (blocks_with key es k) c') [
+    | inl same ↦ subst (λ (x : ℕ). x < n) same (All-head (λ (x : Edge). x.block < n) e es all)
+    | inr rest ↦ with_below key n b k es (All-tail (λ (x : Edge). x.block < n) e es all) rest
+  ])
+  | inr off ↦ (let c' : Contains (blocks_with key es k) b = rw off at c in with_below key n b k es (All-tail (λ (x : Edge). x.block < n) e es all) c')
+]
+
+pub keyed_below : (g : LinkGraph) (key : Edge → Option ℕ) (n k b : ℕ) (lists : List (List ℕ)) → Sound g → AreKeyed key g.edges n lists → Contains (row lists k) b → b < length g.blocks
+keyed_below g key n k b lists sound is c = with_below key (length g.blocks) b k g.edges (λ i d lt. (sound.edges i d lt).block) (subst (λ (xs : List ℕ). Contains xs b) (is.rows k) c)

@@ -1,0 +1,5 @@
+pub mod Groups
+pub mod Lists
+pub mod Backwards
+pub mod Keys
+pub mod Members

@@ -1,0 +1,4 @@
+pub mod Lawful
+pub mod Looked
+pub mod OtherLaws
+pub mod Sharing

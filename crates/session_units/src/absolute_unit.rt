@@ -1,0 +1,173 @@
+ghost use Rattle.std.specs.Prelude.{◌≡◌, ◌∷◌, ◌<◌, ◌≤◌, [], length, slice_get, Some, IfOk};
+ghost use Rattle.block_groups.specs.Groups.{group_of};
+ghost use Rattle.link_model.specs.Sound.{MAX_SYMBOLS};
+ghost use Rattle.session_units.specs.AbsoluteUnits.{absolute_unit_meaning};
+ghost use Rattle.session_units.specs.Names.{NamesDiffer};
+ghost use Rattle.session_units.specs.Others.{absolutes_meaning};
+
+use orc_ids::{DylibId, Group, Groups, InstId, Items, NameId, Shape, SymFlags, UnitName, Wanted};
+use session_model::UnitKind;
+use std::alloc::{AllocError, Global};
+use std::marker::Model;
+use std::sync::Arc;
+
+/// The flags of an absolute symbol, and of an alias: strong, exported, not callable.
+pub(crate) const ABSOLUTE_FLAGS: SymFlags = SymFlags {
+    weak: false,
+    common: false,
+    exported: true,
+    callable: false,
+};
+
+/// Absolute symbols, each with its address.
+#[derive(Drop)]
+pub(crate) struct Absolutes {
+    symbols: Vec<(NameId, u64)>,
+}
+
+impl Model for Absolutes {
+    ghost use Rattle.std.specs.Prelude.{ℕ, List, length, ◌≤◌};
+    ghost use Rattle.link_model.specs.Sound.{MAX_SYMBOLS};
+    ghost use Rattle.orc_ids.specs.declared.ids.NameId.{NameId};
+    ghost use Rattle.session_units.specs.Names.{NamesDiffer};
+
+    ghost Value = { List (NameId × ℕ) };
+
+    ghost view = { λ a. a.symbols.items };
+
+    ghost invariant = { λ a. NamesDiffer a.symbols.items × (length a.symbols.items ≤ MAX_SYMBOLS) };
+}
+
+impl Absolutes {
+    fn of_list(alloc: Global, list: &[(NameId, u64)]) -> Result<Absolutes, AllocError>
+        requires differ { NamesDiffer list.now }
+        requires few { length list.now ≤ MAX_SYMBOLS }
+        ensures { IfOk result (λ made. made ≡ list.now) }
+    {
+        Ok(Absolutes {
+            symbols: list.to_vec(alloc)?,
+        })
+    }
+
+    fn known(&self)
+        ensures { NamesDiffer self.now }
+    {
+        let _symbols = &self.symbols;
+    }
+
+    fn count(&self) -> u32
+        ensures { result ≡ length self.now }
+    {
+        self.symbols.len() as u32
+    }
+
+    fn symbol(&self, k: u32) -> (NameId, u64)
+        requires { k < length self.now }
+        ensures { slice_get self.now k ≡ Some result }
+    {
+        self.symbols[k as usize]
+    }
+}
+
+/// The unit of a list of absolute symbols. A share of it is another handle to the same list.
+#[derive(Drop)]
+pub struct AbsoluteUnit {
+    pub(crate) name: UnitName,
+    pub(crate) list: Arc<Absolutes, Global>,
+}
+
+impl AbsoluteUnit {
+    /// The unit of some symbols, whose names differ.
+    pub(crate) fn of_list(
+        alloc: Global,
+        name: UnitName,
+        list: &[(NameId, u64)],
+    ) -> Result<AbsoluteUnit, AllocError>
+        requires differ { NamesDiffer list.now }
+        requires few { length list.now ≤ MAX_SYMBOLS }
+        ensures { IfOk result (λ unit. absolute_unit_meaning unit ≡ absolutes_meaning name list.now) }
+    {
+        let list = Arc::new(alloc, Absolutes::of_list(alloc, list)?)?;
+        Ok(AbsoluteUnit { name, list })
+    }
+}
+
+/// The group of some instances that depend on others, if there are any.
+pub(crate) fn one_group(
+    alloc: Global,
+    members: &[InstId],
+    deps: Vec<InstId>,
+) -> Result<Groups, AllocError>
+    ensures { IfOk result (λ groups. groups ≡ record { members = members.now; deps = deps.items } ∷ []) }
+{
+    let mut groups = Vec::new(alloc);
+    groups.push(Group {
+        members: Items::from_vec(members.to_vec(alloc)?),
+        deps: Items::from_vec(deps),
+    })?;
+    Ok(Items::from_vec(groups))
+}
+
+impl AbsoluteUnit {
+    /// The one group of its instances, which depend on nothing.
+    pub(crate) fn groups(&self, alloc: Global, own: &[InstId]) -> Result<Groups, AllocError>
+        ensures { IfOk result (λ groups. groups ≡ group_of own.now []) }
+    {
+        if own.is_empty() {
+            return Ok(Items::new(alloc));
+        }
+        one_group(alloc, own, Vec::new(alloc))
+    }
+}
+
+impl UnitKind for AbsoluteUnit {
+    ghost use Rattle.session_units.specs.AbsoluteUnits.{absolute_unit_meaning};
+
+    ghost meaning = { λ u. absolute_unit_meaning u };
+
+    fn known(&self) {
+        self.list.known();
+    }
+
+    fn count(&self) -> u32 {
+        self.list.count()
+    }
+
+    fn offer(&self, k: u32) -> (NameId, SymFlags) {
+        let (name, _) = self.list.symbol(k);
+        (name, ABSOLUTE_FLAGS)
+    }
+
+    fn share(&self, _alloc: Global) -> Result<AbsoluteUnit, AllocError> {
+        Ok(AbsoluteUnit {
+            name: self.name,
+            list: Arc::try_clone(&self.list)?,
+        })
+    }
+
+    fn source(&self) -> Option<DylibId> {
+        None
+    }
+
+    fn name(&self) -> UnitName {
+        self.name
+    }
+
+    /// Absolute symbols need no memory.
+    fn shape(&self, _live: &[bool]) -> Option<Shape> {
+        None
+    }
+
+    fn address(&self, k: u32, _base: u64) -> u64 {
+        let (_, address) = self.list.symbol(k);
+        address
+    }
+
+    fn external_count(&self, _live: &[bool]) -> u32 {
+        0
+    }
+
+    fn external(&self, _live: &[bool], _k: u32) -> Wanted {
+        unreachable!()
+    }
+}
