@@ -1,0 +1,4 @@
+pub mod Bytes
+pub mod Tables
+pub mod Parts
+pub mod Files
