@@ -1,12 +1,12 @@
 ghost use Rattle.std.specs.Prelude.{◌≡◌, ◌∷◌, ◌<◌, ◌≤◌, [], length, slice_get, Some, IfOk};
 ghost use Rattle.block_groups.specs.Groups.{group_of};
 ghost use Rattle.link_model.specs.Sound.{MAX_SYMBOLS};
+ghost use Rattle.session_model.specs.Meaning.{IsLawful};
 ghost use Rattle.session_units.specs.AbsoluteUnits.{absolute_unit_meaning};
 ghost use Rattle.session_units.specs.Names.{NamesDiffer};
 ghost use Rattle.session_units.specs.Others.{absolutes_meaning};
 
-use orc_ids::{DylibId, Group, Groups, InstId, Items, NameId, Shape, SymFlags, UnitName, Wanted};
-use session_model::UnitKind;
+use orc_ids::{Group, Groups, InstId, Items, NameId, SymFlags, UnitName};
 use std::alloc::{AllocError, Global};
 use std::marker::Model;
 use std::sync::Arc;
@@ -120,54 +120,47 @@ impl AbsoluteUnit {
     }
 }
 
-impl UnitKind for AbsoluteUnit {
-    ghost use Rattle.session_units.specs.AbsoluteUnits.{absolute_unit_meaning};
-
-    ghost meaning = { λ u. absolute_unit_meaning u };
-
-    fn known(&self) {
+// What a session asks of it, as of any unit. It looks nothing up, so it is never asked for an external.
+impl AbsoluteUnit {
+    /// The facts that hold of every unit.
+    pub(crate) fn known(&self)
+        ensures { IsLawful (absolute_unit_meaning self.now) }
+    {
         self.list.known();
     }
 
-    fn count(&self) -> u32 {
+    /// How many names it offers.
+    pub(crate) fn count(&self) -> u32
+        ensures { result ≡ length (absolute_unit_meaning self.now).offers }
+    {
         self.list.count()
     }
 
-    fn offer(&self, k: u32) -> (NameId, SymFlags) {
+    /// The name that it offers at `k`, and its flags.
+    pub(crate) fn offer(&self, k: u32) -> (NameId, SymFlags)
+        requires { k < length (absolute_unit_meaning self.now).offers }
+        ensures { slice_get (absolute_unit_meaning self.now).offers k ≡ Some result }
+    {
         let (name, _) = self.list.symbol(k);
         (name, ABSOLUTE_FLAGS)
     }
 
-    fn share(&self, _alloc: Global) -> Result<AbsoluteUnit, AllocError> {
+    /// Another handle to the same unit.
+    pub(crate) fn share(&self) -> Result<AbsoluteUnit, AllocError>
+        ensures { IfOk result (λ other. absolute_unit_meaning other ≡ absolute_unit_meaning self.now) }
+    {
         Ok(AbsoluteUnit {
             name: self.name,
             list: Arc::try_clone(&self.list)?,
         })
     }
 
-    fn source(&self) -> Option<DylibId> {
-        None
-    }
-
-    fn name(&self) -> UnitName {
-        self.name
-    }
-
-    /// Absolute symbols need no memory.
-    fn shape(&self, _live: &[bool]) -> Option<Shape> {
-        None
-    }
-
-    fn address(&self, k: u32, _base: u64) -> u64 {
+    /// The address of the name offered at `k`, wherever the unit is.
+    pub(crate) fn address(&self, k: u32) -> u64
+        requires { k < length (absolute_unit_meaning self.now).offers }
+        ensures { result ≡ (absolute_unit_meaning self.now).address k 0 }
+    {
         let (_, address) = self.list.symbol(k);
         address
-    }
-
-    fn external_count(&self, _live: &[bool]) -> u32 {
-        0
-    }
-
-    fn external(&self, _live: &[bool], _k: u32) -> Wanted {
-        unreachable!()
     }
 }

@@ -104,7 +104,7 @@ impl UnitKind for ObjectUnit {
     fn share(&self, alloc: Global) -> Result<ObjectUnit, AllocError> {
         match self {
             ObjectUnit::Graph(unit) => Ok(ObjectUnit::Graph(unit.share(alloc)?)),
-            ObjectUnit::Absolutes(unit) => Ok(ObjectUnit::Absolutes(unit.share(alloc)?)),
+            ObjectUnit::Absolutes(unit) => Ok(ObjectUnit::Absolutes(unit.share()?)),
             ObjectUnit::Alias(unit) => Ok(ObjectUnit::Alias(unit.share(alloc)?)),
         }
     }
@@ -112,7 +112,7 @@ impl UnitKind for ObjectUnit {
     fn source(&self) -> Option<DylibId> {
         match self {
             ObjectUnit::Graph(unit) => unit.source(),
-            ObjectUnit::Absolutes(unit) => unit.source(),
+            ObjectUnit::Absolutes(_) => None,
             ObjectUnit::Alias(unit) => unit.source(),
         }
     }
@@ -120,7 +120,7 @@ impl UnitKind for ObjectUnit {
     fn name(&self) -> UnitName {
         match self {
             ObjectUnit::Graph(unit) => unit.name(),
-            ObjectUnit::Absolutes(unit) => unit.name(),
+            ObjectUnit::Absolutes(unit) => unit.name,
             ObjectUnit::Alias(unit) => unit.name(),
         }
     }
@@ -128,7 +128,7 @@ impl UnitKind for ObjectUnit {
     fn shape(&self, live: &[bool]) -> Option<Shape> {
         match self {
             ObjectUnit::Graph(unit) => unit.shape(live),
-            ObjectUnit::Absolutes(unit) => unit.shape(live),
+            ObjectUnit::Absolutes(_) => None,
             ObjectUnit::Alias(unit) => unit.shape(live),
         }
     }
@@ -136,7 +136,7 @@ impl UnitKind for ObjectUnit {
     fn address(&self, k: u32, base: u64) -> u64 {
         match self {
             ObjectUnit::Graph(unit) => unit.address(k, base),
-            ObjectUnit::Absolutes(unit) => unit.address(k, base),
+            ObjectUnit::Absolutes(unit) => unit.address(k),
             ObjectUnit::Alias(unit) => unit.address(k, base),
         }
     }
@@ -144,7 +144,7 @@ impl UnitKind for ObjectUnit {
     fn external_count(&self, live: &[bool]) -> u32 {
         match self {
             ObjectUnit::Graph(unit) => unit.external_count(live),
-            ObjectUnit::Absolutes(unit) => unit.external_count(live),
+            ObjectUnit::Absolutes(_) => 0,
             ObjectUnit::Alias(unit) => unit.external_count(live),
         }
     }
@@ -152,7 +152,7 @@ impl UnitKind for ObjectUnit {
     fn external(&self, live: &[bool], k: u32) -> Wanted {
         match self {
             ObjectUnit::Graph(unit) => unit.external(live, k),
-            ObjectUnit::Absolutes(unit) => unit.external(live, k),
+            ObjectUnit::Absolutes(_) => unreachable!(),
             ObjectUnit::Alias(unit) => unit.external(live, k),
         }
     }
