@@ -2,7 +2,7 @@ ghost use Rattle.std.specs.Prelude.{◌≡◌, ◌+◌, ◌<◌, ◌∷◌, [], 
 ghost use Rattle.orc_ids.specs.declared.limits.TheConstants.{GENERATOR_LIMIT};
 ghost use Rattle.orc_ids.specs.declared.ids.UnitName.TheVariants.{Absolute};
 
-use crate::{Generators, offers_as_the_session};
+use generators::{Generators, offers_as_the_session};
 use orc_ids::{DylibId, GenId, NameId, Scope, Shape, SymFlags, UnitName, Wanted};
 use session_model::UnitKind;
 use std::alloc::{AllocError, Global};

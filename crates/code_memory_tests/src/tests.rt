@@ -1,4 +1,4 @@
-use crate::{Space, SpaceError};
+use code_memory::{Space, SpaceError};
 use orc_ids::{Bytes, Shape, UnitId};
 
 #[test]

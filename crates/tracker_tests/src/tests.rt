@@ -1,5 +1,5 @@
-use crate::{TrackError, Trackers};
 use orc_ids::{DylibId, GenId, TrackId, UnitId};
+use tracker::{TrackError, Trackers};
 
 #[test]
 fn a_tracker_gives_what_it_owns(rt: HostRuntime) {
