@@ -2,8 +2,8 @@ use Rattle.std.proofs.Common.{List, refl, subst, sym, ◌∙◌, append-nil, rul
 use Rattle.std.specs.Prelude.{IsPermutation}
 use Rattle.std.proofs.lemmas.List.Sorted.{IsPermutation-refl}
 use Rattle.orc_ids.specs.declared.ids.InstId.{InstId}
-use Rattle.instances.proofs.TestUnits.{first_place}
-use Rattle.instances.proofs.tests.OneUnitKind.known.Goals as goal
+use Rattle.instances_tests.proofs.TestUnits.{first_place}
+use Rattle.instances_tests.proofs.tests.OneUnitKind.known.Goals as goal
 
 pub returns : goal.returns
 returns c = record {

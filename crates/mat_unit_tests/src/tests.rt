@@ -1,7 +1,7 @@
 ghost use Rattle.std.specs.Prelude.{◌≡◌, [], ◌∷◌, true, false, IfOk};
 ghost use Rattle.mat_unit.specs.Changes.{fresh};
 
-use crate::Units;
+use mat_unit::Units;
 use orc_ids::{DylibId, Items, QueryId, SeatNo, UnitId};
 use session_model::{Job, UnitPhase};
 use std::alloc::{AllocError, Global};

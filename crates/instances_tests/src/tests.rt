@@ -3,7 +3,7 @@
 ghost use Rattle.std.specs.Prelude.{◌≡◌, ◌∷◌, [], true, false, None, IfOk};
 ghost use Rattle.orc_ids.specs.declared.ids.UnitName.TheVariants.{Absolute};
 
-use crate::Instances;
+use instances::Instances;
 use orc_ids::{DylibId, Group, InstId, Items, NameId, Shape, SymFlags, UnitId, UnitName, Wanted};
 use session_model::{InstRow, Phase, UnitKind};
 use std::alloc::{AllocError, Global};

@@ -1,6 +1,6 @@
 ghost use Rattle.std.specs.Prelude.{◌<◌};
 
-use crate::{DefineError, Defined, Dylibs, Table};
+use jit_dylib::{DefineError, Defined, Dylibs, Table};
 use orc_ids::{DylibId, InstId, NameId, OrderItem, Scope, SymFlags, UnitId};
 use session_model::{InstRow, Phase};
 use std::process::Abort;
