@@ -1,5 +1,5 @@
 //! Words from an assembler of the field, a format each.
-use crate::{Illegal, Insn, decode, encode};
+use rv_insn::{Illegal, Insn, decode, encode};
 
 #[test]
 fn decodes_assembled_words(rt: HostRuntime) {

@@ -5,11 +5,11 @@ ghost use Rattle.turn_lock.specs.Handles.{view, turn_id, IsReady};
 ghost use Rattle.turn_lock.specs.Lists.{entries_of};
 ghost use Rattle.turn_lock.specs.Views.{finds_taken};
 
-use crate::{Call, Counted, Seat, Turn};
 use std::alloc::{AllocError, AllocFailed};
 use std::test::Fail;
 use std::thread;
 use std::thread::Threads;
+use turn_lock::{Call, Counted, Seat, Turn};
 
 /// The numbers of the seats that took turns, in order.
 #[derive(Drop)]
