@@ -1,7 +1,7 @@
 ghost use Rattle.std.specs.Prelude.{◌<◌, length};
 
-use crate::{Ran, RunEnd, run};
 use code_memory::{Image, Space};
+use exec_run::{Ran, RunEnd, run};
 use orc_ids::{Bytes, Shape, UnitId};
 use std::alloc::{AllocError, Global};
 
