@@ -18,8 +18,6 @@ mod laws;
 mod placement;
 mod ranges;
 mod space;
-#[cfg(test)]
-mod tests;
 
 pub use image::{Image, Segment};
 pub use laws::{deposits_are_mapped, lowest_base_is_in_first_gap, placements_lie_apart};

@@ -24,8 +24,6 @@ mod pieces;
 mod ran;
 mod region;
 mod runner;
-#[cfg(test)]
-mod tests;
 
 pub use host::{HOME, OUTPUT_MAX, STACK_END, STACK_START};
 pub use laws::{larger_memory, runs_have_one_end};

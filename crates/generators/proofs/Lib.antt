@@ -3,4 +3,3 @@ pub mod Names
 pub mod Places
 pub mod Queues
 pub mod Session
-pub mod TestUnits

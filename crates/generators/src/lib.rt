@@ -17,8 +17,6 @@ mod generators;
 mod laws;
 mod lines;
 mod offers;
-#[cfg(test)]
-mod tests;
 
 pub use generator::Generator;
 pub use generators::Generators;

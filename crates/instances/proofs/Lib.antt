@@ -4,4 +4,3 @@ pub mod Owned
 pub mod Filled
 pub mod Kept
 pub mod Fresh
-pub mod TestUnits

@@ -15,8 +15,6 @@ mod instances;
 mod row;
 mod rows;
 mod span;
-#[cfg(test)]
-mod tests;
 
 pub use groups::Prepared;
 pub use instances::Instances;

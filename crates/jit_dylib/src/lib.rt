@@ -21,8 +21,6 @@ mod error;
 mod laws;
 mod rows;
 mod table;
-#[cfg(test)]
-mod tests;
 mod verdicts;
 
 pub use defined::Defined;

@@ -11,8 +11,6 @@
 #![tactic(auto)]
 
 mod jobs;
-#[cfg(test)]
-mod tests;
 mod unit;
 mod units;
 

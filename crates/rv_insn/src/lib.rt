@@ -20,6 +20,3 @@ mod table;
 pub use decoding::decode;
 pub use encoding::encode;
 pub use insn::{Illegal, Insn};
-
-#[cfg(test)]
-mod tests;

@@ -27,6 +27,3 @@ pub use rows::{
     Verdict,
 };
 pub use traits::{RowSource, Standing, UnitKind};
-
-#[cfg(test)]
-mod tests;

@@ -12,8 +12,6 @@
 mod chains;
 mod holders;
 mod owned;
-#[cfg(test)]
-mod tests;
 mod trackers;
 
 pub use owned::Owned;

@@ -31,8 +31,6 @@ mod held;
 mod plays;
 mod rule;
 mod seat;
-#[cfg(test)]
-mod tests;
 mod turn;
 mod view;
 

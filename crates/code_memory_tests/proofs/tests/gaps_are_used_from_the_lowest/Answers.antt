@@ -1,0 +1,15 @@
+-- The alignments are powers of two.
+use Rattle.std.proofs.Common.{refl}
+use Rattle.code_memory_tests.proofs.tests.gaps_are_used_from_the_lowest.Goals as goal
+
+pub place-requires-clause-align : goal.place-requires-clause-align
+place-requires-clause-align g c = (4, refl)
+
+pub place-requires-2-clause-align : goal.place-requires-2-clause-align
+place-requires-2-clause-align g c = (12, refl)
+
+pub place-requires-3-clause-align : goal.place-requires-3-clause-align
+place-requires-3-clause-align g c = (4, refl)
+
+pub place-requires-4-clause-align : goal.place-requires-4-clause-align
+place-requires-4-clause-align g c = (4, refl)

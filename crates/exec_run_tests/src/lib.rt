@@ -1,0 +1,8 @@
+//! Tests of `exec_run`: a linked program that writes a line, with just enough fuel and with one less.
+//!
+//! They stand in a crate of their own, so that they don't prove `exec_run` again. The program was linked by
+//! GNU `ld`.
+#![tactic(auto)]
+
+#[cfg(test)]
+mod tests;

@@ -1,0 +1,198 @@
+ghost use Rattle.std.specs.Prelude.{◌≡◌, ◌++◌, ◌∷◌, [], false, true, All, IfOk, OnOk, OnErr, refl};
+ghost use Rattle.std.proofs.Common.{◌∙◌, ap, inl, inr, Ok, Err};
+ghost use Rattle.std.proofs.lemmas.List.Elements.{filter-append};
+ghost use Rattle.turn_lock.specs.Handles.{view, turn_id, IsReady};
+ghost use Rattle.turn_lock.specs.Lists.{entries_of};
+ghost use Rattle.turn_lock.specs.Views.{finds_taken};
+
+use std::alloc::{AllocError, AllocFailed};
+use std::test::Fail;
+use std::thread;
+use std::thread::Threads;
+use turn_lock::{Call, Counted, Seat, Turn};
+
+/// The numbers of the seats that took turns, in order.
+#[derive(Drop)]
+struct Roll {
+    seats: Vec<u32>,
+}
+
+impl Counted for Roll {
+    type Entry = u32;
+
+    ghost history = { λ roll. roll.seats.items };
+
+    ghost seat_of = { λ seat. seat };
+
+    ghost lawful = { λ _. Unit {0} };
+
+    ghost posted = { λ _ _ _. ⊥ };
+
+    fn history_len(&self) -> u64 {
+        self.seats.len() as u64
+    }
+
+    ghost lawful_before = { λ _ _ _. tt };
+
+    ghost stays_posted = { λ _ _ _ _ _ posted. posted };
+
+    ghost posted_once = { λ _ _ _ _ _ posted _. absurd posted };
+}
+
+impl Roll {
+    fn note(&mut self, seat: u32) -> Result<(), AllocFailed<u32>>
+        ensures noted { OnOk result (self.new.seats.items ≡ self.old.seats.items ++ seat ∷ []) }
+        ensures stays { OnErr result (self.new.seats.items ≡ self.old.seats.items) }
+    {
+        self.seats.push(seat)
+    }
+}
+
+/// Notes a seat that has no entry yet.
+#[derive(Drop)]
+struct NoteOnce;
+
+impl Call<Roll> for NoteOnce {
+    type Answer = Result<(), AllocFailed<u32>>;
+
+    ghost may = { λ _ seat log. entries_of (λ s. s) seat log ≡ [] };
+
+    ghost does = { λ _ seat old new answer. OnOk answer (new ≡ old ++ seat ∷ []) × OnErr answer (new ≡ old) };
+
+    fn make(self, value: &mut Roll, seat: u32) -> Result<(), AllocFailed<u32>> {
+        value.note(seat)
+    }
+
+    ghost stays_allowed = { λ _ seat log more _ others before. filter-append _ log more ∙ (ap (λ l. l ++ entries_of (λ s. s) seat more) before ∙ others) };
+
+    ghost one_at_most = { λ _ seat old new. elim [ Ok _ ↦ λ done. inr (seat, done.0, refl) | Err _ ↦ λ done. inl done.1 ] };
+}
+
+/// Makes one entry of the seat, if it is given the turn without waiting.
+fn note_once(turn: &Turn<Roll>, seat: &mut Seat<Roll, u32>) -> Result<bool, AllocError>
+    requires { IsReady (turn_id turn.now) seat.old }
+    ensures ready { IsReady (turn_id turn.now) seat.new }
+    ensures busy { IfOk result (λ noted. noted ≡ false → view seat.new ≡ finds_taken (view seat.old)) }
+{
+    let number = seat.number();
+    let Ok(mut held) = seat.try_enter(turn) else {
+        return Ok(false);
+    };
+    let entry = held.value().history_len();
+    let noted = held.value().note(number);
+    if noted.is_ok() {
+        held.step(entry);
+    }
+    held.leave();
+    noted?;
+    Ok(true)
+}
+
+/// Whether the second seat finds the turn taken while the first has it.
+fn is_busy_meanwhile(
+    turn: &Turn<Roll>,
+    first: &mut Seat<Roll, u32>,
+    second: &mut Seat<Roll, u32>,
+) -> Result<bool, AllocError>
+    requires first { IsReady (turn_id turn.now) first.old }
+    requires second { IsReady (turn_id turn.now) second.old }
+    ensures first { IsReady (turn_id turn.now) first.new }
+    ensures second { IsReady (turn_id turn.now) second.new }
+{
+    let Ok(held) = first.try_enter(turn) else {
+        return Ok(false);
+    };
+    let free = note_once(turn, second);
+    held.leave();
+    Ok(!free?)
+}
+
+/// Whether the second seat gets its call back while the first has the turn.
+fn is_handed_back_meanwhile(
+    turn: &Turn<Roll>,
+    first: &mut Seat<Roll, u32>,
+    second: &mut Seat<Roll, u32>,
+) -> bool
+    requires first { IsReady (turn_id turn.now) first.old }
+    requires second { IsReady (turn_id turn.now) second.old }
+    requires fresh { entries_of (λ s. s) (view second.old).number (view second.old).seen ≡ [] }
+    ensures first { IsReady (turn_id turn.now) first.new }
+    ensures mine { ((view first.new).number ≡ (view first.old).number) × ((view first.new).mine ≡ (view first.old).mine) }
+    ensures second { IsReady (turn_id turn.now) second.new }
+    ensures back { result ≡ true → view second.new ≡ finds_taken (view second.old) }
+{
+    let Ok(held) = first.try_enter(turn) else {
+        return false;
+    };
+    let back = turn.try_perform(second, NoteOnce).is_err();
+    held.leave();
+    back
+}
+
+/// Seats of one turn look at the history, each on a thread of its own. It stands here for its proof:
+/// a turn and its seats cross threads where the value may.
+fn look_at_once<T: Counted + Send, R: Threads + Sync>(
+    rt: &R,
+    turn: &Turn<T>,
+    seats: &mut [Seat<T, T::Entry>],
+)
+    requires { All (λ seat. IsReady (turn_id turn.now) seat) seats.old }
+    ensures { All (λ seat. IsReady (turn_id turn.now) seat) seats.new }
+{
+    thread::for_each_mut(
+        rt,
+        seats,
+        2,
+        &|_: usize, seat: &mut Seat<T, T::Entry>|
+            requires { IsReady (turn_id turn.now) seat.old }
+            ensures { IsReady (turn_id turn.entry.now) seat.new }
+        {
+            turn.front(seat);
+        },
+    );
+}
+
+#[test]
+fn a_turn_is_busy_until_it_is_left(rt: HostRuntime) -> Result<(), Fail> {
+    let roll = Roll {
+        seats: Vec::new(rt.alloc()),
+    };
+    let Ok((turn, mut first)) = Turn::open(rt.alloc(), roll, 2) else {
+        panic!(rt; "memory")
+    };
+    assert!(rt; first.number() == 0 && first.spares() == 1);
+    let mut second = turn.split(&mut first);
+    assert!(rt; second.number() == 1 && first.spares() == 0 && second.spares() == 0);
+    let busy = is_busy_meanwhile(&turn, &mut first, &mut second);
+    let noted = note_once(&turn, &mut second);
+    let front = turn.front(&mut first);
+    turn.meet(&mut second, &mut first);
+    turn.join(&mut first, second);
+    let mut held = turn.enter(&rt, &mut first);
+    let len = held.value().history_len();
+    held.leave();
+    let roll = turn.close(&rt, first);
+    assert!(rt;
+        busy? && noted? && front == 1 && len == 1 && roll.seats.as_slice() == [1].as_slice()
+    );
+    Ok(())
+}
+
+#[test]
+fn a_call_is_made_once_the_turn_is_free(rt: HostRuntime) -> Result<(), Fail> {
+    let roll = Roll {
+        seats: Vec::new(rt.alloc()),
+    };
+    let Ok((turn, mut first)) = Turn::open(rt.alloc(), roll, 2) else {
+        panic!(rt; "memory")
+    };
+    let mut second = turn.split(&mut first);
+    assert!(rt; is_handed_back_meanwhile(&turn, &mut first, &mut second));
+    assert!(rt; turn.front(&mut first) == 0);
+    let tried = turn.try_perform(&mut second, NoteOnce);
+    assert!(rt; matches!(tried, Ok(Ok(()))));
+    assert!(rt; turn.perform(&rt, &mut first, NoteOnce).is_ok());
+    let roll = turn.close(&rt, first);
+    assert!(rt; roll.seats.as_slice() == [1, 0].as_slice());
+    Ok(())
+}
