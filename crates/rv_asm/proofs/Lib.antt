@@ -1,0 +1,5 @@
+pub mod Orders
+pub mod Firsts
+pub mod Words
+pub mod Ranges
+pub mod Objects

@@ -1,0 +1,4 @@
+pub mod Symbols
+pub mod Branches
+pub mod Sections
+pub mod Objects
