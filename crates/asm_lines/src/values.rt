@@ -27,7 +27,7 @@ pub struct Reference<'a> {
 
 /// An operand that stands for a value.
 #[derive(Drop)]
-pub(crate) enum Operand<'a> {
+pub enum Operand<'a> {
     Number(i128),
     Address(Part, Reference<'a>),
 }

@@ -2,3 +2,4 @@ pub mod Bytes
 pub mod Tables
 pub mod Parts
 pub mod Files
+pub mod Canonical

@@ -4,7 +4,8 @@
 //!
 //! `write_object` gives the bytes of `specs/Files`, whose parts are those of `specs/Parts`: each is a name, a
 //! header and bytes, and stands at the next multiple of eight. `specs/Tables` has the entries of symbols and
-//! relocations, `specs/Bytes` numbers and string tables. Read `elf_read` first, which reads such files.
+//! relocations, `specs/Bytes` numbers and string tables. `specs/Canonical` says which objects such a file
+//! holds whole. Read `elf_read` first, which reads such files.
 #![tactic(auto)]
 
 mod numbers;

@@ -3,3 +3,9 @@ pub mod Firsts
 pub mod Words
 pub mod Ranges
 pub mod Objects
+pub mod Named
+pub mod SoundSections
+pub mod SoundSymbols
+pub mod SoundTexts
+pub mod Typed
+pub mod Canonicals

@@ -10,16 +10,9 @@ use Rattle.rv_insn.specs.declared.insn.Insn.{Insn}
 use Rattle.rv_insn.specs.declared.insn.Insn.TheVariants.{Beq, Bne, Blt, Bge, Bltu, Bgeu, Jal}
 use Rattle.rv_insn.specs.Range.{InRange, RangeB, RangeJ}
 use Rattle.asm_state.specs.Reach.{reaches}
+use Rattle.rv_asm.proofs.Named.{and_left, and_right}
 
 pub ruleset casts = (to_z-of_z)
-
-and_left : (a b : Bool) → (a && b) ≡ true → a ≡ true
-and_left true b h = refl
-and_left false b h = h
-
-and_right : (a b : Bool) → (a && b) ≡ true → b ≡ true
-and_right true b h = h
-and_right false b h = absurd (cc h)
 
 even : (v : ℤ) → (low_of 1 v == 0) ≡ true → low_of 1 v ≡ 0
 even v h = grind (arith, nat_tests, h)

@@ -1,8 +1,8 @@
-ghost use Rattle.std.specs.Prelude.{◌≡◌, ◌+◌, ◌≤◌, ℕ, All, None, length, slice_index, IfOk};
+ghost use Rattle.std.specs.Prelude.{◌≡◌, ◌+◌, ◌≤◌, ℕ, false, All, None, length, slice_index, IfOk, if◌then◌else◌};
 ghost use Rattle.orc_words.specs.Numbers.{with_number};
 ghost use Rattle.rv_insn.specs.Range.{InRange};
 ghost use Rattle.rv_insn.specs.Rows.{Fits};
-ghost use Rattle.asm_state.specs.Sections.{StandIn};
+ghost use Rattle.asm_state.specs.Sections.{StandIn, is_bss};
 ghost use Rattle.asm_state.specs.declared.section.Code.{Code as CodeSeen};
 ghost use Rattle.rv_asm.specs.Branches.{far_line, first_far_in, filled};
 ghost use Rattle.rv_asm.specs.Sections as want;
@@ -46,7 +46,8 @@ fn encoded(
     made: &Making,
 ) -> Result<Bytes, AllocError>
     requires { first_far_in symbols.now section made.now.code ≡ None }
-    ensures { IfOk result (λ bytes. want.IsContents symbols.now section made.now bytes) }
+    ensures exact { IfOk result (λ bytes. want.IsContents symbols.now section made.now bytes) }
+    ensures sized { is_bss made.now.kind ≡ false → IfOk result (λ bytes. length bytes ≡ made.now.size) }
 {
     let mut bytes = made.bytes().to_vec(alloc)?;
     put_words(symbols, section, made.code(), bytes.as_mut_slice());
@@ -61,7 +62,8 @@ pub(crate) fn contents(
     made: &Making,
 ) -> Result<Bytes, AllocError>
     requires { first_far_in symbols.now section made.now.code ≡ None }
-    ensures { IfOk result (λ bytes. want.Holds symbols.now section made.now bytes) }
+    ensures exact { IfOk result (λ bytes. want.Holds symbols.now section made.now bytes) }
+    ensures sized { IfOk result (λ bytes. length bytes ≡ (if is_bss made.now.kind then 0 else made.now.size)) }
 {
     if is_bss(made.kind()) {
         return Ok(Bytes::new(alloc));

@@ -5,7 +5,8 @@
 //! branches to local labels of their section are filled in, by all labels of the text, and what the lines
 //! said becomes an object of `elf_read`. `specs/Symbols` has its symbol table, `specs/Sections` its
 //! sections, whose bytes hold the words of `rv_insn`, and `specs/Branches` what is filled in, and which
-//! branch can't go so far. Read `asm_text` first; `elf_write` makes the file.
+//! branch can't go so far. The object is canonical, as `elf_write` defines it. Read `asm_text` first;
+//! `elf_write` makes the file.
 #![tactic(auto)]
 
 mod contents;

@@ -1,6 +1,9 @@
-ghost use Rattle.std.specs.Prelude.{◌≡◌, None, IfOk};
+ghost use Rattle.std.specs.Prelude.{◌≡◌, ◌<◌, All, None, length, IfOk};
+ghost use Rattle.elf_write.specs.Canonical.{Canonical};
 ghost use Rattle.rv_asm.specs.Branches.{first_far_from};
 ghost use Rattle.rv_asm.specs.Objects as want;
+ghost use Rattle.rv_asm.specs.Symbols.{order};
+ghost use Rattle.rv_asm.specs.Typed.{Typed};
 
 use crate::error::AsmError;
 use crate::far::first_far;
@@ -30,7 +33,9 @@ fn bad_line(reading: &Reading) -> Option<BadLine>
 /// The object of what all lines said.
 fn object_of(alloc: Global, known: &Assembler) -> Result<ElfObject, AllocError>
     requires { first_far_from known.now.symbols 0 known.now.sections.made ≡ None }
-    ensures { IfOk result (λ o. want.IsObject known.now o) }
+    ensures exact { IfOk result (λ o. want.IsObject known.now o) }
+    ensures typed { IfOk result (λ o. All (Typed (length o.symbols)) o.sections) }
+    ensures inside { IfOk result (λ o. All (λ n. n < length known.now.symbols.names) (order known.now.symbols)) }
 {
     let order = SymbolOrder::new(alloc, &known.symbols)?;
     Ok(ElfObject {
@@ -41,7 +46,8 @@ fn object_of(alloc: Global, known: &Assembler) -> Result<ElfObject, AllocError>
 
 /// The object that a text is, or its first bad line. Time and memory are linear in the text.
 pub fn assemble(alloc: Global, text: &[u8]) -> Result<ElfObject, AsmError>
-    ensures { want.Assembles text.now result }
+    ensures exact { want.Assembles text.now result }
+    ensures canonical { IfOk result (λ o. Canonical o) }
 {
     let reading = read_text(alloc, text)?;
     if let Some(bad) = bad_line(&reading) {

@@ -1,4 +1,4 @@
-ghost use Rattle.std.specs.Prelude.{◌≡◌, ◌<◌, ◌-◌, ◌++◌, ◌^◌, length, slice_index, IfOk, OnOk, All, ℕ};
+ghost use Rattle.std.specs.Prelude.{◌≡◌, ◌<◌, ◌+◌, ◌-◌, ◌++◌, ◌^◌, length, slice_index, IfOk, OnOk, All, ℕ};
 ghost use Rattle.std.specs.List.{filter};
 ghost use Rattle.asm_state.specs.Symbols.{marks_at};
 ghost use Rattle.rv_asm.specs.Symbols as want;
@@ -158,7 +158,8 @@ impl SymbolOrder {
 
     /// The entry of a symbol.
     pub fn entry(&self, symbol: Option<u32>) -> u32
-        ensures { result ≡ want.entry_in self.now symbol }
+        ensures exact { result ≡ want.entry_in self.now symbol }
+        ensures inside { result < 1 + length self.now }
     {
         match symbol {
             None => 0,
@@ -166,8 +167,10 @@ impl SymbolOrder {
         }
     }
 
+    #[tactic(auto, using(crate::proofs::Typed::place_inside))]
     fn entry_of(&self, number: u32) -> u32
-        ensures { result ≡ want.place_from 1 number self.now }
+        ensures exact { result ≡ want.place_from 1 number self.now }
+        ensures inside { result < 1 + length self.now }
     {
         if (number as usize) < self.entries.len() {
             self.entries[number as usize]

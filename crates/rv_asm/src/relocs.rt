@@ -1,4 +1,5 @@
-ghost use Rattle.std.specs.Prelude.{◌≡◌, IfOk};
+ghost use Rattle.std.specs.Prelude.{◌≡◌, ◌+◌, All, length, IfOk};
+ghost use Rattle.elf_write.specs.Canonical.{HoldsReloc};
 ghost use Rattle.rv_asm.specs.Sections as want;
 
 use crate::filling::is_filled;
@@ -7,8 +8,9 @@ use asm_state::{Patch, SymbolBook};
 use elf_read::{Reloc, Relocs};
 use std::alloc::{AllocError, Global};
 
-fn reloc_of(order: &SymbolOrder, patch: &Patch) -> Reloc
-    ensures { result ≡ want.reloc_of order.now patch.now }
+fn reloc_of(order: &SymbolOrder, patch: Patch) -> Reloc
+    ensures exact { result ≡ want.reloc_of order.now patch }
+    ensures holds { HoldsReloc (1 + length order.now) result }
 {
     Reloc {
         at: patch.at,
@@ -27,12 +29,13 @@ pub(crate) fn relocs_of(
     section: u32,
     patches: &[Patch],
 ) -> Result<Relocs, AllocError>
-    ensures { IfOk result (λ relocs. relocs ≡ want.relocs_of symbols.now order.now section patches.now) }
+    ensures exact { IfOk result (λ relocs. relocs ≡ want.relocs_of symbols.now order.now section patches.now) }
+    ensures holds { IfOk result (λ relocs. All (HoldsReloc (1 + length order.now)) relocs) }
 {
     let mut items = Vec::new(alloc);
     for patch in patches {
         if !is_filled(symbols, section, patch) {
-            items.push(reloc_of(order, patch))?;
+            items.push(reloc_of(order, *patch))?;
         }
     }
     Ok(Relocs::from_vec(items))

@@ -1,7 +1,8 @@
-ghost use Rattle.std.specs.Prelude.{◌≡◌, ◌<◌, None, length, IfOk};
+ghost use Rattle.std.specs.Prelude.{◌≡◌, ◌<◌, ◌+◌, All, None, length, IfOk};
 ghost use Rattle.rv_asm.specs.Branches.{first_far_in, first_far_from};
 ghost use Rattle.rv_asm.specs.Symbols as symbol;
 ghost use Rattle.rv_asm.specs.Sections as want;
+ghost use Rattle.rv_asm.specs.Typed.{Typed};
 
 use crate::contents::contents;
 use crate::order::SymbolOrder;
@@ -53,7 +54,8 @@ fn section_of(
 ) -> Result<Section, AllocError>
     requires order { order.now ≡ symbol.order symbols.now }
     requires near { first_far_in symbols.now section made.now.code ≡ None }
-    ensures { IfOk result (λ s. want.IsSection symbols.now section name.now made.now s) }
+    ensures exact { IfOk result (λ s. want.IsSection symbols.now section name.now made.now s) }
+    ensures typed { IfOk result (λ s. Typed (1 + length order.now) s) }
 {
     Ok(Section {
         name: Bytes::copy_of(alloc, name)?,
@@ -77,7 +79,8 @@ fn numbered(
     requires order { order.now ≡ symbol.order known.now.symbols }
     requires near { first_far_from known.now.symbols 0 known.now.sections.made ≡ None }
     requires inside { section < length known.now.sections.names }
-    ensures { IfOk result (λ s. want.IsSection known.now.symbols section (want.name_at known.now section) (want.made_at known.now section) s) }
+    ensures exact { IfOk result (λ s. want.IsSection known.now.symbols section (want.name_at known.now section) (want.made_at known.now section) s) }
+    ensures typed { IfOk result (λ s. Typed (1 + length order.now) s) }
 {
     let name = known.sections.name(section);
     let made = &known.sections.made()[section];
@@ -92,7 +95,8 @@ pub(crate) fn sections_of(
 ) -> Result<Sections, AllocError>
     requires order { order.now ≡ symbol.order known.now.symbols }
     requires near { first_far_from known.now.symbols 0 known.now.sections.made ≡ None }
-    ensures { IfOk result (λ sections. want.AreSections known.now sections) }
+    ensures exact { IfOk result (λ sections. want.AreSections known.now sections) }
+    ensures typed { IfOk result (λ sections. All (Typed (1 + length order.now)) sections) }
 {
     let mut items = Vec::new(alloc);
     for section in 0..known.sections.len() {

@@ -1,4 +1,4 @@
-ghost use Rattle.std.specs.Prelude.{◌≡◌, ◌<◌, ◌++◌, All, length, map, IfOk, OnOk};
+ghost use Rattle.std.specs.Prelude.{◌≡◌, ◌<◌, ◌+◌, ◌++◌, All, length, map, IfOk, OnOk};
 ghost use Rattle.elf_read.specs.Symbols.{symbol_zero};
 ghost use Rattle.rv_asm.specs.Symbols as want;
 
@@ -125,7 +125,7 @@ fn zero_symbol(alloc: Global) -> Symbol
 }
 
 /// The symbol table.
-#[tactic(auto, unfolding(crate::specs::Symbols::symbol_table))]
+#[tactic(auto, using(crate::proofs::Typed::counts), unfolding(crate::specs::Symbols::symbol_table))]
 pub(crate) fn symbol_table(
     alloc: Global,
     symbols: &SymbolBook,
@@ -133,7 +133,8 @@ pub(crate) fn symbol_table(
 ) -> Result<Symbols, AllocError>
     requires order { order.now ≡ want.order symbols.now }
     requires inside { All (λ n. n < length symbols.now.names) order.now }
-    ensures { IfOk result (λ s. s ≡ want.symbol_table symbols.now) }
+    ensures exact { IfOk result (λ s. s ≡ want.symbol_table symbols.now) }
+    ensures count { IfOk result (λ s. length s ≡ 1 + length order.now) }
 {
     let mut items = Vec::with_capacity(alloc, 1)?;
     items.push(zero_symbol(alloc))?;
