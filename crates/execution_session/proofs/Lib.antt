@@ -18,5 +18,5 @@ pub mod Lodging
 pub mod Emission
 pub mod GivingUp
 pub mod Collected
-mod HeldCalls
+pub mod HeldCalls
 pub mod Generating

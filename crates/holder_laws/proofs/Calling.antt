@@ -68,14 +68,14 @@ place_stays jmax s u shape h more l places o may y e =
 
 -- The instances of the unit
 
-own_list : (u k : ℕ) (rows new : List InstRow) → ((i : ℕ) → is_owned_at u new i ≡ is_owned_at u rows i) → own_rows u k new ≡ own_rows u k rows
+pub own_list : (u k : ℕ) (rows new : List InstRow) → ((i : ℕ) → is_owned_at u new i ≡ is_owned_at u rows i) → own_rows u k new ≡ own_rows u k rows
 own_list u k [] [] h = refl
 own_list u k [] (q ∷ qs) h = ap (λ b. if b then record { 0 = k } ∷ own_rows u (k + 1) qs else own_rows u (k + 1) qs) (h 0) ∙ own_list u (k + 1) [] qs (λ i. h (suc i))
 own_list u k (r ∷ rs) [] h = own_list u (k + 1) rs [] (λ i. h (suc i)) ∙ ap (λ b. if b then record { 0 = k } ∷ own_rows u (k + 1) rs else own_rows u (k + 1) rs) (h 0)
 own_list u k (r ∷ rs) (q ∷ qs) h = ap (λ b. if b then record { 0 = k } ∷ own_rows u (k + 1) qs else own_rows u (k + 1) qs) (h 0)
     ∙ ap (λ l. if is_owned u r then record { 0 = k } ∷ l else l) (own_list u (k + 1) rs qs (λ i. h (suc i)))
 
-owned_same : (rows new : List InstRow) (u : ℕ) → OwnSame rows new u → (i : ℕ) → is_owned_at u new i ≡ is_owned_at u rows i
+pub owned_same : (rows new : List InstRow) (u : ℕ) → OwnSame rows new u → (i : ℕ) → is_owned_at u new i ≡ is_owned_at u rows i
 owned_same rows new u own i = both_ways (is_owned_at u new i) (is_owned_at u rows i) back on
   where
     back : is_owned_at u new i ≡ true → is_owned_at u rows i ≡ true

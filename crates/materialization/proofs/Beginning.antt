@@ -185,6 +185,25 @@ bound_begins jmax h s u b none one = by_unit (unit_test is_alias m u) refl (test
       job = λ es k. subst (λ c. MatchBool c (Resolves (Emits u (refusal_of m u)) u es) (Emits u (refusal_of m u) es)) (sym i) k;
     }
 
+-- the row of a unit that was handed out with its bindings
+pub record IsFinishing (m : Plain) (u : UnitId) (b : Bindings) : Type 0 where
+  pub unit : UnitRow
+  pub there : slice_get m.units u.0 ≡ Some unit
+  pub phase : unit.phase ≡ phase.Finishing
+  pub bound : unit.bound ≡ Some b
+  pub unbased : is_alias unit ≡ true → unit.base ≡ None
+
+pub finishing_after : (jmax : ℕ) (h : List (Entry Meaning)) (s : SeatNo) (u : UnitId) (b : Bindings) → HoldsNone (state h) s.0 → OneMore jmax h (entry s (reply.Finish u (finishing.Bound b))) → IsFinishing (took h (entry s (reply.Finish u (finishing.Bound b)))) u b
+finishing_after jmax h s u b none one =
+    let x = finished jmax h s u (finishing.Bound b) none one in
+    record {
+      unit = finishing_unit s.0 (finishing.Bound b) x.unit;
+      there = there_after jmax h (entry s (reply.Finish u (finishing.Bound b))) one u.0 (finishing_unit s.0 (finishing.Bound b) x.unit) x.now refl;
+      phase = refl;
+      bound = refl;
+      unbased = λ a. all_unbased jmax h one.before u.0 x.unit x.was a (ap is_unbound x.linked);
+    }
+
 -- the link query's end stays
 lost_after : (jmax : ℕ) (h : List (Entry Meaning)) (s : SeatNo) (u : UnitId) (i : InstId) (x : Finished jmax h s u (finishing.Lost i)) → OneMore jmax h (entry s (reply.Finish u (finishing.Lost i))) →
     LinkEnded (h ++ entry s (reply.Finish u (finishing.Lost i)) ∷ []) (took h (entry s (reply.Finish u (finishing.Lost i)))) u.0 (Lost i)

@@ -63,7 +63,7 @@ pub refused_edge_fails : RefusedEdgeFails
 refused_edge_fails u (place, kind, v) es fails = inr fails
 
 -- no call of a job needs more than one place
-one_place : (m : Plain) (s : ℕ) (u : UnitId) (at : Stage) (e : Event Meaning) → IsCall u at e → places m s e ≤ 1
+pub one_place : (m : Plain) (s : ℕ) (u : UnitId) (at : Stage) (e : Event Meaning) → IsCall u at e → places m s e ≤ 1
 one_place m s u stage.Place (event.Place v shape) c = le_refl 1
 one_place m s u stage.Place _ c = absurd (both_ways false refl c)
 one_place m s u stage.Resolve e c = subst (λ f. places m s f ≤ 1) (sym c) (le_refl 1)

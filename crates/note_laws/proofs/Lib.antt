@@ -2,4 +2,4 @@ pub mod Asked
 pub mod Events
 mod Noting
 mod OneMore
-mod Unlodged
+pub mod Unlodged

@@ -27,13 +27,14 @@ use Rattle.holder_laws.proofs.Dylibs.{source_stays}
 use Rattle.shared_session.specs.Home.{IsLawful, IsPosted, seat_of}
 
 module _ {U : Type 0} (means : U → Meaning) (jmax : ℕ) where
-  joined : (h more : List (Entry U)) → plain_history means (h ++ more) ≡ plain_history means h ++ plain_history means more
+  -- what a history that goes on is to the definitions
+  pub joined : (h more : List (Entry U)) → plain_history means (h ++ more) ≡ plain_history means h ++ plain_history means more
   joined h more = map-append (plain_entry means) h more
 
-  legal_joined : (h more : List (Entry U)) → IsLawful means jmax (h ++ more) → IsLegal jmax (plain_history means h ++ plain_history means more)
+  pub legal_joined : (h more : List (Entry U)) → IsLawful means jmax (h ++ more) → IsLegal jmax (plain_history means h ++ plain_history means more)
   legal_joined h more lawful = subst (IsLegal jmax) (joined h more) lawful.legal
 
-  places_joined : (h more : List (Entry U)) → IsLawful means jmax (h ++ more) → HasPlaces jmax (plain_history means h ++ plain_history means more)
+  pub places_joined : (h more : List (Entry U)) → IsLawful means jmax (h ++ more) → HasPlaces jmax (plain_history means h ++ plain_history means more)
   places_joined h more lawful = subst (HasPlaces jmax) (joined h more) lawful.places
 
   -- what a lawful history begins with is lawful

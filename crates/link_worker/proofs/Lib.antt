@@ -1,0 +1,13 @@
+pub mod Telling
+pub mod Turning
+pub mod Stepping
+pub mod Aliasing
+pub mod AliasStep
+pub mod Based
+pub mod Taking
+pub mod Working
+pub mod Knowing
+pub mod Awaiting
+pub mod Freeing
+pub mod Collecting
+pub mod Asking

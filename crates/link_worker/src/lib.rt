@@ -1,0 +1,22 @@
+//! What a thread does on a shared session: jobs, and lookups (ORC: `ExecutionSession::lookup`, and the
+//! dispatch of materialization tasks).
+//!
+//! `work_one` takes one job and carries it to its end. Each function here says of its pass what
+//! `seat_calls` calls a promise: that the calls which it made are those of one job, of a lookup, or of
+//! jobs, whatever other seats do in between, and who was told at them (`specs/Does`). Read
+//! `materialization` and `seat_calls` first.
+#![tactic(auto)]
+
+mod assisting;
+mod job;
+mod laws;
+mod looking;
+mod unit;
+mod work;
+
+pub use assisting::assist;
+pub use job::Job;
+pub use laws::free_stays;
+pub use looking::{LookEnd, Looked, lookup};
+pub use unit::{FinishError, LinkedUnit};
+pub use work::{Worked, work_one};

@@ -1,0 +1,126 @@
+//! The tests' unit.
+
+ghost use Rattle.std.specs.Prelude.{false, true, [], ◌∷◌, replicate, Some, None, cond, slice_get, unwrap_or, ◌≡◌, IfOk};
+ghost use Rattle.orc_ids.specs.declared.ids.UnitName.TheVariants.{Absolute};
+
+use execution_session::Finished;
+use link_worker::{FinishError, LinkedUnit};
+use orc_ids::{Bytes, DylibId, Group, InstId, Items, NameId, Shape, SymFlags, UnitName, Wanted};
+use session_model::UnitKind;
+use std::alloc::{AllocError, Global};
+
+/// A unit with one name, at its start, and 48 bytes that are all 7.
+#[derive(Debug, Drop)]
+pub(super) struct Named {
+    name: NameId,
+    weak: bool,
+}
+
+impl Named {
+    /// A unit with this strong name.
+    pub(super) fn strong(name: u32) -> Named {
+        Named {
+            name: NameId(name),
+            weak: false,
+        }
+    }
+}
+
+impl UnitKind for Named {
+    ghost meaning = { λ u. record {
+      name = Absolute 0;
+      offers = (u.name, record { weak = u.weak; common = false; exported = true; callable = true }) ∷ [];
+      shape = λ live. Some (record { need = 48; align = 16 });
+      address = λ k base. base;
+      source = None;
+      externals = λ live. cond (unwrap_or (slice_get live 0) true) [] (record { name = u.name; weak = false } ∷ []);
+      image = λ live base bound. replicate 48 7;
+      groups = λ live base bound own. record { members = own; deps = [] } ∷ [];
+      refusal = λ live base bound. None;
+    } };
+
+    fn known(&self) {}
+
+    fn count(&self) -> u32 {
+        1
+    }
+
+    fn offer(&self, _k: u32) -> (NameId, SymFlags) {
+        let flags = SymFlags {
+            weak: self.weak,
+            common: false,
+            exported: true,
+            callable: true,
+        };
+        (self.name, flags)
+    }
+
+    fn source(&self) -> Option<DylibId> {
+        None
+    }
+
+    fn share(&self, _alloc: Global) -> Result<Named, AllocError> {
+        Ok(Named {
+            name: self.name,
+            weak: self.weak,
+        })
+    }
+
+    fn name(&self) -> UnitName {
+        UnitName::Absolute(0)
+    }
+
+    fn shape(&self, _live: &[bool]) -> Option<Shape> {
+        Some(Shape {
+            need: 48,
+            align: 16,
+        })
+    }
+
+    fn address(&self, _k: u32, base: u64) -> u64 {
+        base
+    }
+
+    fn external_count(&self, live: &[bool]) -> u32 {
+        if live[0] { 0 } else { 1 }
+    }
+
+    fn external(&self, _live: &[bool], _k: u32) -> Wanted {
+        Wanted {
+            name: self.name,
+            weak: false,
+        }
+    }
+}
+
+/// The unit's group and bytes.
+fn made(alloc: Global, own: &[InstId]) -> Result<Finished, AllocError>
+    ensures groups { IfOk result (λ made. made.groups ≡ record { members = own.now; deps = [] } ∷ []) }
+    ensures bytes { IfOk result (λ made. made.bytes ≡ replicate 48 7) }
+{
+    let mut groups = Vec::new(alloc);
+    groups.push(Group {
+        members: Items::from_vec(own.to_vec(alloc)?),
+        deps: Items::new(alloc),
+    })?;
+    Ok(Finished {
+        groups: Items::from_vec(groups),
+        bytes: Bytes::copy_of(alloc, &[7; 48])?,
+    })
+}
+
+impl LinkedUnit for Named {
+    fn finish(
+        &self,
+        alloc: Global,
+        _live: &[bool],
+        _base: u64,
+        _bound: &[Option<(InstId, u64)>],
+        own: &[InstId],
+    ) -> Result<Finished, FinishError> {
+        match made(alloc, own) {
+            Ok(made) => Ok(made),
+            Err(_) => Err(FinishError::NoMemory),
+        }
+    }
+}
