@@ -35,11 +35,11 @@ pub collect_untaken : (m : Plain) (s : ℕ) (q : QueryId) (r : Reply) → NoTake
 collect_untaken m s q (reply.Defunct u) = tt
 collect_untaken m s q _ = tt
 
-pub ask_untaken : (m : Plain) (s : ℕ) (order : List OrderItem) (wanted : List Wanted) (level : Level) (note : Option ℕ) (r : Reply) → NoTake s (change_of m s (event.Ask order wanted level note) r)
-ask_untaken m s order wanted level note (reply.Done q) = tt
-ask_untaken m s order wanted level note (reply.Pending q) = tt
-ask_untaken m s order wanted level note (reply.Defunct u) = tt
-ask_untaken m s order wanted level note _ = tt
+pub ask_untaken : (m : Plain) (s : ℕ) (order : List OrderItem) (wanted : List Wanted) (level : Level) (asked : Option ℕ) (r : Reply) → NoTake s (change_of m s (event.Ask order wanted level asked) r)
+ask_untaken m s order wanted level asked (reply.Done q) = tt
+ask_untaken m s order wanted level asked (reply.Pending q) = tt
+ask_untaken m s order wanted level asked (reply.Defunct u) = tt
+ask_untaken m s order wanted level asked _ = tt
 
 pub generate_untaken : (m : Plain) (s : ℕ) (g : GenId) (r : Reply) → NoTake s (change_of m s (event.Generate g) r)
 generate_untaken m s g (reply.Defined v first count) = tt
@@ -76,8 +76,8 @@ untaken m s (event.SetOrder d order) reply.Set none = tt
 untaken m s (event.Attach d t u) (reply.Generator g) none = tt
 untaken m s (event.Define d t u) (reply.Defined v first count) none = tt
 untaken m s (event.Generate g) (reply.Defined v first count) none = tt
-untaken m s (event.Ask order wanted level note) (reply.Done q) none = tt
-untaken m s (event.Ask order wanted level note) (reply.Pending q) none = tt
+untaken m s (event.Ask order wanted level asked) (reply.Done q) none = tt
+untaken m s (event.Ask order wanted level asked) (reply.Pending q) none = tt
 untaken m s event.Take r none = absurd (both_ways true none refl)
 untaken m s (event.Place u shape) (reply.Placed base) none = tt
 untaken m s (event.Resolve u) reply.Resolved none = tt

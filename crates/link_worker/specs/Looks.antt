@@ -33,7 +33,7 @@ lookup_of order wanted level then' = record { order = order; wanted = wanted; le
 
 -- a query was lodged for the lookup at one of these calls
 abbrev pub is_ask : Event Meaning → Bool
-is_ask (event.Ask order wanted level note) = true
+is_ask (event.Ask order wanted level _) = true
 is_ask e = false
 
 abbrev pub has_lodged : List (ℕ × Entry Meaning) → Bool
