@@ -6,6 +6,8 @@ use Rattle.session_model.specs.Meaning.{Meaning, Refusal}
 use Rattle.session_model.specs.declared.entry.Why.TheVariants as why
 use Rattle.materialization.specs.declared.stage.Stage.{Stage}
 use Rattle.materialization.specs.declared.stage.Stage.TheVariants as stage
+use Rattle.unit_fixups.specs.declared.apply.FixError.{FixError}
+use Rattle.unit_fixups.specs.declared.apply.FixError.TheVariants as fix
 use Rattle.link_worker.specs.declared.unit.FinishError.{FinishError}
 use Rattle.link_worker.specs.declared.unit.FinishError.TheVariants.{Refused, NoMemory}
 use Rattle.link_worker.specs.declared.job.Job.{Job}
@@ -23,3 +25,8 @@ own_refusal means job = (means job.taken.share).refusal job.taken.live (unwrap_o
 abbrev pub unfinished : FinishError → Result Stage Stop
 unfinished (Refused place kind v) = Ok (stage.Fail (why.Refused place kind v))
 unfinished NoMemory = Err stop.NoMemory
+
+-- why a unit can't be finished, by why its bytes can't be
+abbrev pub unfixed : FixError → FinishError
+unfixed (fix.OutOfRange place kind v) = Refused place kind v
+unfixed fix.NoMemory = NoMemory

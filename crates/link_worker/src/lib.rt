@@ -11,6 +11,7 @@ mod assisting;
 mod job;
 mod laws;
 mod looking;
+mod objects;
 mod unit;
 mod work;
 

@@ -4,6 +4,7 @@ ghost use Rattle.std.specs.Prelude.{◌≡◌, None};
 ghost use Rattle.turn_lock.specs.Handles.{view, turn_id, IsReady};
 ghost use Rattle.link_worker.specs.Works.{IsFree};
 
+mod objects;
 mod units;
 
 use execution_session::Session;
@@ -11,7 +12,7 @@ use link_worker::{LinkedUnit, LookEnd, Looked, Worked, lookup, work_one};
 use notifiers::{Armed, FiredList};
 use orc_ids::{DylibId, InstId, Level, NameId, OrderItem, Scope, Stop, TrackId, Wanted};
 use orc_io::{Note, OpenGate};
-use session_model::Reply;
+use session_model::{Reply, UnitKind};
 use shared_session::{Attach, MakeDylib, MakeTracker, Pass, Shared, close, open};
 use std::alloc::Global;
 use std::process::Abort;
@@ -19,7 +20,7 @@ use std::sync::Wait;
 use units::Named;
 
 /// Ends a session that has no notifiers.
-fn end<const JMAX: usize>(rt: &impl Abort, session: Session<Named, Note, JMAX>) {
+fn end<U: UnitKind, const JMAX: usize>(rt: &impl Abort, session: Session<U, Note, JMAX>) {
     let mut session = session;
     let back: Option<Armed<Note>> = session.give_back();
     let none = back.is_none();
@@ -31,10 +32,10 @@ fn end<const JMAX: usize>(rt: &impl Abort, session: Session<Named, Note, JMAX>) 
 }
 
 /// How many entries a shared session has, which ends.
-fn entries<const JMAX: usize>(
+fn entries<U: UnitKind, const JMAX: usize>(
     rt: &(impl Abort + Wait),
-    shared: Shared<Named, Note, JMAX>,
-    pass: Pass<Named, Note, JMAX>,
+    shared: Shared<U, Note, JMAX>,
+    pass: Pass<U, Note, JMAX>,
 ) -> usize
     requires { IsReady (turn_id shared) pass }
 {
