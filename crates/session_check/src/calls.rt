@@ -92,7 +92,7 @@ fn keep_own(own: &mut Vec<InstId>, k: usize, kept: bool) -> Result<(), AllocErro
 }
 
 /// The unit's instances, in order.
-fn own_instances(alloc: Global, rows: &[InstRow], u: UnitId) -> Result<Vec<InstId>, AllocError>
+pub fn own_instances(alloc: Global, rows: &[InstRow], u: UnitId) -> Result<Vec<InstId>, AllocError>
     requires { length rows.now < 2 ^ 32 }
     ensures { IfOk result (λ own. own.items ≡ own_rows u.0 0 rows.now) }
 {

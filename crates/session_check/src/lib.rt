@@ -2,10 +2,10 @@
 //! it, and which entry is the first whose reply isn't.
 //!
 //! `first_wrong` plays a history entry by entry on a `PlainSession` and the ends of its queries
-//! (`replay`). Before each entry it asks whether the reply is right (`answers` for what is answered
-//! without a unit, `calls` for the calls on one); then the session enters it. The contracts of
-//! `first_wrong` and `is_legal` are the definition of a legal history, the limits of an order and of a
-//! lookup included.
+//! (`replay`, which a caller can do too, as a journal grows). Before each entry it asks whether the reply
+//! is right (`answers` for what is answered without a unit, `calls` for the calls on one); then the
+//! session enters it. The contracts of `first_wrong` and `is_legal` are the definition of a legal history,
+//! the limits of an order and of a lookup included.
 //! A unit's dependence groups and its refusal are part of right replies, so the units of a history
 //! that is checked are `Sample`s, which can compute these; `KnownUnit` is one that is given by lists.
 //! A history that is checked has fewer than 2 ^ 32 entries.
@@ -21,6 +21,8 @@ mod legal;
 mod replay;
 mod sample;
 
+pub use calls::own_instances;
 pub use known::KnownUnit;
 pub use legal::{first_wrong, is_legal};
+pub use replay::{empty_session, play};
 pub use sample::Sample;

@@ -16,4 +16,4 @@ mod taking;
 pub use causes::{Call, has_cause};
 pub use ends::{Ends, Settled, update_ends};
 pub use fits::{empty_is_fit, fit_stays, fit_suits};
-pub use taking::{reply_collect, reply_of_job};
+pub use taking::{held_count, reply_collect, reply_of_job};

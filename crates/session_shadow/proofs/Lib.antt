@@ -1,0 +1,2 @@
+pub mod CallsFit
+pub mod Following
