@@ -1,5 +1,5 @@
 -- What a job knows after its alias was resolved.
-use Rattle.std.proofs.Common.{◌≡◌, ℕ, List, Option, Result, Ok, Err}
+use Rattle.std.proofs.Common.{ℕ, List, Option, Result, Ok, Err}
 use Rattle.orc_ids.specs.declared.lookup.Outcome.{Outcome}
 use Rattle.orc_ids.specs.declared.lookup.Stop.{Stop}
 use Rattle.session_model.specs.Meaning.{Meaning}

@@ -1,29 +1,26 @@
 -- An alias that was given its address may be emitted.
-use Rattle.std.proofs.Common.{◌≡◌, ℕ, ◌+◌, ◌<◌, ◌^◌, Bool, true, false, ◌&&◌, List, [], ◌∷◌, ◌++◌, length, map, slice_get, refl, sym, ap, subst, ◌∙◌, arith, Option, Some, None, is_some, unwrap_or}
+use Rattle.std.proofs.Common.{◌≡◌, ℕ, ◌+◌, ◌<◌, ◌^◌, Bool, true, false, List, [], ◌∷◌, ◌++◌, length, map, slice_get, refl, sym, ap, subst, ◌∙◌, arith, Option, Some, None, is_some, unwrap_or}
 use Rattle.std.specs.Bool.{if◌then◌else◌}
-use Rattle.std.specs.Prelude.{is_none, IfSome}
+use Rattle.std.specs.Prelude.{IfSome}
 use Rattle.std.specs.Option.{option_map_or}
-use Rattle.std.proofs.lemmas.Bool.{and_parts, both_ways}
-use Rattle.std.proofs.lemmas.Option.{none-some, same_Some}
-use Rattle.orc_ids.specs.declared.groups.Group.{Group}
+use Rattle.std.proofs.lemmas.Bool.{both_ways}
+use Rattle.std.proofs.lemmas.Option.{none-some}
 use Rattle.orc_ids.specs.declared.ids.DylibId.{DylibId}
 use Rattle.orc_ids.specs.declared.ids.InstId.{InstId}
 use Rattle.orc_ids.specs.declared.ids.SeatNo.{SeatNo}
 use Rattle.orc_ids.specs.declared.ids.UnitId.{UnitId}
 use Rattle.session_model.specs.Lists.{changed_at}
-use Rattle.session_model.specs.Meaning.{Meaning, Bindings, IsAlias, IsLawful, Refusal, bound_instances}
-use Rattle.session_model.specs.Memory.{unit_image}
-use Rattle.session_model.specs.Plain.{Plain, UnitRow, empty, is_alias, is_owned, own_rows}
+use Rattle.session_model.specs.Meaning.{Meaning, Bindings, IsAlias, IsLawful}
+use Rattle.session_model.specs.Plain.{Plain, UnitRow, empty, is_owned, own_rows}
 use Rattle.session_model.specs.State.{plain_entry, plain_history, state}
-use Rattle.session_model.specs.Answer.{Answers, called, Right, can_emit, can_resolve, is_stage}
-use Rattle.session_model.specs.Change.{change_of, changed, settled, resolved_unit, resolved_row}
+use Rattle.session_model.specs.Answer.{called, Right, can_emit, can_resolve}
+use Rattle.session_model.specs.Change.{changed, resolved_unit, resolved_row}
 use Rattle.session_model.specs.History.{IsLegal}
 use Rattle.session_model.specs.declared.change.Change.TheVariants.{Resolve}
 use Rattle.session_model.specs.declared.entry.Entry.{Entry}
 use Rattle.session_model.specs.declared.entry.Event.TheVariants as event
 use Rattle.session_model.specs.declared.entry.Reply.TheVariants as reply
 use Rattle.session_model.specs.declared.rows.InstRow.{InstRow}
-use Rattle.session_model.specs.declared.rows.UnitPhase.TheVariants as phase
 use Rattle.session_laws.specs.Holding.{AllOthers}
 use Rattle.session_laws.proofs.Along.{state_from_push}
 use Rattle.session_laws.proofs.Elements.{changed_some, same_element}

@@ -1,8 +1,7 @@
 -- An ask of a lookup, and what follows it.
-use Rattle.std.proofs.Common.{◌≡◌, ℕ, ◌+◌, ◌≤◌, ◌||◌, ◌&&◌, ◌==◌, Bool, true, false, not, List, [], ◌∷◌, ◌++◌, length, take, slice_get, inl, inr, append-nil, append_assoc, length-append, refl, sym, ap, subst, ◌∙◌, le_refl, arith, Option, Some, None, Result, Ok, Err, eq-eqb, eqb-true}
+use Rattle.std.proofs.Common.{◌≡◌, ℕ, ◌+◌, ◌||◌, ◌&&◌, ◌==◌, Bool, true, false, not, List, [], ◌∷◌, ◌++◌, length, take, slice_get, append-nil, append_assoc, length-append, refl, sym, ap, subst, ◌∙◌, arith, Option, Some, None, Result, Ok, Err, eq-eqb, eqb-true}
 use Rattle.std.specs.Bool.{if◌then◌else◌}
-use Rattle.std.specs.Prelude.{option_map, is_none}
-use Rattle.std.specs.List.{list_any}
+use Rattle.std.specs.Prelude.{option_map}
 use Rattle.std.proofs.lemmas.Bool.{both_ways}
 use Rattle.std.proofs.lemmas.List.{map-append}
 use Rattle.std.proofs.lemmas.Option.{none-some, same_Some}
@@ -21,7 +20,7 @@ use Rattle.session_model.specs.Answer.{answer_ask, answer_lookup, error_of, lodg
 use Rattle.session_model.specs.Calls.{EndsAsk, IsStopped, Lookup, Looks, Works, lookup_event}
 use Rattle.session_model.specs.Calls.{Asks, Again}
 use Rattle.session_model.specs.Change.{matched}
-use Rattle.session_model.specs.Lists.{first_some, or_else, only_if}
+use Rattle.session_model.specs.Lists.{first_some, only_if}
 use Rattle.session_model.specs.Match.{match_of}
 use Rattle.session_model.specs.declared.rows.Match.{Match}
 use Rattle.session_model.specs.declared.rows.Match.TheVariants.{Instance, Offered}
@@ -54,14 +53,13 @@ use Rattle.seat_calls.proofs.Numbers.{taken_start}
 use Rattle.link_worker.specs.Does.{Does}
 use Rattle.link_worker.specs.Jobs.{IsCause}
 use Rattle.link_worker.specs.Looks.{Asking, EndsAs, HasAwaited, HasLooked, HasSettled, IsAsked, IsLodgedBy, LastIs, end_stopped, has_lodged, is_ask, left_of, lookup_of, offered_in}
-use Rattle.link_worker.specs.Works.{IsFree, WasStopped}
+use Rattle.link_worker.specs.Works.{IsFree}
 use Rattle.link_worker.specs.declared.looking.LookEnd.{LookEnd}
 use Rattle.link_worker.specs.declared.looking.LookEnd.TheVariants as end
-use Rattle.link_worker.proofs.Awaiting.{seen_count}
 use Rattle.link_worker.proofs.Collecting.{one_lacks}
 use Rattle.link_worker.proofs.Freeing.{ask_untaken, free_after, generate_untaken}
 use Rattle.link_worker.proofs.Stepping.{no_notices}
-use Rattle.link_worker.proofs.Telling.{does_both, does_less, does_none, does_one, told_by, told_none}
+use Rattle.link_worker.proofs.Telling.{does_both, does_none, does_one, places_nothing, told_by, told_none}
 use Rattle.link_worker.proofs.Turning.{TurnOf, legal_after, no_call, one_call, seen_is, seen_plain}
 use Rattle.link_worker.proofs.Working.{still_free, stopped_now, stopped_since}
 
@@ -182,7 +180,7 @@ module _ {U N : Type 0} (means : U → Meaning) (hears : N → Option Outcome) (
     one_ask : (r : Reply) (back : Option (Unheard N)) (fires : List (Notice N)) (t : AskOf (Ok r) back fires) → Told hears fires b c → Does means hears x y b c (Single (plain_history means t.old) (plain_entry means (asked r)))
     one_ask r back fires t told = does_one means hears x y (plain_history means t.old) (plain_entry means (asked r)) b c told.told told.added told.heard_it
         (told_by hears (plain_history means t.old ++ plain_entry means (asked r) ∷ []) fires b c
-        (subst (λ h. AreTold h fires) (ap (plain_history means) t.did.0.performs.grown ∙ map-append (plain_entry means) t.old (asked r ∷ [])) t.did.0.tells) told)
+        (subst (λ h. AreTold h fires) (ap (plain_history means) t.did.0.performs.grown ∙ map-append (plain_entry means) t.old (asked r ∷ [])) t.did.0.tells) told) (places_nothing (state (plain_history means t.old)) (plain_event means asked_event) r refl)
         (Single (plain_history means t.old) (plain_entry means (asked r))) (λ h cs s. s) (one_call means jmax x y _ t (asked r) refl t.did.0.performs.grown)
 
     pub ask_free : (r : Reply) (back : Option (Unheard N)) (fires : List (Notice N)) → IsFree means x → AskOf (Ok r) back fires → IsFree means y
@@ -243,7 +241,7 @@ module _ {U N : Type 0} (means : U → Meaning) (hears : N → Option Outcome) (
               none = lodged_both cs ((length (plain_history means u.old) + 1, plain_entry means (used_entry r)) ∷ []) ∙ or_none (has_lodged cs) false w.none refl;
             })) offered
             (does_one means hears y z (plain_history means u.old) (plain_entry means (used_entry r)) c c [] (sym (append-nil c)) (All-nil (λ k. hears k.what ≡ Some k.outcome))
-            (told_none jmax (plain_history means u.old) (plain_entry means (used_entry r)) (legal_after means jmax y z _ u (used_entry r) u.did.grown) (unstirred (state (plain_history means u.old)) y.number (event.Generate g) r refl))
+            (told_none jmax (plain_history means u.old) (plain_entry means (used_entry r)) (legal_after means jmax y z _ u (used_entry r) u.did.grown) (unstirred (state (plain_history means u.old)) y.number (event.Generate g) r refl)) (places_nothing (state (plain_history means u.old)) (event.Generate g) r refl)
             (Single (plain_history means u.old) (plain_entry means (used_entry r))) (λ h cs s. s) (one_call means jmax y z _ u (used_entry r) refl u.did.grown))
 
         pub used_free : (r : Reply) → IsFree means y → UseOf (Ok r) → IsFree means z

@@ -1,40 +1,23 @@
 -- How a lookup goes on: what its calls are while its query is open, and at its end.
-use Rattle.std.proofs.Common.{◌≡◌, ℕ, ◌+◌, ◌<◌, ◌≤◌, ◌&&◌, ◌||◌, Bool, true, false, List, [], ◌∷◌, ◌++◌, length, map, take, drop, slice_get, inl, inr, append-nil, append_assoc, length-append, length-take-le, take-append-drop, take-take, refl, sym, ap, subst, ◌∙◌, le_refl, arith, Option, Some, None, All, Result, Ok, Err}
-use Rattle.std.specs.Bool.{if◌then◌else◌}
-use Rattle.std.specs.Prelude.{option_map}
-use Rattle.std.specs.List.{list_any}
-use Rattle.std.proofs.lemmas.Bool.{both_ways}
+use Rattle.std.proofs.Common.{◌≡◌, ℕ, ◌<◌, ◌≤◌, true, false, List, [], ◌∷◌, ◌++◌, length, take, drop, slice_get, inl, inr, append-nil, append_assoc, length-take-le, take-append-drop, take-take, refl, sym, ap, subst, ◌∙◌, arith, Some, All}
 use Rattle.std.proofs.lemmas.List.Elements.{All-head, All-tail}
-use Rattle.std.proofs.lemmas.List.Folds.{list_any-append}
-use Rattle.orc_ids.specs.declared.ids.GenId.{GenId}
-use Rattle.orc_ids.specs.declared.ids.InstId.{InstId}
 use Rattle.orc_ids.specs.declared.ids.QueryId.{QueryId}
-use Rattle.orc_ids.specs.declared.ids.SeatNo.{SeatNo}
-use Rattle.orc_ids.specs.declared.lookup.Outcome.{Outcome}
-use Rattle.orc_ids.specs.declared.lookup.Stop.{Stop}
-use Rattle.orc_ids.specs.declared.lookup.Stop.TheVariants as stop
-use Rattle.session_model.specs.Calls.{EndsAsk, IsJob, IsStopped, Lookup, Looks, Works, is_collected, lookup_event}
-use Rattle.session_model.specs.Calls.{Asks, Again, Collects as Collected, Job as AJob}
+use Rattle.session_model.specs.Calls.{IsJob, IsStopped, Works, is_collected}
+use Rattle.session_model.specs.Calls.{Collects as Collected, Job as AJob}
 use Rattle.session_model.specs.Meaning.{Meaning}
 use Rattle.session_model.specs.Plain.{Plain, empty}
 use Rattle.session_model.specs.Query.{is_met}
-use Rattle.session_model.specs.State.{IsOpen, plain_entry, plain_event, plain_history, state, state_from}
+use Rattle.session_model.specs.State.{IsOpen, plain_history, state}
 use Rattle.session_model.specs.declared.entry.Entry.{Entry}
-use Rattle.session_model.specs.declared.entry.Event.{Event}
 use Rattle.session_model.specs.declared.entry.Event.TheVariants as event
-use Rattle.session_model.specs.declared.entry.Reply.{Reply}
 use Rattle.session_model.specs.declared.entry.Reply.TheVariants as reply
 use Rattle.session_model.specs.declared.rows.Query.{Query}
 use Rattle.session_laws.proofs.Elements.{same_element}
 use Rattle.session_laws.proofs.Ending.{query_stays}
 use Rattle.session_laws.proofs.Readying.{state_from_joined}
-use Rattle.notifiers.specs.declared.notice.Notice.{Notice}
 use Rattle.turn_lock.specs.declared.view.View.{View}
-use Rattle.turn_lock.specs.Lists.{StartsWith}
-use Rattle.execution_session.specs.Fires.{is_lodged}
-use Rattle.link_worker.specs.Looks.{Asking, EndsAs, LastIs, Waits, has_lodged, is_ask}
+use Rattle.link_worker.specs.Looks.{LastIs, Waits}
 use Rattle.link_worker.specs.Works.{OneJobAtMost}
-use Rattle.link_worker.specs.declared.looking.LookEnd.{LookEnd}
 use Rattle.link_worker.proofs.Knowing.{Between}
 
 -- Lists

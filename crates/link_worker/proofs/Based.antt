@@ -1,5 +1,5 @@
 -- Where a unit is that has a base.
-use Rattle.std.proofs.Common.{◌≡◌, ℕ, ◌+◌, ◌<◌, ◌≤◌, ◌^◌, ◌==◌, Bool, true, false, List, [], length, slice_get, ◌⊎◌, inl, inr, refl, sym, ap, subst, ◌∙◌, arith, Option, Some, None, is_some, unwrap_or, option_map, option_and_then}
+use Rattle.std.proofs.Common.{◌≡◌, ℕ, ◌<◌, ◌^◌, ◌==◌, true, false, List, [], length, slice_get, ◌⊎◌, inl, inr, refl, ap, subst, ◌∙◌, arith, Option, Some, None, is_some, unwrap_or, option_map, option_and_then}
 use Rattle.std.specs.Bool.{if◌then◌else◌}
 use Rattle.std.proofs.lemmas.Bool.{both_ways, cases_Bool}
 use Rattle.std.proofs.lemmas.Option.{none-some}
@@ -7,13 +7,11 @@ use Rattle.orc_ids.specs.declared.place.Shape.{Shape}
 use Rattle.session_model.specs.Change.{changed, settled, new_unit, resolved_unit, target_address}
 use Rattle.session_model.specs.History.{IsLegal}
 use Rattle.session_model.specs.Meaning.{Meaning}
-use Rattle.session_model.specs.Plain.{Plain, UnitRow, is_alias, unit_shape, placement}
+use Rattle.session_model.specs.Plain.{Plain, UnitRow, is_alias, unit_shape}
 use Rattle.session_model.specs.State.{state}
 use Rattle.session_model.specs.declared.entry.Entry.{Entry}
-use Rattle.session_model.specs.declared.rows.Range.{Range}
 use Rattle.session_model.specs.declared.rows.Verdict.{Verdict}
 use Rattle.session_laws.specs.Placements.{AreApart}
-use Rattle.orc_ids.specs.declared.limits.TheConstants.{CODE_START, CODE_END}
 use Rattle.session_laws.proofs.Ranges.{placements_lie_apart}
 use Rattle.session_laws.proofs.Moving.{Moves, Stays, Loses, Claims, Starts, Finishes, Places, Resolves, Waits, Links, Emits, Fails, Goes, Changes, Leaves, Runs, Here, On, UnitsMove, change_moves, settled_run, Doing, Other, doing_of}
 use Rattle.closure_laws.proofs.Histories.{kept_by_changes}

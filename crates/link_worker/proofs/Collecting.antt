@@ -1,5 +1,5 @@
 -- A collect of a lookup's query: its end, or that it is still open.
-use Rattle.std.proofs.Common.{◌≡◌, ℕ, ◌+◌, ◌≤◌, nat_lt, Bool, true, false, List, [], ◌∷◌, ◌++◌, length, take, slice_get, inl, inr, append-nil, length-append, refl, sym, ap, subst, ◌∙◌, le_refl, arith, Option, Some, None, Result, Ok, Err}
+use Rattle.std.proofs.Common.{◌≡◌, ℕ, ◌+◌, ◌≤◌, nat_lt, true, List, [], ◌∷◌, ◌++◌, length, take, slice_get, inl, append-nil, length-append, refl, sym, ap, subst, ◌∙◌, arith, Option, Some, None, Result, Ok, Err}
 use Rattle.std.proofs.lemmas.Bool.{ltb-true}
 use Rattle.std.proofs.lemmas.List.{take-append-le}
 use Rattle.std.proofs.lemmas.List.Elements.{All-nil}
@@ -11,8 +11,8 @@ use Rattle.orc_ids.specs.declared.lookup.Stop.TheVariants as stop
 use Rattle.session_model.specs.Calls.{IsStopped, Works}
 use Rattle.session_model.specs.Meaning.{Meaning}
 use Rattle.session_model.specs.Plain.{Plain, empty, kept}
-use Rattle.session_model.specs.History.{HasPlaces, IsLegal, is_full}
-use Rattle.session_model.specs.State.{IsOpen, plain_entry, plain_event, plain_history, state}
+use Rattle.session_model.specs.History.{HasPlaces, IsLegal}
+use Rattle.session_model.specs.State.{IsOpen, plain_entry, plain_history, state}
 use Rattle.session_model.specs.declared.entry.Entry.{Entry}
 use Rattle.session_model.specs.declared.entry.Event.{Event}
 use Rattle.session_model.specs.declared.entry.Event.TheVariants as event
@@ -27,7 +27,7 @@ use Rattle.notifiers.specs.declared.notice.Notice.{Notice}
 use Rattle.note_laws.proofs.Unlodged.{unstirred}
 use Rattle.turn_lock.specs.declared.view.View.{View}
 use Rattle.turn_lock.specs.Lists.{StartsWith}
-use Rattle.execution_session.specs.Performs.{Collects, Performs, state_of}
+use Rattle.execution_session.specs.Performs.{Collects, state_of}
 use Rattle.shared_session.specs.Does.{seat}
 use Rattle.seat_calls.specs.Did.{Did, Nothing, Single}
 use Rattle.seat_calls.proofs.Doing.{nothing_is_done}
@@ -35,14 +35,13 @@ use Rattle.seat_calls.proofs.Numbers.{plain_starts, taken_start}
 use Rattle.link_worker.specs.Does.{Does}
 use Rattle.link_worker.specs.Jobs.{IsCause, LacksPlaces}
 use Rattle.link_worker.specs.Looks.{EndsAs, HasAwaited, IsLodgedBy, Waits, end_in, end_stopped}
-use Rattle.link_worker.specs.Works.{HasWorked, IsFree, OneJob, OneJobAtMost, WasStopped}
+use Rattle.link_worker.specs.Works.{IsFree, OneJob, OneJobAtMost}
 use Rattle.link_worker.specs.declared.looking.LookEnd.{LookEnd}
 use Rattle.link_worker.specs.declared.looking.LookEnd.TheVariants as end
-use Rattle.link_worker.specs.declared.work.Worked.TheVariants as worked
 use Rattle.link_worker.proofs.Awaiting.{OpenAt, StillWaits, seen_count, there_on, waits_cut, waits_end, waits_idle, waits_on, waits_still, waits_stopped}
 use Rattle.link_worker.proofs.Freeing.{collect_untaken, free_after}
 use Rattle.link_worker.proofs.Knowing.{Between, does_known}
-use Rattle.link_worker.proofs.Telling.{does_both, does_less, does_none, does_one, told_none}
+use Rattle.link_worker.proofs.Telling.{does_both, does_less, does_none, does_one, places_nothing, told_none}
 use Rattle.link_worker.proofs.Turning.{TurnOf, found, legal_after, no_call, one_call, seen_is}
 use Rattle.link_worker.proofs.Working.{still_free, stopped_now, stopped_since}
 
@@ -76,7 +75,7 @@ module _ {U N : Type 0} (means : U → Meaning) (hears : N → Option Outcome) (
     -- the one call that took the end
     one : (r : Reply) (does : List (Entry U) → List (Entry U) → Type 0) (t : TurnOf means jmax x y does) → t.new ≡ t.old ++ collected r ∷ [] → Does means hears x y b b (Single (plain_history means t.old) (plain_entry means (collected r)))
     one r does t grown = does_one means hears x y (plain_history means t.old) (plain_entry means (collected r)) b b [] (sym (append-nil b)) (All-nil (λ m. hears m.what ≡ Some m.outcome))
-        (told_none jmax (plain_history means t.old) (plain_entry means (collected r)) (legal_after means jmax x y does t (collected r) grown) (unstirred (state (plain_history means t.old)) x.number (event.Collect q) r refl))
+        (told_none jmax (plain_history means t.old) (plain_entry means (collected r)) (legal_after means jmax x y does t (collected r) grown) (unstirred (state (plain_history means t.old)) x.number (event.Collect q) r refl)) (places_nothing (state (plain_history means t.old)) (event.Collect q) r refl)
         (Single (plain_history means t.old) (plain_entry means (collected r))) (λ h cs s. s) (one_call means jmax x y does t (collected r) refl grown)
 
     -- what the pass has done at the end of the query

@@ -1,7 +1,6 @@
 -- A pass that collects, asks or uses a generator is given no unit.
-use Rattle.std.proofs.Common.{◌≡◌, ℕ, true, false, List, [], ◌∷◌, ◌++◌, refl, sym, subst, Result, Ok, Err}
+use Rattle.std.proofs.Common.{◌≡◌, ℕ, true, false, List, [], ◌∷◌, ◌++◌, refl, sym, subst, Ok, Err}
 use Rattle.std.proofs.lemmas.Bool.{both_ways}
-use Rattle.orc_ids.specs.declared.lookup.Stop.{Stop}
 use Rattle.orc_ids.specs.declared.lookup.Stop.TheVariants as stop
 use Rattle.orc_ids.specs.declared.ids.GenId.{GenId}
 use Rattle.orc_ids.specs.declared.ids.QueryId.{QueryId}
@@ -28,7 +27,7 @@ use Rattle.materialization.proofs.Leaving.{others_leave_has}
 use Rattle.materialization.proofs.Seats.{after_has, none_kept}
 use Rattle.link_worker.specs.Laws.{FreeStays, is_take}
 use Rattle.link_worker.specs.Works.{IsFree}
-use Rattle.link_worker.proofs.Turning.{Found, TurnOf, found, legal_after, number_is, seen_plain}
+use Rattle.link_worker.proofs.Turning.{TurnOf, found, legal_after, number_is, seen_plain}
 use Rattle.link_worker.proofs.Working.{still_free}
 
 pub collect_untaken : (m : Plain) (s : ℕ) (q : QueryId) (r : Reply) → NoTake s (change_of m s (event.Collect q) r)

@@ -1,5 +1,5 @@
 -- What is known of a history that begins with what a pass has seen, and of the numbers of the pass's calls.
-use Rattle.std.proofs.Common.{◌≡◌, ℕ, ◌+◌, ◌<◌, ◌≤◌, Bool, true, false, cond, eqb, List, [], ◌∷◌, ◌++◌, length, refl, sym, ap, subst, ◌∙◌, arith, Option, All}
+use Rattle.std.proofs.Common.{◌≡◌, ℕ, ◌+◌, ◌<◌, ◌≤◌, Bool, true, false, cond, eqb, List, [], ◌∷◌, length, sym, ap, subst, ◌∙◌, arith, Option, All}
 use Rattle.std.proofs.lemmas.List.{append_cancel_left, length-append, map-append}
 use Rattle.std.proofs.lemmas.List.Elements.{All-cons, All-nil}
 use Rattle.orc_ids.specs.declared.lookup.Outcome.{Outcome}
@@ -12,7 +12,7 @@ use Rattle.turn_lock.specs.declared.view.View.{View}
 use Rattle.turn_lock.specs.Lists.{StartsWith}
 use Rattle.seat_calls.specs.Did.{Did, Promise, calls_in}
 use Rattle.seat_calls.proofs.Numbers.{numbered_append}
-use Rattle.link_worker.specs.Does.{Does, ToldAt}
+use Rattle.link_worker.specs.Does.{Does, PlacesLowest, ToldAt}
 
 -- the numbers of calls lie after one number, and not after another
 abbrev pub Between : ℕ → ℕ → List (ℕ × Entry Meaning) → Type 0
@@ -55,6 +55,6 @@ module _ {U N : Type 0} (means : U → Meaning) (hears : N → Option Outcome) (
       later = d.did.later;
       made = d.did.made;
       calls = d.did.calls;
-      holds = λ h starts. let p = d.did.holds h starts in ((p.0, known h starts, made_between means v w (λ h cs. P h cs × ToldAt h cs d.told) d.did), p.1);
+      holds = λ h starts. let p = d.did.holds h starts in ((p.0, known h starts, made_between means v w (λ h cs. P h cs × ToldAt h cs d.told × PlacesLowest h cs) d.did), p.1, p.2);
     };
   }

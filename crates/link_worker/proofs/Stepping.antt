@@ -1,9 +1,9 @@
 -- A call of a job's stage brings its pass to the next stage.
-use Rattle.std.proofs.Common.{◌≡◌, ℕ, ℤ, ◌+◌, Bool, true, false, inl, inr, append-nil, List, [], ◌∷◌, ◌++◌, length, map, append_assoc, refl, sym, ap, subst, ◌∙◌, arith, Option, Some, None, Result, Ok, Err, All}
-use Rattle.std.specs.Prelude.{IfOk, IfErr}
+use Rattle.std.proofs.Common.{◌≡◌, ℕ, ℤ, ◌+◌, true, false, inl, append-nil, List, [], ◌∷◌, ◌++◌, length, refl, sym, ap, subst, ◌∙◌, arith, Option, Some, None, Result, Ok, Err}
+use Rattle.std.specs.Prelude.{IfOk}
 use Rattle.std.proofs.lemmas.Bool.{both_ways, ltb-true}
 use Rattle.std.proofs.lemmas.List.{map-append}
-use Rattle.std.proofs.lemmas.List.Elements.{All-append, All-cons, All-nil}
+use Rattle.std.proofs.lemmas.List.Elements.{All-cons, All-nil}
 use Rattle.orc_ids.specs.declared.ids.UnitId.{UnitId}
 use Rattle.orc_ids.specs.declared.lookup.Outcome.{Outcome}
 use Rattle.orc_ids.specs.declared.lookup.Stop.{Stop}
@@ -11,7 +11,6 @@ use Rattle.orc_ids.specs.declared.lookup.Stop.TheVariants as stop
 use Rattle.session_model.specs.Meaning.{Meaning, Refusal}
 use Rattle.session_model.specs.Plain.{kept}
 use Rattle.session_model.specs.State.{plain_entry, plain_event, plain_history, state}
-use Rattle.session_model.specs.Change.{change_of}
 use Rattle.session_model.specs.History.{IsLegal, HasPlaces, is_full, places}
 use Rattle.session_model.specs.declared.entry.Entry.{Entry}
 use Rattle.session_model.specs.declared.entry.Event.{Event}
@@ -25,12 +24,12 @@ use Rattle.session_laws.proofs.Placing.{kept_within}
 use Rattle.notifiers.specs.Notices.{AreHeard, Told, outcomes}
 use Rattle.notifiers.specs.declared.notice.Notice.{Notice}
 use Rattle.note_laws.specs.Notes.{AreTold}
-use Rattle.note_laws.specs.Laws.{TellsBy, may_settle}
+use Rattle.note_laws.specs.Laws.{may_settle}
 use Rattle.note_laws.proofs.Unlodged.{unstirred}
 use Rattle.turn_lock.specs.declared.view.View.{View}
-use Rattle.execution_session.specs.Performs.{Performs, IsStopped, IsFullAt, state_of}
+use Rattle.execution_session.specs.Handed.{IsLowest}
+use Rattle.execution_session.specs.Performs.{Performs, IsStopped, state_of}
 use Rattle.shared_session.specs.Does.{seat, HolderIsAnswered, Tells, TellsAlways}
-use Rattle.shared_session.specs.Home.{seat_of}
 use Rattle.materialization.specs.Laws.{HasReason, IsLeft, GoesOn, may_stop}
 use Rattle.materialization.specs.Rest.{IsCall, Has, Rest}
 use Rattle.materialization.specs.Stages.{next, stopped}
@@ -40,16 +39,16 @@ use Rattle.materialization.proofs.Going.{job_goes_on}
 use Rattle.materialization.proofs.Leaving.{others_leave_a_job}
 use Rattle.materialization.proofs.Stopping.{may_give_up, refused_edge_fails, stop_cuts_job, stopped_job_fails, full_is_cause, one_place}
 use Rattle.orc_ids.specs.declared.place.Place.{Place}
-use Rattle.seat_calls.specs.Did.{Did, Nothing, Single}
+use Rattle.orc_ids.specs.declared.place.Shape.{Shape}
+use Rattle.seat_calls.specs.Did.{Single}
 use Rattle.seat_calls.proofs.Doing.{nothing_is_done}
-use Rattle.link_worker.specs.Does.{Does}
-use Rattle.link_worker.specs.Jobs.{IsCause, IsJobAt, Knows, Leads, LacksPlaces, SpareAll, Steps, after, is_memory_fail, next_by, wants_memory}
+use Rattle.link_worker.specs.Jobs.{IsCause, IsJobAt, Knows, Leads, LacksPlaces, Steps, is_memory_fail, next_by, wants_memory}
 use Rattle.link_worker.specs.Units.{Refuses, own_refusal, unfinished}
 use Rattle.link_worker.specs.declared.unit.FinishError.{FinishError}
 use Rattle.link_worker.specs.declared.unit.FinishError.TheVariants as finish
 use Rattle.link_worker.specs.declared.job.Job.{Job}
-use Rattle.link_worker.proofs.Telling.{does_none, does_one, told_by, told_none}
-use Rattle.link_worker.proofs.Turning.{Found, TurnOf, found, seen_is, number_is, lawful_is, one_call, no_call, legal_after, seen_plain}
+use Rattle.link_worker.proofs.Telling.{IsPlacedLowest, does_none, does_one, is_placing, places_nothing, places_there, told_by, told_none}
+use Rattle.link_worker.proofs.Turning.{Found, TurnOf, found, seen_is, number_is, one_call, no_call, legal_after, seen_plain}
 
 -- Which calls fail for want of memory
 
@@ -196,11 +195,11 @@ module _ {U N : Type 0} (means : U → Meaning) (hears : N → Option Outcome) (
   answered : (does : List (Entry U) → List (Entry U) → Type 0) (t : TurnOf means jmax v w does) (e : Event U) (r : Reply) → t.new ≡ t.old ++ entry_of e r ∷ [] → IsCall job.unit at (plain_event means e) →
       (at ≡ stage.Emit → own_refusal means job ≡ None) → Knows means jmax w.seen w.number job (next at r) →
       (from to told : List (Notice N)) → to ≡ from ++ told → AreHeard hears told → AreTold (plain_history means t.old ++ plain_entry means (entry_of e r) ∷ []) told →
-      Steps means hears jmax v w from to job at (Ok (next at r))
-  answered does t e r grown call none knows from to told added heard_it at_it =
+      IsPlacedLowest (state_of means t.old) (plain_event means e) r → Steps means hears jmax v w from to job at (Ok (next at r))
+  answered does t e r grown call none knows from to told added heard_it at_it lowest =
       let m = moved means jmax v w job.unit at does t e r grown call (has.has, has.reason) in
       record {
-        does = does_one means hears v w (plain_history means t.old) (plain_entry means (entry_of e r)) from to told added heard_it at_it (Leads job.unit (own_refusal means job) at (next at r))
+        does = does_one means hears v w (plain_history means t.old) (plain_entry means (entry_of e r)) from to told added heard_it at_it lowest (Leads job.unit (own_refusal means job) at (next at r))
             (leads_one means jmax v w job.unit at (plain_history means t.old) e r (own_refusal means job) call m none) (one_call means jmax v w does t (entry_of e r) refl grown);
         job_at = record { has = m.has.0; reason = m.has.1; knows = knows };
         spares = next_spares at r;
@@ -231,28 +230,58 @@ module _ {U N : Type 0} (means : U → Meaning) (hears : N → Option Outcome) (
   KnowsNext (Ok r) = Knows means jmax w.seen w.number job (next at r)
   KnowsNext (Err st) = Unit {0}
 
+  -- what an answered call of an event places is at the lowest base
+  abbrev LowestIn : List (Entry U) → Event U → Result Reply Stop → Type 0
+  LowestIn old e (Ok r) = IsPlacedLowest (state_of means old) (plain_event means e) r
+  LowestIn old e (Err st) = Unit {0}
+
+  none_in : (old : List (Entry U)) (e : Event U) → is_placing (plain_event means e) ≡ false → (answer : Result Reply Stop) → LowestIn old e answer
+  none_in old e unplaced (Ok r) = places_nothing (state_of means old) (plain_event means e) r unplaced
+  none_in old e unplaced (Err st) = tt
+
+  lowest_in : (old : List (Entry U)) (u : UnitId) (shape : Shape) (answer : Result Reply Stop) → IfOk answer (λ r. IsLowest (state_of means old) shape r) → LowestIn old (event.Place u shape) answer
+  lowest_in old u shape (Ok r) lowest = places_there (state_of means old) u shape r lowest
+  lowest_in old u shape (Err st) lowest = tt
+
+  -- what is to be known of a call that tells nobody
+  record IsQuiet (e : Event U) (answer : Result Reply Stop) : Type 0 where
+    call : IsCall job.unit at (plain_event means e)
+    may : may_stop at ≡ true
+    quiet : may_settle (plain_event means e) ≡ false
+    unrefused : at ≡ stage.Emit → own_refusal means job ≡ None
+    knows : KnowsNext answer
+
   -- a call that tells nobody
-  pub steps_quietly : (e : Event U) (answer : Result Reply Stop) → TurnOf means jmax v w (λ old new. Performs means jmax old new (seat v.number) e answer) → IsCall job.unit at (plain_event means e) → may_stop at ≡ true → may_settle (plain_event means e) ≡ false →
+  quietly : (does : List (Entry U) → List (Entry U) → Type 0) (t : TurnOf means jmax v w does) (e : Event U) (answer : Result Reply Stop) → Performs means jmax t.old t.new (seat v.number) e answer → LowestIn t.old e answer → IsQuiet e answer →
+      (from : List (Notice N)) → Steps means hears jmax v w from from job at (next_by at answer)
+  quietly does t e (Ok r) performs lowest q from = answered does t e r performs.grown q.call q.unrefused q.knows from from [] (sym (append-nil from)) (All-nil (λ n. hears n.what ≡ Some n.outcome))
+      (told_none jmax (plain_history means t.old) (plain_entry means (entry_of e r)) (legal_after means jmax v w does t (entry_of e r) performs.grown)
+      (unstirred (state (plain_history means t.old)) v.number (plain_event means e) r q.quiet)) lowest
+  quietly does t e (Err st) performs lowest q from = stopped_steps does t e st performs q.call q.may from
+
+  pub steps_quietly : (e : Event U) (answer : Result Reply Stop) → TurnOf means jmax v w (λ old new. Performs means jmax old new (seat v.number) e answer) → IsCall job.unit at (plain_event means e) → is_placing (plain_event means e) ≡ false → may_stop at ≡ true → may_settle (plain_event means e) ≡ false →
       (at ≡ stage.Emit → own_refusal means job ≡ None) → KnowsNext answer → (from : List (Notice N)) → Steps means hears jmax v w from from job at (next_by at answer)
-  steps_quietly e (Ok r) t call may quiet none knows from = answered _ t e r t.did.grown call none knows from from [] (sym (append-nil from)) (All-nil (λ n. hears n.what ≡ Some n.outcome))
-      (told_none jmax (plain_history means t.old) (plain_entry means (entry_of e r)) (legal_after means jmax v w _ t (entry_of e r) t.did.grown)
-      (unstirred (state (plain_history means t.old)) v.number (plain_event means e) r quiet))
-  steps_quietly e (Err st) t call may quiet none knows from = stopped_steps _ t e st t.did call may from
+  steps_quietly e answer t call unplaced may quiet none knows from = quietly _ t e answer t.did (none_in t.old e unplaced answer) (record { call = call; may = may; quiet = quiet; unrefused = none; knows = knows }) from
+
+  -- a place, at the lowest base that was free
+  pub steps_placing : (u : UnitId) (shape : Shape) (answer : Result Reply Stop) → TurnOf means jmax v w (λ old new. Performs means jmax old new (seat v.number) (event.Place u shape) answer × IfOk answer (λ r. IsLowest (state_of means old) shape r)) →
+      IsCall job.unit at (event.Place u shape) → may_stop at ≡ true → (at ≡ stage.Emit → own_refusal means job ≡ None) → KnowsNext answer → (from : List (Notice N)) → Steps means hears jmax v w from from job at (next_by at answer)
+  steps_placing u shape answer t call may none knows from = quietly _ t (event.Place u shape) answer t.did.0 (lowest_in t.old u shape answer t.did.1) (record { call = call; may = may; quiet = refl; unrefused = none; knows = knows }) from
 
   -- a call that tells the notes of what it settles
   pub steps_told : (e : Event U) (answer : Result Reply Stop) (fires from to : List (Notice N)) → TurnOf means jmax v w (λ old new. Tells means jmax v.number old new e answer fires) → Told hears fires from to →
-      IsCall job.unit at (plain_event means e) → may_stop at ≡ true → (at ≡ stage.Emit → own_refusal means job ≡ None) → KnowsNext answer → Steps means hears jmax v w from to job at (next_by at answer)
-  steps_told e (Ok r) fires from to t told call may none knows = answered _ t e r t.did.performs.grown call none knows from to told.told told.added told.heard_it
+      IsCall job.unit at (plain_event means e) → is_placing (plain_event means e) ≡ false → may_stop at ≡ true → (at ≡ stage.Emit → own_refusal means job ≡ None) → KnowsNext answer → Steps means hears jmax v w from to job at (next_by at answer)
+  steps_told e (Ok r) fires from to t told call unplaced may none knows = answered _ t e r t.did.performs.grown call none knows from to told.told told.added told.heard_it
       (told_by hears (plain_history means t.old ++ plain_entry means (entry_of e r) ∷ []) fires from to
-      (subst (λ l. AreTold l fires) (ap (plain_history means) t.did.performs.grown ∙ map-append (plain_entry means) t.old (entry_of e r ∷ [])) t.did.tells) told)
-  steps_told e (Err st) fires from to t told call may none knows = subst (λ l. Steps means hears jmax v w from l job at (Err st)) (sym (no_notices hears fires from to t.did.tells told)) (stopped_steps _ t e st t.did.performs call may from)
+      (subst (λ l. AreTold l fires) (ap (plain_history means) t.did.performs.grown ∙ map-append (plain_entry means) t.old (entry_of e r ∷ [])) t.did.tells) told) (places_nothing (state_of means t.old) (plain_event means e) r unplaced)
+  steps_told e (Err st) fires from to t told call unplaced may none knows = subst (λ l. Steps means hears jmax v w from l job at (Err st)) (sym (no_notices hears fires from to t.did.tells told)) (stopped_steps _ t e st t.did.performs call may from)
 
   -- a fail, which is never stopped
   pub fails : (cause : Why) (e : Event U) (r : Reply) (fires from to : List (Notice N)) → at ≡ stage.Fail cause → TurnOf means jmax v w (λ old new. Tells means jmax v.number old new e (Ok r) fires) → Told hears fires from to →
-      IsCall job.unit at (plain_event means e) → Steps means hears jmax v w from to job at (Ok (next at r))
-  fails cause e r fires from to is t told call = answered _ t e r t.did.performs.grown call (λ emits. absurd (both_ways true (ap may_stop (sym emits ∙ is)) refl)) (subst (λ a. Knows means jmax w.seen w.number job (next a r)) (sym is) tt) from to told.told told.added told.heard_it
+      IsCall job.unit at (plain_event means e) → is_placing (plain_event means e) ≡ false → Steps means hears jmax v w from to job at (Ok (next at r))
+  fails cause e r fires from to is t told call unplaced = answered _ t e r t.did.performs.grown call (λ emits. absurd (both_ways true (ap may_stop (sym emits ∙ is)) refl)) (subst (λ a. Knows means jmax w.seen w.number job (next a r)) (sym is) tt) from to told.told told.added told.heard_it
       (told_by hears (plain_history means t.old ++ plain_entry means (entry_of e r) ∷ []) fires from to
-      (subst (λ l. AreTold l fires) (ap (plain_history means) t.did.performs.grown ∙ map-append (plain_entry means) t.old (entry_of e r ∷ [])) t.did.tells) told)
+      (subst (λ l. AreTold l fires) (ap (plain_history means) t.did.performs.grown ∙ map-append (plain_entry means) t.old (entry_of e r ∷ [])) t.did.tells) told) (places_nothing (state_of means t.old) (plain_event means e) r unplaced)
 
   -- what the next stage of any other one has to know
   pub knows_next : (answer : Result Reply Stop) → (at ≡ stage.ResolveAlias → ⊥) → KnowsNext answer
@@ -263,7 +292,7 @@ module _ {U N : Type 0} (means : U → Meaning) (hears : N → Option Outcome) (
   pub fail_steps : (cause : Why) (answer : Result Reply Stop) (fires from to : List (Notice N)) → at ≡ stage.Fail cause → TurnOf means jmax v w (λ old new. TellsAlways means jmax v.number old new (event.Fail job.unit cause) answer fires × HolderIsAnswered means jmax v.number old new job.unit answer) → Told hears fires from to →
       Steps means hears jmax v w from to job at (Ok stage.Over)
   fail_steps cause (Ok r) fires from to is t told = subst (λ a. Steps means hears jmax v w from to job at (Ok a)) (ap (λ a. next a r) is)
-      (fails cause (event.Fail job.unit cause) r fires from to is (record { old = t.old; new = t.new; passed = t.passed; did = t.did.0.tells }) told (subst (λ a. IsCall job.unit a (event.Fail job.unit cause)) (sym is) refl))
+      (fails cause (event.Fail job.unit cause) r fires from to is (record { old = t.old; new = t.new; passed = t.passed; did = t.did.0.tells }) told (subst (λ a. IsCall job.unit a (event.Fail job.unit cause)) (sym is) refl) refl)
   fail_steps cause (Err st) fires from to is t told =
       let here = subst (Has (state (plain_history means t.old)) v.number job.unit.0) is (left means jmax v w job.unit at t.old (found means jmax v w _ t) (has.has, has.reason)).0 in
       absurd (both_ways false refl (t.did.1 here.0.unit here.0.there here.0.seat))
@@ -314,10 +343,6 @@ module _ {U N : Type 0} (means : U → Meaning) (hears : N → Option Outcome) (
   pub unfinished_steps : IsJobAt means jmax v job stage.Emit → (e : FinishError) → Refuses e (own_refusal means job) → (from : List (Notice N)) → Steps means hears jmax v v from from job stage.Emit (unfinished e)
   unfinished_steps has (finish.Refused place kind value) is from = refused_steps has place kind value is from
   unfinished_steps has finish.NoMemory is from = unmade_steps has from
-
--- a turn in which two things were done
-pub first_of_both : {U : Type 0} (means : U → Meaning) (jmax : ℕ) (v w : View (Entry U)) (P Q : List (Entry U) → List (Entry U) → Type 0) → TurnOf means jmax v w (λ old new. P old new × Q old new) → TurnOf means jmax v w P
-first_of_both means jmax v w P Q t = record { old = t.old; new = t.new; passed = t.passed; did = t.did.0 }
 
 -- a turn that told, and never wanted memory
 pub always_tells : {U N : Type 0} (means : U → Meaning) (jmax : ℕ) (v w : View (Entry U)) (e : Event U) (answer : Result Reply Stop) (fires : List (Notice N)) → TurnOf means jmax v w (λ old new. TellsAlways means jmax v.number old new e answer fires) →

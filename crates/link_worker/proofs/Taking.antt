@@ -1,10 +1,8 @@
 -- A take that hands out a job brings the pass to the job's first stage.
-use Rattle.std.proofs.Common.{◌≡◌, ℕ, ◌+◌, ◌<◌, ◌^◌, Bool, true, false, List, [], ◌∷◌, ◌++◌, length, map, take, slice_get, inl, inr, append-nil, refl, sym, ap, subst, ◌∙◌, Option, Some, None, is_some, unwrap_or, Result, Ok, Err, All}
+use Rattle.std.proofs.Common.{◌≡◌, ℕ, ◌+◌, ◌<◌, ◌^◌, Bool, true, false, List, [], ◌∷◌, ◌++◌, length, map, slice_get, append-nil, refl, sym, ap, subst, ◌∙◌, Option, Some, None, is_some, unwrap_or}
 use Rattle.std.specs.Bool.{if◌then◌else◌}
 use Rattle.std.specs.Option.{option_map_or}
-use Rattle.std.proofs.lemmas.Bool.{both_ways, cases_Bool}
 use Rattle.std.proofs.lemmas.Option.{none-some, same_Some}
-use Rattle.std.proofs.lemmas.List.{map-append}
 use Rattle.std.proofs.lemmas.List.Elements.{All-cons, All-nil}
 use Rattle.orc_ids.specs.declared.ids.UnitId.{UnitId}
 use Rattle.orc_ids.specs.declared.lookup.Outcome.{Outcome}
@@ -12,9 +10,8 @@ use Rattle.orc_ids.specs.declared.place.Shape.{Shape}
 use Rattle.session_model.specs.Meaning.{Meaning, Bindings, Refusal, FitsUnit, IsLawful}
 use Rattle.session_model.specs.Plain.{Plain, UnitRow, is_alias, is_defunct, own_rows, unit_shape}
 use Rattle.session_model.specs.State.{plain_entry, plain_history, state}
-use Rattle.session_model.specs.Answer.{AnswersTake, called, can_emit, Right, is_stage}
-use Rattle.session_model.specs.Calls.{AfterTake, IsJob, refusal_of, unit_test}
-use Rattle.session_model.specs.Change.{bindings_of}
+use Rattle.session_model.specs.Answer.{is_stage}
+use Rattle.session_model.specs.Calls.{AfterTake, refusal_of}
 use Rattle.session_model.specs.History.{IsLegal}
 use Rattle.session_model.specs.declared.entry.Entry.{Entry}
 use Rattle.session_model.specs.declared.entry.Event.TheVariants as event
@@ -22,15 +19,13 @@ use Rattle.session_model.specs.declared.entry.Finishing.TheVariants as finishing
 use Rattle.session_model.specs.declared.entry.Reply.{Reply}
 use Rattle.session_model.specs.declared.entry.Reply.TheVariants as reply
 use Rattle.session_model.specs.declared.entry.Why.TheVariants as why
-use Rattle.session_model.specs.declared.rows.Job.{Job as ListedJob}
 use Rattle.session_model.specs.declared.rows.UnitPhase.TheVariants as phase
 use Rattle.session_laws.proofs.Elements.{same_element}
 use Rattle.closure_laws.proofs.Histories.{OneMore, one_more}
 use Rattle.closure_laws.proofs.OwnRows.{units_fit}
-use Rattle.execution_session.specs.Finish.{IsFinish}
 use Rattle.execution_session.specs.Gives.{MayFail}
-use Rattle.execution_session.specs.Performs.{Performs, Enters, state_of}
-use Rattle.execution_session.specs.Taken.{IsUnitOf, BindsUnit}
+use Rattle.execution_session.specs.Performs.{state_of}
+use Rattle.execution_session.specs.Taken.{IsUnitOf}
 use Rattle.execution_session.specs.declared.jobs.TakenUnit.{TakenUnit}
 use Rattle.execution_session.proofs.HeldCalls.{finishes_itself}
 use Rattle.holder_laws.proofs.Calling.{right_parts}
@@ -43,7 +38,7 @@ use Rattle.materialization.specs.declared.stage.Stage.{Stage}
 use Rattle.materialization.specs.declared.stage.Stage.TheVariants as stage
 use Rattle.materialization.proofs.Beginning.{IsFinishing, finishing_after, job_begins}
 use Rattle.materialization.proofs.Leaving.{others_leave_has}
-use Rattle.link_worker.specs.Jobs.{IsHandedOut, IsJobAt, IsBoundTo, Knows, MayFinish, MayResolve, SpareAll, bound_in, is_memory_fail, unit_in, wants_memory}
+use Rattle.link_worker.specs.Jobs.{IsHandedOut, IsJobAt, IsBoundTo, Knows, bound_in, is_memory_fail, unit_in, wants_memory}
 use Rattle.link_worker.specs.Units.{own_refusal}
 use Rattle.link_worker.specs.Does.{Does}
 use Rattle.link_worker.specs.Works.{HasFirst, IsFree, Opens}
@@ -52,8 +47,8 @@ use Rattle.notifiers.specs.declared.notice.Notice.{Notice}
 use Rattle.note_laws.proofs.Unlodged.{unstirred}
 use Rattle.seat_calls.specs.Did.{Single}
 use Rattle.link_worker.proofs.Based.{low_base}
-use Rattle.link_worker.proofs.Telling.{does_one, told_none}
-use Rattle.link_worker.proofs.Turning.{Found, TurnOf, found, legal_after, number_is, one_call, seen_plain}
+use Rattle.link_worker.proofs.Telling.{does_one, places_nothing, told_none}
+use Rattle.link_worker.proofs.Turning.{TurnOf, found, legal_after, number_is, one_call, seen_plain}
 
 -- Stages
 
@@ -278,4 +273,4 @@ module _ {U : Type 0} (means : U → Meaning) (jmax : ℕ) (v w : View (Entry U)
     pub does_open : {N : Type 0} (hears : N → Option Outcome) (u : UnitId) (taken : TakenUnit U) → unit_in r ≡ Some u → IsUnitOf means (state_of means w.seen) u taken → (job : Job U) (at : Stage) → IsHandedOut means r taken job at →
         (from : List (Notice N)) → Does means hears v w from from (Opens job.unit (own_refusal means job) at)
     does_open hears u taken is its job at k from = does_one means hears v w before (plain_entry means take_entry) from from [] (sym (append-nil from)) (All-nil (λ n. hears n.what ≡ Some n.outcome))
-        (told_none jmax before (plain_entry means take_entry) legal (unstirred (state before) v.number event.Take r refl)) (Opens job.unit (own_refusal means job) at) (opens u taken is its job at k) (one_call means jmax v w does t take_entry refl grown)
+        (told_none jmax before (plain_entry means take_entry) legal (unstirred (state before) v.number event.Take r refl)) (places_nothing (state before) event.Take r refl) (Opens job.unit (own_refusal means job) at) (opens u taken is its job at k) (one_call means jmax v w does t take_entry refl grown)

@@ -1,8 +1,6 @@
 -- What a turn shows of the history that it found, and of the one that it left.
-use Rattle.std.proofs.Common.{◌≡◌, ℕ, List, [], ◌∷◌, ◌++◌, refl, sym, ap, subst, ◌∙◌, Result, Ok, Err}
+use Rattle.std.proofs.Common.{◌≡◌, ℕ, List, [], ◌∷◌, ◌++◌, refl, sym, ap, subst, ◌∙◌}
 use Rattle.std.proofs.lemmas.List.{map-append}
-use Rattle.orc_ids.specs.declared.lookup.Stop.{Stop}
-use Rattle.orc_ids.specs.declared.lookup.Stop.TheVariants.{JournalFull, NoMemory}
 use Rattle.session_model.specs.Meaning.{Meaning}
 use Rattle.session_model.specs.History.{IsLegal, HasPlaces}
 use Rattle.session_model.specs.State.{plain_entry, plain_history}
@@ -10,7 +8,7 @@ use Rattle.session_model.specs.declared.entry.Entry.{Entry}
 use Rattle.session_laws.specs.Holding.{AllOthers}
 use Rattle.turn_lock.specs.declared.view.View.{View}
 use Rattle.turn_lock.specs.Lists.{entries_of}
-use Rattle.turn_lock.specs.Passes.{Passed, Turned}
+use Rattle.turn_lock.specs.Passes.{Turned}
 use Rattle.turn_lock.proofs.Entries.{none_since}
 use Rattle.shared_session.specs.Carried.{joined, legal_joined, places_joined, all_others}
 use Rattle.shared_session.specs.Home.{IsLawful, IsPosted, seat_of}

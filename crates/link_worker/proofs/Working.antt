@@ -1,5 +1,5 @@
 -- What one job is, put together: its take, and what carries it to its end.
-use Rattle.std.proofs.Common.{◌≡◌, ℕ, ◌+◌, ◌≤◌, ◌⊎◌, Bool, true, false, List, [], ◌∷◌, ◌++◌, length, map, inl, inr, append-nil, append_assoc, refl, sym, ap, subst, ◌∙◌, arith, Option, Some, None, is_some, Result, Ok, Err, All}
+use Rattle.std.proofs.Common.{◌≡◌, ℕ, ◌+◌, ◌≤◌, ◌⊎◌, Bool, true, false, List, [], ◌∷◌, ◌++◌, map, inl, inr, append-nil, append_assoc, refl, sym, ap, subst, ◌∙◌, arith, Option, Some, None, is_some, Result, Ok, Err}
 use Rattle.std.specs.Prelude.{IfSome, is_none, nat_eq}
 use Rattle.std.proofs.lemmas.Bool.{both_ways, cases_Bool, eqb-true, eqb-false, ltb-true}
 use Rattle.std.proofs.lemmas.List.{map-append}
@@ -12,7 +12,7 @@ use Rattle.orc_ids.specs.declared.lookup.Stop.TheVariants as stop
 use Rattle.session_model.specs.Meaning.{Meaning, Refusal}
 use Rattle.session_model.specs.Plain.{Plain, kept}
 use Rattle.session_model.specs.Calls.{IsJob}
-use Rattle.session_model.specs.State.{plain_entry, plain_history, state}
+use Rattle.session_model.specs.State.{plain_history, state}
 use Rattle.session_model.specs.Answer.{AnswersTake}
 use Rattle.session_model.specs.History.{HasPlaces, IsLegal, is_full}
 use Rattle.session_model.specs.declared.entry.Entry.{Entry}
@@ -27,27 +27,27 @@ use Rattle.session_laws.proofs.Placing.{kept_within}
 use Rattle.notifiers.specs.declared.notice.Notice.{Notice}
 use Rattle.turn_lock.specs.declared.view.View.{View}
 use Rattle.turn_lock.specs.Lists.{StartsWith}
-use Rattle.execution_session.specs.Performs.{Performs, state_of}
-use Rattle.execution_session.specs.Taken.{GivesUnit, IsUnitOf}
+use Rattle.execution_session.specs.Performs.{state_of}
+use Rattle.execution_session.specs.Taken.{IsUnitOf}
 use Rattle.execution_session.specs.declared.jobs.TakenUnit.{TakenUnit}
-use Rattle.shared_session.specs.Does.{HandsOut, seat}
+use Rattle.shared_session.specs.Does.{HandsOut}
 use Rattle.materialization.specs.Rest.{HoldsNone, Rest}
 use Rattle.materialization.specs.Stages.{stopped}
 use Rattle.materialization.specs.declared.stage.Stage.{Stage}
 use Rattle.materialization.specs.declared.stage.Stage.TheVariants as stage
 use Rattle.materialization.proofs.Leaving.{others_leave_has}
-use Rattle.seat_calls.specs.Did.{Nothing, Promise}
+use Rattle.seat_calls.specs.Did.{Nothing}
 use Rattle.seat_calls.proofs.Doing.{nothing_is_done}
 use Rattle.seat_calls.proofs.Numbers.{starts_again}
 use Rattle.link_worker.specs.Does.{Does}
-use Rattle.link_worker.specs.Jobs.{IsCause, IsHandedOut, IsJobAt, LacksPlaces, Leads, SpareAll, Steps, is_memory_fail, unit_in, wants_memory}
+use Rattle.link_worker.specs.Jobs.{IsCause, LacksPlaces, Leads, SpareAll, Steps, is_memory_fail, unit_in, wants_memory}
 use Rattle.link_worker.specs.Units.{own_refusal}
 use Rattle.link_worker.specs.Works.{Carries, EndsJob, HasBegun, HasWorked, IsFree, Jobs, None', OneMore, OneJob, OneJobAtMost, Opens, WasStopped, WorksOn, worked_by, worked_stopped}
 use Rattle.link_worker.specs.declared.job.Job.{Job}
 use Rattle.link_worker.specs.declared.work.Worked.{Worked}
 use Rattle.link_worker.specs.declared.work.Worked.TheVariants.{Did, Idle, JournalFull, NoMemory}
 use Rattle.link_worker.proofs.Taking.{does_open, has_first}
-use Rattle.link_worker.proofs.Telling.{does_both, does_less, does_none}
+use Rattle.link_worker.proofs.Telling.{does_both, does_none}
 use Rattle.link_worker.proofs.Turning.{Found, TurnOf, found, seen_is, number_is, no_call}
 
 -- Lists of calls

@@ -1,4 +1,4 @@
-use Rattle.std.proofs.Common.{◌≡◌, arith, ap, refl, sym, subst, Ok, ◌∙◌}
+use Rattle.std.proofs.Common.{arith, ap, refl, sym, subst, Ok, ◌∙◌}
 use Rattle.session_model.specs.declared.entry.Reply.TheVariants as reply
 use Rattle.turn_lock.specs.Handles.{view}
 use Rattle.link_worker.specs.Looks.{HasLooked, lookup_of}

@@ -1,4 +1,4 @@
-use Rattle.std.proofs.Common.{◌≡◌, ℕ}
+use Rattle.std.proofs.Common.{◌≡◌}
 use Rattle.turn_lock.specs.Handles.{view, turn_id, IsReady}
 use Rattle.link_worker.specs.Does.{Does}
 use Rattle.link_worker.specs.Looks.{Asking, lookup_of}

@@ -1,4 +1,4 @@
-use Rattle.std.proofs.Common.{◌≡◌, Some, sym, subst}
+use Rattle.std.proofs.Common.{Some, sym, subst}
 use Rattle.turn_lock.specs.Handles.{view}
 use Rattle.link_worker.specs.Works.{WorksOn}
 use Rattle.link_worker.proofs.Working.{job_ended}

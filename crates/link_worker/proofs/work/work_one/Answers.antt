@@ -1,4 +1,4 @@
-use Rattle.std.proofs.Common.{◌≡◌, arith, sym, subst}
+use Rattle.std.proofs.Common.{arith, sym, subst}
 use Rattle.turn_lock.specs.Handles.{view}
 use Rattle.link_worker.specs.Works.{HasWorked}
 use Rattle.link_worker.proofs.Working.{TakeOf, begun, has_worked, take_stopped}

@@ -1,4 +1,4 @@
-use Rattle.std.proofs.Common.{◌≡◌, refl, sym, subst, eq-eqb}
+use Rattle.std.proofs.Common.{refl, sym, subst, eq-eqb}
 use Rattle.session_model.specs.declared.entry.Event.TheVariants as event
 use Rattle.turn_lock.specs.Handles.{view}
 use Rattle.materialization.specs.declared.stage.Stage.TheVariants as stage
@@ -18,5 +18,5 @@ returns-clause-steps g c =
     let new = c.fire_all.new.done in
     subst (Steps means g.N.Notify.heard g.row.JMAX v w old new c.args.self.now stage.Emit) (sym c.next_by.ensures)
     (steps_told means g.N.Notify.heard g.row.JMAX v w c.args.self.now stage.Emit c.requires.at (event.Emit c.args.self.now.unit c.args.made.groups) c.perform-answer.result.answer c.perform-answer.result.fires old new
-    c.perform-answer.ensures.turned c.fire_all.ensures (eq-eqb c.args.self.now.unit.0 c.args.self.now.unit.0 refl) refl (λ e. c.requires.made.allowed)
+    c.perform-answer.ensures.turned c.fire_all.ensures (eq-eqb c.args.self.now.unit.0 c.args.self.now.unit.0 refl) refl refl (λ e. c.requires.made.allowed)
     (knows_next means g.N.Notify.heard g.row.JMAX v w c.args.self.now stage.Emit c.requires.at c.perform-answer.result.answer (λ e. cc)))

@@ -1,4 +1,4 @@
-use Rattle.std.proofs.Common.{◌≡◌, refl, sym, subst, eq-eqb}
+use Rattle.std.proofs.Common.{refl}
 use Rattle.turn_lock.specs.Handles.{view}
 use Rattle.materialization.specs.declared.stage.Stage.TheVariants as stage
 use Rattle.link_worker.proofs.Stepping.{fail_steps}

@@ -1,4 +1,4 @@
-use Rattle.std.proofs.Common.{◌≡◌, refl, sym, subst, eq-eqb}
+use Rattle.std.proofs.Common.{refl, sym, subst}
 use Rattle.session_model.specs.declared.entry.Event.TheVariants as event
 use Rattle.turn_lock.specs.Handles.{view}
 use Rattle.materialization.specs.declared.stage.Stage.TheVariants as stage
@@ -13,5 +13,5 @@ returns-clause-steps g c = λ fired.
     let w = view c.perform-answer.new.seat in
     let at = stage.Generate c.args.generator in
     subst (Steps means g.N.Notify.heard g.row.JMAX v w fired fired c.args.self.now at) (sym c.next_by.ensures)
-    (steps_quietly means g.N.Notify.heard g.row.JMAX v w c.args.self.now at c.requires.at (event.Generate c.args.generator) c.perform-answer.result c.perform-answer.ensures.turned refl refl refl (λ e. absurd (cc))
+    (steps_quietly means g.N.Notify.heard g.row.JMAX v w c.args.self.now at c.requires.at (event.Generate c.args.generator) c.perform-answer.result c.perform-answer.ensures.turned refl refl refl refl (λ e. absurd (cc))
     (knows_next means g.N.Notify.heard g.row.JMAX v w c.args.self.now at c.requires.at c.perform-answer.result (λ e. cc)) fired)

@@ -1,4 +1,4 @@
-use Rattle.std.proofs.Common.{◌≡◌, refl, sym, subst, eq-eqb}
+use Rattle.std.proofs.Common.{refl, sym, subst}
 use Rattle.session_model.specs.declared.entry.Event.TheVariants as event
 use Rattle.turn_lock.specs.Handles.{view}
 use Rattle.materialization.specs.declared.stage.Stage.TheVariants as stage
@@ -15,5 +15,5 @@ returns-clause-steps g c =
     let new = c.fire_all.new.done in
     subst (Steps means g.N.Notify.heard g.row.JMAX v w old new c.args.self.now stage.Link) (sym c.next_by.ensures)
     (steps_told means g.N.Notify.heard g.row.JMAX v w c.args.self.now stage.Link c.requires.at (event.Link c.args.self.now.unit) c.perform-answer.result.answer c.perform-answer.result.fires old new
-    c.perform-answer.ensures.turned c.fire_all.ensures refl refl (λ e. absurd (cc))
+    c.perform-answer.ensures.turned c.fire_all.ensures refl refl refl (λ e. absurd (cc))
     (knows_next means g.N.Notify.heard g.row.JMAX v w c.args.self.now stage.Link c.requires.at c.perform-answer.result.answer (λ e. cc)))

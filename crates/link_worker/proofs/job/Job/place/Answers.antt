@@ -1,9 +1,8 @@
-use Rattle.std.proofs.Common.{◌≡◌, refl, sym, subst, eq-eqb}
-use Rattle.session_model.specs.declared.entry.Event.TheVariants as event
+use Rattle.std.proofs.Common.{refl, sym, subst, eq-eqb}
 use Rattle.turn_lock.specs.Handles.{view}
 use Rattle.materialization.specs.declared.stage.Stage.TheVariants as stage
 use Rattle.link_worker.specs.Jobs.{Steps}
-use Rattle.link_worker.proofs.Stepping.{first_of_both, knows_next, steps_quietly}
+use Rattle.link_worker.proofs.Stepping.{knows_next, steps_placing}
 use Rattle.link_worker.proofs.job.Job.place.Goals as goal
 
 pub returns-clause-steps : goal.returns-clause-steps
@@ -12,6 +11,6 @@ returns-clause-steps g c = λ fired.
     let v = view c.args.pass.now in
     let w = view c.perform-answer.new.seat in
     subst (Steps means g.N.Notify.heard g.row.JMAX v w fired fired c.args.self.now stage.Place) (sym c.next_by.ensures)
-    (steps_quietly means g.N.Notify.heard g.row.JMAX v w c.args.self.now stage.Place c.requires.at (event.Place c.args.self.now.unit c.shape-shape.result) c.perform-answer.result
-    (first_of_both means g.row.JMAX v w _ _ c.perform-answer.ensures.turned) (eq-eqb c.args.self.now.unit.0 c.args.self.now.unit.0 refl) refl refl (λ e. absurd (cc))
+    (steps_placing means g.N.Notify.heard g.row.JMAX v w c.args.self.now stage.Place c.requires.at c.args.self.now.unit c.shape-shape.result c.perform-answer.result c.perform-answer.ensures.turned
+    (eq-eqb c.args.self.now.unit.0 c.args.self.now.unit.0 refl) refl (λ e. absurd (cc))
     (knows_next means g.N.Notify.heard g.row.JMAX v w c.args.self.now stage.Place c.requires.at c.perform-answer.result (λ e. cc)) fired)

@@ -1,4 +1,4 @@
-use Rattle.std.proofs.Common.{◌≡◌, refl, sym, subst, eq-eqb}
+use Rattle.std.proofs.Common.{refl, sym, subst}
 use Rattle.session_model.specs.declared.entry.Event.TheVariants as event
 use Rattle.turn_lock.specs.Handles.{view}
 use Rattle.materialization.specs.declared.stage.Stage.TheVariants as stage
@@ -17,5 +17,5 @@ returns-clause-steps g c =
     let turned = always_tells means g.row.JMAX v w (event.Resolve c.args.self.now.unit) c.perform-answer.result.answer c.perform-answer.result.fires c.perform-answer.ensures.turned in
     subst (Steps means g.N.Notify.heard g.row.JMAX v w old new c.args.self.now stage.ResolveAlias) (sym c.next_by.ensures)
     (steps_told means g.N.Notify.heard g.row.JMAX v w c.args.self.now stage.ResolveAlias c.requires.at (event.Resolve c.args.self.now.unit) c.perform-answer.result.answer c.perform-answer.result.fires old new
-    turned c.fire_all.ensures refl refl (λ e. absurd (cc))
+    turned c.fire_all.ensures refl refl refl (λ e. absurd (cc))
     (alias_knows means g.N.Notify.heard g.row.JMAX v w c.args.self.now c.requires.at c.perform-answer.result.answer c.perform-answer.result.fires turned))

@@ -1,4 +1,4 @@
-use Rattle.std.proofs.Common.{◌≡◌, sym, subst, Ok}
+use Rattle.std.proofs.Common.{sym, subst, Ok}
 use Rattle.turn_lock.specs.Handles.{view}
 use Rattle.materialization.specs.declared.stage.Stage.TheVariants as stage
 use Rattle.link_worker.specs.Jobs.{IsJobAt, Steps}
