@@ -1,0 +1,9 @@
+pub mod Blocks
+pub mod Held
+pub mod Holding
+pub mod Lists
+pub mod Members
+pub mod Reached
+pub mod Symbols
+pub mod Told
+pub mod Units

@@ -1,0 +1,3 @@
+mod Items
+mod Digits
+pub mod Within

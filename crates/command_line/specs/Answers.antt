@@ -1,0 +1,35 @@
+-- What the parts of the reader answer, in the words of command lines.
+use Rattle.std.specs.Prelude.{◌≡◌, ℕ, Bool, true, List, [], ◌∷◌, map, Option, None, Result, Ok, Err, ⊤}
+use Rattle.std.specs.Option.{option_copied}
+use Rattle.command_line.specs.declared.error.UsageKind.{UsageKind}
+use Rattle.command_line.specs.declared.error.UsageKind.TheVariants.{BadWords}
+use Rattle.command_line.specs.declared.error.CommandError.{CommandError}
+use Rattle.command_line.specs.declared.error.CommandError.TheVariants.{Usage, NoMemory}
+use Rattle.command_line.specs.declared.arguments.Arguments.{Arguments}
+use Rattle.command_line.specs.declared.command.RunWords.{RunWords}
+use Rattle.command_line.specs.Words.{Given, Request, request, is_option}
+
+-- a request, or why there is none
+abbrev pub request_or : Result RunWords UsageKind → Result Request UsageKind
+request_or (Ok words) = Ok (request words)
+request_or (Err kind) = Err kind
+
+-- words don't fit, unless memory ran out
+abbrev pub Refuses : Option Given → CommandError → Type 0
+Refuses given (Usage BadWords) = given ≡ None
+Refuses given (Usage _) = ⊥
+Refuses given NoMemory = ⊤
+
+-- no word stands first that may be an option's value
+abbrev pub lacks_value : List (List ℕ) → Bool
+lacks_value [] = true
+lacks_value (word ∷ _) = is_option word
+
+-- what arguments give
+abbrev pub given_of : Arguments → Given
+given_of arguments = record {
+  files = map (λ file. file.now) arguments.files.items;
+  entry = option_copied arguments.entry;
+  fuel = option_copied arguments.fuel;
+  workers = option_copied arguments.workers;
+}

@@ -1,0 +1,3 @@
+pub mod KnownUnits
+pub mod KnownReplies
+pub mod Knowing

@@ -1,0 +1,5 @@
+pub mod LaterTables
+pub mod Mentions
+pub mod Snoc
+pub mod SoFar
+pub mod SymbolValues

@@ -1,0 +1,8 @@
+pub mod Stops
+pub mod Words
+pub mod Clauses
+pub mod Full
+pub mod Quiet
+pub mod Found
+pub mod ByNames
+pub mod Kept

@@ -1,0 +1,8 @@
+pub mod Answers
+pub mod EndLine
+pub mod Lost
+pub mod Sessions
+pub mod ByNames
+pub mod Answered
+pub mod Clauses
+pub mod Laws

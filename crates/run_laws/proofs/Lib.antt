@@ -1,0 +1,9 @@
+pub mod Seats
+pub mod Ready
+pub mod Asking
+pub mod Ends
+pub mod Calm
+pub mod Falling
+pub mod Costs
+pub mod Sums
+pub mod Short

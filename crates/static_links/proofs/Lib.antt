@@ -1,0 +1,9 @@
+pub mod Apart
+pub mod Folds
+pub mod Leading
+pub mod Linked
+pub mod Lists
+pub mod Mapped
+pub mod Program
+pub mod Reached
+pub mod Values
