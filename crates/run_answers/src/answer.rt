@@ -24,7 +24,7 @@ pub enum Answer {
     TooLong(u32),
     /// No object defines a symbol of this name.
     Missing(Bytes),
-    /// The edge at this place, of this kind and value, is out of range; the entry needs its unit.
+    /// The edge at this place, of this kind and value, is out of range, in the unit of the entry.
     LinkRefused(Place, u32, i64),
     /// This instance couldn't be made ready, for another one that failed.
     DepFailed(InstId),
