@@ -1,10 +1,13 @@
 #!/usr/bin/env python3
-"""Compiles the C programs of examples/ and tools/c_programs/ by two compilers at three levels, with
-padding that is left to the linker and without, runs each object with orc, and compares output and exit
-status with qemu-riscv64 on the same object, linked with a start that calls main. Says how long each run
-took.
+"""Compiles the C programs of examples/ and tools/c_programs/ by two compilers, at five levels and in four forms
+of code, links and runs the objects with orc, alone and with 4 workers, and compares output and exit status with
+qemu-riscv64 on the same objects, linked statically with a start that calls main. Says how long each run took.
 
-ORC is the program, by default the one at the top of the repository; --keep FOLDER keeps the objects."""
+    tools/compare_c.py [ORC] [--only WORD] [--levels LEVEL,..] [--keep FOLDER] [--fuel N]
+
+A C file there is a program, and so is a folder: its C files are the objects of one program. ORC is the program,
+by default the one at the top of the repository. --only takes the programs alone whose names have WORD in them,
+and --keep keeps the objects. The exit status is 1 where something differs."""
 import argparse
 import pathlib
 import subprocess
@@ -13,22 +16,40 @@ import tempfile
 import time
 
 TOP = pathlib.Path(__file__).resolve().parent.parent
-PROGRAMS = sorted([*(TOP / "examples").glob("*.c"), *(TOP / "tools" / "c_programs").glob("*.c")])
-TARGET = "-march=rv64im -mabi=lp64 -mcmodel=medany -fno-pic -fno-common -ffreestanding".split()
+FOLDERS = [TOP / "examples", TOP / "tools" / "c_programs"]
+# Code has addresses below 2^31 in the static link too, so that absolute addresses (medlow) reach.
+TARGET = "-march=rv64im -mabi=lp64 -ffreestanding -fcommon".split()
 COMPILERS = {
     "gcc": ["riscv64-linux-gnu-gcc"],
     "clang": ["clang", "--target=riscv64"],
 }
-LEVELS = ["-O0", "-O2", "-Os"]
-PADDINGS = {
-    "relax": ["-mrelax", "-falign-functions=32", "-falign-loops=16"],
-    "norelax": ["-mno-relax"],
+LEVELS = ["-O0", "-O1", "-O2", "-O3", "-Os"]
+FORMS = {
+    "padded": "-mcmodel=medany -fno-pic -mrelax -falign-functions=32 -falign-loops=16".split(),
+    "norelax": "-mcmodel=medany -fno-pic -mno-relax".split(),
+    "pic": "-mcmodel=medany -fPIC".split(),
+    "medlow": "-mcmodel=medlow -fno-pic".split(),
 }
-FUEL = 1 << 40
+WORKERS = ["0", "4"]
 
 
-def run(command, **further):
-    return subprocess.run([str(word) for word in command], check=True, **further)
+def programs():
+    """The name of each program, and its files."""
+    found = {}
+    for folder in FOLDERS:
+        for path in sorted(folder.iterdir()):
+            if path.suffix == ".c":
+                found[path.stem] = [path]
+            elif path.is_dir() and list(path.glob("*.c")):
+                found[path.name] = sorted(path.glob("*.c"))
+    return found
+
+
+def run(command):
+    """What compilers and linkers say is shown where they fail."""
+    done = subprocess.run([str(word) for word in command], stderr=subprocess.PIPE)
+    if done.returncode:
+        sys.exit(done.stderr.decode(errors="replace"))
 
 
 def outcome(command, folder):
@@ -37,38 +58,59 @@ def outcome(command, folder):
     return done.stdout, done.returncode, done.stderr, time.monotonic() - began
 
 
+def compiled(folder, sources, stem, command):
+    """The objects of a program, in the order of its files."""
+    objects = []
+    for source in sources:
+        made = folder / f"{stem}.{source.stem}.o"
+        run([*command, *TARGET, "-I", TOP / "examples", "-c", source, "-o", made])
+        objects.append(made.name)
+    return objects
+
+
+def compare(orc, folder, sources, stem, command, fuel):
+    """How many runs of one build of a program differ from that of the static link."""
+    objects = compiled(folder, sources, stem, command)
+    run(["riscv64-linux-gnu-ld", "-static", "--no-relax", folder / "start.o", *[folder / it for it in objects], "-o", folder / stem])
+    wanted, status, _, there = outcome(["qemu-riscv64", folder / stem], folder)
+    unlike, told = 0, []
+    for workers in WORKERS:
+        written, answered, log, here = outcome([orc, "run", *objects, "--workers", workers, "--fuel", fuel], folder)
+        end = log.decode(errors="replace").splitlines()[-1:] or [""]
+        if (wanted, status) != (written, answered) or not end[0].startswith("end exited "):
+            unlike += 1
+            print(f"{stem} with {workers} workers: {end[0]!r}, status {answered}, output {written!r}; wanted {status} and {wanted!r}")
+        told.append(f"{here:.3f}")
+    verdict = "UNLIKE" if unlike else "alike"
+    print(f"{stem:34} {verdict} status {status} orc {', '.join(told)} s, qemu {there:.3f} s", flush=True)
+    return unlike
+
+
 def main():
-    parser = argparse.ArgumentParser(description=__doc__)
+    parser = argparse.ArgumentParser(description=__doc__, formatter_class=argparse.RawDescriptionHelpFormatter)
     parser.add_argument("orc", nargs="?", default=TOP / "orc", type=pathlib.Path)
-    parser.add_argument("--keep", type=pathlib.Path)
+    parser.add_argument("--only", default="", metavar="WORD")
+    parser.add_argument("--levels", default=",".join(it[1:] for it in LEVELS), metavar="LEVEL,..")
+    parser.add_argument("--keep", type=pathlib.Path, metavar="FOLDER")
+    parser.add_argument("--fuel", default=1 << 40, type=int, metavar="N")
     arguments = parser.parse_args()
+    orc, unlike, count = arguments.orc.resolve(), 0, 0
     with tempfile.TemporaryDirectory() as made:
         folder = (arguments.keep or pathlib.Path(made)).resolve()
         folder.mkdir(parents=True, exist_ok=True)
-        start = folder / "start.o"
-        run(["riscv64-linux-gnu-as", "-march=rv64im", "-mabi=lp64", TOP / "tools" / "c_programs" / "start.s", "-o", start])
-        unlike = 0
-        for source in PROGRAMS:
+        start = TOP / "tools" / "c_programs" / "start.s"
+        run(["riscv64-linux-gnu-as", "-march=rv64im", "-mabi=lp64", start, "-o", folder / "start.o"])
+        for program, sources in programs().items():
+            if arguments.only not in program:
+                continue
             for name, compiler in COMPILERS.items():
-                for level in LEVELS:
-                    for padding, flags in PADDINGS.items():
-                        command = [*compiler, level, *flags]
-                        stem = f"{source.stem}.{name}{level}-{padding}"
-                        unlike += not compare(arguments.orc.resolve(), folder, start, source, stem, command)
-    print(f"{unlike} unlike" if unlike else "all alike")
+                for level in arguments.levels.split(","):
+                    for form, flags in FORMS.items():
+                        stem = f"{program}.{name}-{level}-{form}"
+                        unlike += compare(orc, folder, sources, stem, [*compiler, f"-{level}", *flags], arguments.fuel)
+                        count += len(WORKERS)
+    print(f"{count} runs, {unlike} unlike" if unlike else f"{count} runs, all alike")
     return 1 if unlike else 0
-
-
-def compare(orc, folder, start, source, stem, compiler):
-    run([*compiler, *TARGET, "-I", TOP / "examples", "-c", source, "-o", folder / f"{stem}.o"])
-    run(["riscv64-linux-gnu-ld", "-static", "--no-relax", start, folder / f"{stem}.o", "-o", folder / stem])
-    wanted, status, _, there = outcome(["qemu-riscv64", folder / stem], folder)
-    written, answered, log, here = outcome([orc, "run", f"{stem}.o", "--fuel", FUEL], folder)
-    end = log.decode().splitlines()[-1]
-    alike = (wanted, status) == (written, answered) and end.startswith("end exited ")
-    verdict = "alike" if alike else "UNLIKE"
-    print(f"{stem:36} {verdict} status {answered} {end!r} orc {here:.3f} s, qemu {there:.3f} s")
-    return alike
 
 
 if __name__ == "__main__":

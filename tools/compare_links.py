@@ -1,9 +1,11 @@
 #!/usr/bin/env python3
-"""Compares `fixups::fix` with ld.lld and GNU ld, byte for byte.
+"""Compares `unit_fixups::fix` with ld.lld and GNU ld, byte for byte.
 
-For each seed it writes an assembly file with every relocation kind that needs no cell and no stub,
-assembles it by GNU as and by clang, links the object at fixed addresses, and runs `fix` on the same
-graph, in a copy of the crates whose tests it writes. `rt try` runs them, so nothing is proved here.
+For each seed it writes an assembly file with every relocation kind, own symbols, symbols of other units (some bound,
+some weak and bound to nothing), GOT cells and calls through stubs, assembles it by GNU as and by clang, and runs
+`synthesise` and `fix` on its graph, in a copy of the crates whose tests it writes. `rt try` runs them, so nothing is
+proved here. The linkers are given the same file with cells and stubs written out in two sections at their places,
+since a linker lays its own out otherwise and needs no stubs in a static link.
 
     tools/compare_links.py [SEED ..]        (seeds 1 to 4 by default)
 """
@@ -20,6 +22,10 @@ BASE = 0x1000_0000
 ROOT = pathlib.Path(__file__).resolve().parent.parent
 PREFIX = "riscv64-linux-gnu-"
 ABSOLUTE = 0x1234_5800
+# What the externals are bound to: near enough for a branch, for a jump, far, and low.
+BOUND = {"e0": BASE + 0xE00, "e1": BASE + 0x8000, "e2": BASE + 0x1234_5678, "e3": 0x7F4}
+UNBOUND = ["w0", "w1"]
+GOT_HI20, CALLS, NO_EDGE = 20, (18, 19, 59), (0, 51)
 
 # kinds by name, with the bytes that stand there before
 DATA_KINDS = {
@@ -30,27 +36,36 @@ DATA_KINDS = {
 DIRECTIVES = {1: ".byte", 2: ".2byte", 4: ".4byte", 8: ".8byte"}
 
 
-def assembly(seed):
-    """A file with two sections and some relocations of each kind."""
+def assembly(seed, cells=None, stubs=None):
+    """A file with two sections and some relocations of each kind: for `fix`, or, with the symbols that have cells
+    and stubs, for a linker."""
     rng = random.Random(seed)
     text, data = [], []
+
+    def upper_of_cell(symbol):
+        return f"%got_pcrel_hi({symbol})" if cells is None else f"%pcrel_hi(cell_{symbol})"
+
+    def called(symbol):
+        return symbol if stubs is None else f"stub_{symbol}"
+
     for i in range(12):
         text.append(f".globl t{i}\nt{i}:")
-        choice = rng.sample(range(9), 9)
+        choice = rng.sample(range(12), 12)
         for what in choice:
             register = rng.choice(["a0", "a1", "t0", "s1", "x31"])
-            symbol = rng.choice(["d0", "d1", "d2", "absolute"])
+            symbol = rng.choice(["d0", "d1", "d2", "absolute", *BOUND, *UNBOUND])
             near = rng.choice(["d0", "d1", "d2", f"t{rng.randrange(12)}"])
+            reached = rng.choice([near, near, *BOUND, *UNBOUND])
             addend = rng.randrange(-3000, 3000)
             label = f".L{seed}_{i}_{what}"
             if what == 0:
                 text.append(f"{label}: .word {0x63 | rng.randrange(8) << 12 | rng.getrandbits(10) << 15}")
-                text.append(f".reloc {label}, R_RISCV_BRANCH, t{rng.randrange(12)}+{rng.randrange(-200, 200) * 2}")
+                text.append(f".reloc {label}, R_RISCV_BRANCH, {rng.choice([f't{rng.randrange(12)}', 'e0'])}+{rng.randrange(-200, 200) * 2}")
             elif what == 1:
                 text.append(f"{label}: .word {0x6f | rng.getrandbits(5) << 7}")
-                text.append(f".reloc {label}, R_RISCV_JAL, {near}+{rng.randrange(-50000, 50000) * 2}")
+                text.append(f".reloc {label}, R_RISCV_JAL, {rng.choice([near, 'e0', 'e1'])}+{rng.randrange(-50000, 50000) * 2}")
             elif what == 2:
-                text.append(f"{label}: auipc {register}, %pcrel_hi({near}+{addend})")
+                text.append(f"{label}: auipc {register}, %pcrel_hi({reached}+{addend})")
                 text.append(f"addi {register}, {register}, %pcrel_lo({label})")
                 text.append(f"sd s0, %pcrel_lo({label})({register})")
             elif what == 3:
@@ -63,6 +78,13 @@ def assembly(seed):
                 text.append(f"addi {register}, {register}, %lo({symbol}+{addend})")
             elif what == 7:
                 text.append(f"sw a5, %lo({symbol}+{addend})({register})")
+            elif what == 8:
+                text.append(f"call {called(rng.choice([*BOUND, *UNBOUND]))}")
+            elif what == 9:
+                text.append(f"tail {called(rng.choice([*BOUND, *UNBOUND]))}")
+            elif what == 10:
+                text.append(f"{label}: auipc {register}, {upper_of_cell(rng.choice(['d1', 't2', *BOUND, *UNBOUND]))}")
+                text.append(f"ld {register}, %pcrel_lo({label})({register})")
             else:
                 text.append(f"{label}: .word {rng.getrandbits(32)}\n.reloc {label}, R_RISCV_NONE, {near}")
     for i in range(3):
@@ -76,16 +98,22 @@ def assembly(seed):
             # assembler makes an addend of an absolute symbol)
             subtracts = kind.startswith("SUB")
             far = kind == "32_PCREL"
-            symbol = rng.choice(["d0", "d1", "d2", "t3", "t7"] + ([] if subtracts or far else ["absolute"]))
-            addend = 0 if subtracts else rng.randrange(-100000, 100000)
+            symbol = rng.choice(["d0", "d1", "d2", "t3", "t7", *BOUND] + ([] if subtracts or far else ["absolute", *UNBOUND]))
+            # an unsigned sum that is below 0 is out of the range of 32
+            addend = 0 if subtracts or symbol in ("e3", *UNBOUND) else rng.randrange(-100000, 100000)
             data.append(f"{label}: {DIRECTIVES[width]} {rng.getrandbits(8 * width)}")
             data.append(f".reloc {label}, R_RISCV_{kind}, {symbol}+{addend}")
             if kind.startswith("ADD"):
                 data.append(f".reloc {label}, R_RISCV_SUB{kind[3:]}, d{rng.randrange(3)}")
             if kind == "SET6":
                 data.append(f".reloc {label}, R_RISCV_SUB6, d{rng.randrange(3)}")
-    lines = [".option norelax", ".globl absolute", f"absolute = {ABSOLUTE}", ".text"]
-    return "\n".join(lines + text + [".data", ".balign 8"] + data) + "\n"
+    lines = [".option norelax", ".globl absolute", f"absolute = {ABSOLUTE}", *[f".weak {it}" for it in UNBOUND], ".text"]
+    made = []
+    if cells is not None:
+        made = ['.section .cells, "aw"', *[f"cell_{it}: .8byte {it}" for it in cells], '.section .stubs, "ax"']
+        for it in stubs:
+            made.append(f"stub_{it}: auipc t3, %pcrel_hi(cell_{it})\nld t3, %pcrel_lo(stub_{it})(t3)\njalr t1, t3\nnop")
+    return "\n".join(lines + text + [".data", ".balign 8"] + data + made) + "\n"
 
 
 class Object:
@@ -102,6 +130,8 @@ class Object:
         self.bytes = [b"" if h[1] == 8 else raw[h[4]:h[4] + h[5]] for h in heads]
         table = next((i for i, h in enumerate(heads) if h[1] == 2), None)
         self.symbols = list(struct.iter_unpack("<IBBHQQ", self.bytes[table])) if table else []
+        texts = self.bytes[heads[table][6]] if table else b""
+        self.texts = [texts[it[0]:texts.index(b"\0", it[0])].decode() for it in self.symbols]
 
     def section(self, name):
         return self.names.index(name)
@@ -117,48 +147,68 @@ class Object:
                     yield at, info & 0xffffffff, info >> 32, addend
 
 
-def layout(obj):
-    """Each block's offset: the next multiple of its alignment; and what the unit needs."""
-    offsets, end = [], 0
-    for i in obj.kept():
-        align = max(obj.heads[i][8], 1)
-        end = -(-end // align) * align
-        offsets.append(end)
-        end += obj.heads[i][5]
-    return offsets, max(16, -(-end // 16) * 16)
+def aligned(at, align):
+    return -(-at // align) * align
 
 
-def linked(linker, obj, path, offsets, need, out):
+class Layout:
+    """Where the parts of a unit lie: its blocks, then the cells, then the stubs; and what it needs."""
+
+    def __init__(self, obj):
+        self.offsets, end = [], 0
+        for i in obj.kept():
+            self.offsets.append(aligned(end, max(obj.heads[i][8], 1)))
+            end = self.offsets[-1] + obj.heads[i][5]
+        edges = [(kind, symbol) for i in obj.kept() for _, kind, symbol, _ in obj.relocations(i) if kind not in NO_EDGE]
+        undefined = {k for k, it in enumerate(obj.symbols) if k and it[3] == 0}
+        stubs = {symbol for kind, symbol in edges if kind in CALLS and symbol in undefined}
+        cells = stubs | {symbol for kind, symbol in edges if kind == GOT_HI20}
+        self.stubs, self.cells = sorted(stubs), sorted(cells)
+        self.externals = sorted({symbol for _, symbol in edges} & undefined)
+        self.cells_start = aligned(end, 8)
+        self.stubs_start = aligned(self.cells_start + 8 * len(cells), 16)
+        self.need = max(16, aligned(self.stubs_start + 16 * len(stubs), 16))
+
+
+def linked(linker, obj, path, places, need, out):
     """The image that a linker makes with each section at its offset."""
     script = out.with_suffix(".ld")
-    parts = "\n".join(
-        f"  {obj.names[i]} {BASE + o:#x} : {{ *({obj.names[i]}) }}" for i, o in zip(obj.kept(), offsets))
+    parts = "\n".join(f"  {name} {BASE + o:#x} : {{ *({name}) }}" for name, o in places.items())
     script.write_text("SECTIONS {\n" + parts + "\n  /DISCARD/ : { *(.riscv.attributes) *(.comment) }\n}\n")
-    subprocess.run([linker, "--no-relax", "-e", "0", "-T", script, "-o", out, path], check=True)
+    bound = [f"--defsym={name}={at:#x}" for name, at in BOUND.items()]
+    done = subprocess.run([linker, "--no-relax", "-e", "0", *bound, "-T", script, "-o", out, path], stderr=subprocess.PIPE)
+    if done.returncode:
+        sys.exit(done.stderr.decode(errors="replace"))
     product = Object(out)
     image = bytearray(need)
-    for i, o in zip(obj.kept(), offsets):
-        part = product.bytes[product.section(obj.names[i])]
+    for name, o in places.items():
+        part = product.bytes[product.section(name)]
         image[o:o + len(part)] = part
     return bytes(image)
 
 
-def graph_test(name, obj, offsets, need, image):
-    """A test that runs `fix` on the object's graph."""
+def graph_test(name, obj, layout, image):
+    """A test that runs `synthesise` and `fix` on the object's graph."""
     kept = obj.kept()
-    blocks, symbols, edges = [], [], []
+    blocks, symbols, edges, offered = [], [], [], 0
     for i in kept:
         data = ", ".join(str(b) for b in obj.bytes[i])
         blocks.append(f"    blocks.push(block(alloc, &[{data}], {max(obj.heads[i][8], 1)})?)?;")
-    for _, _, _, section, value, _ in obj.symbols:
+    for number, (_, info, _, section, value, _) in enumerate(obj.symbols):
+        is_global = info >> 4 != 0
+        offered += is_global and section != 0
         if section in kept:
-            symbols.append(f"GPlace::In({kept.index(section)}, {value})")
+            place = f"GPlace::In({kept.index(section)}, {value})"
+        elif section == 0 and is_global:
+            place = f"GPlace::External({'true' if info >> 4 == 2 else 'false'})"
         else:
-            symbols.append(f"GPlace::Abs({value if section == 0xfff1 else 0})")
+            place = f"GPlace::Abs({value if section == 0xfff1 else 0})"
+        symbols.append(f"({place}, {'true' if is_global else 'false'})")
     for block, i in enumerate(kept):
         for at, kind, symbol, addend in obj.relocations(i):
-            if kind not in (0, 51):
+            if kind not in NO_EDGE:
                 edges.append(f"({block}, {at}, {kind}, {symbol}, {addend})")
+    bound = [f"Some({BOUND[it]})" if it in BOUND else "None" for it in (obj.texts[k] for k in layout.externals)]
     return f"""
 #[test]
 fn {name}(rt: HostRuntime) -> Result<(), Failed> {{
@@ -166,10 +216,12 @@ fn {name}(rt: HostRuntime) -> Result<(), Failed> {{
     let mut blocks = Vec::new(alloc);
 {chr(10).join(blocks)}
     let graph = graph(alloc, blocks, &[{", ".join(symbols)}], &[{", ".join(edges)}])?;
-    let layout = layout(alloc, &{offsets}, {need})?;
-    let image = fix(alloc, &graph, &layout, {BASE}, &[]).map_err(|_| Failed)?;
-    let wanted: [u8; {need}] = [{", ".join(str(b) for b in image)}];
-    for k in 0..{need} {{
+    let layout = synthesise(alloc, &graph, &[{", ".join(["true"] * offered)}])?;
+    assert_eq!(rt; layout.shape.need, {layout.need});
+    assert_eq!(rt; layout.externals.len(), {len(bound)});
+    let image = fix(alloc, &graph, &layout, {BASE}, &[{", ".join(bound)}]).map_err(|_| Failed)?;
+    let wanted: [u8; {layout.need}] = [{", ".join(str(b) for b in image)}];
+    for k in 0..{layout.need} {{
         assert_eq!(rt; image.as_slice()[k], wanted[k], "at {{k}}");
     }}
     Ok(())
@@ -177,10 +229,11 @@ fn {name}(rt: HostRuntime) -> Result<(), Failed> {{
 """
 
 
-HEAD = """use crate::fix;
-use link_model::{Block, Edge, GPlace, GSym, Layout, LinkGraph};
-use orc_ids::{Bytes, Items, Shape, SymFlags};
+HEAD = """use got_stubs::synthesise;
+use link_model::{Block, Edge, GPlace, GSym, LinkGraph};
+use orc_ids::{Bytes, Items, NameId, SymFlags};
 use std::alloc::{AllocError, AllocFailed, Global};
+use unit_fixups::fix;
 
 #[derive(Debug, Drop)]
 struct Failed;
@@ -201,11 +254,12 @@ fn block(alloc: Global, bytes: &[u8], align: u64) -> Result<Block, Failed> {
     Ok(Block { bytes: Bytes::copy_of(alloc, bytes)?, size: bytes.len() as u64, align })
 }
 
-fn graph(alloc: Global, blocks: Vec<Block>, places: &[GPlace], edges: &[(u32, u64, u32, u32, i64)]) -> Result<LinkGraph, Failed> {
+fn graph(alloc: Global, blocks: Vec<Block>, places: &[(GPlace, bool)], edges: &[(u32, u64, u32, u32, i64)]) -> Result<LinkGraph, Failed> {
     let mut symbols = Vec::new(alloc);
-    for place in places {
-        let flags = SymFlags { weak: false, common: false, exported: false, callable: false };
-        symbols.push(GSym { name: None, place: *place, flags, global: false })?;
+    for (k, (place, global)) in places.iter().enumerate() {
+        let flags = SymFlags { weak: false, common: false, exported: *global, callable: false };
+        let name = if *global { Some(NameId(k as u32)) } else { None };
+        symbols.push(GSym { name, place: *place, flags, global: *global })?;
     }
     let mut all = Vec::new(alloc);
     for (block, offset, kind, target, addend) in edges {
@@ -213,47 +267,45 @@ fn graph(alloc: Global, blocks: Vec<Block>, places: &[GPlace], edges: &[(u32, u6
     }
     Ok(LinkGraph { blocks: Items::from_vec(blocks), symbols: Items::from_vec(symbols), edges: Items::from_vec(all) })
 }
-
-fn layout(alloc: Global, offsets: &[u64], need: u64) -> Result<Layout, Failed> {
-    Ok(Layout {
-        blocks: Items::from_vec(offsets.to_vec(alloc)?),
-        cells: Items::new(alloc),
-        stubs: Items::new(alloc),
-        shape: Shape { need, align: 16 },
-        externals: Items::new(alloc),
-        live: Items::new(alloc),
-    })
-}
 """
+
+
+def assembled(assembler, work, name, text):
+    source, path = work / f"{name}.s", work / f"{name}.o"
+    source.write_text(text)
+    command = [PREFIX + "as"] if assembler == "gnu" else ["clang", "--target=riscv64", "-c"]
+    subprocess.run(command + ["-march=rv64im", "-mabi=lp64", "-o", path, source], check=True)
+    return path, Object(path)
 
 
 def main(seeds):
     work = pathlib.Path(tempfile.mkdtemp(prefix="compare_links_"))
     shutil.copytree(ROOT / "crates", work / "crates", ignore=shutil.ignore_patterns("out"))
     shutil.copy(ROOT / "crates.txt", work)
-    kinds, tests = set(), [HEAD]
+    kinds, tests, cells, stubs = set(), [HEAD], 0, 0
     for seed in seeds:
         for assembler in ("gnu", "clang"):
             name = f"seed_{seed}_{assembler}"
-            source, path = work / f"{name}.s", work / f"{name}.o"
-            source.write_text(assembly(seed))
-            command = ([PREFIX + "as"] if assembler == "gnu" else ["clang", "--target=riscv64", "-c"])
-            subprocess.run(command + ["-march=rv64im", "-mabi=lp64", "-o", path, source], check=True)
-            obj = Object(path)
-            offsets, need = layout(obj)
-            image = linked("ld.lld", obj, path, offsets, need, work / f"{name}.lld")
-            if linked(PREFIX + "ld", obj, path, offsets, need, work / f"{name}.bfd") != image:
+            _, obj = assembled(assembler, work, name, assembly(seed))
+            layout = Layout(obj)
+            cells, stubs = cells + len(layout.cells), stubs + len(layout.stubs)
+            written = assembly(seed, [obj.texts[k] for k in layout.cells], [obj.texts[k] for k in layout.stubs])
+            path, whole = assembled(assembler, work, f"{name}_whole", written)
+            places = dict(zip([obj.names[i] for i in obj.kept()], layout.offsets))
+            places |= {".cells": layout.cells_start, ".stubs": layout.stubs_start}
+            image = linked("ld.lld", whole, path, places, layout.need, work / f"{name}.lld")
+            if linked(PREFIX + "ld", whole, path, places, layout.need, work / f"{name}.bfd") != image:
                 print(f"{name}: GNU ld and ld.lld differ")
                 return 1
             kinds |= {k for i in obj.kept() for _, k, _, _ in obj.relocations(i)}
-            tests.append(graph_test(name, obj, offsets, need, image))
-    fixups = work / "crates" / "fixups"
-    (fixups / "src" / "compared.rt").write_text("".join(tests))
-    root = fixups / "src" / "lib.rt"
-    root.write_text(root.read_text().replace("\nmod apply;", "\nmod apply;\n#[cfg(test)]\nmod compared;"))
-    ran = subprocess.run(["rt", "try", "--test"], cwd=fixups, capture_output=True, text=True)
+            tests.append(graph_test(name, obj, layout, image))
+    crate = work / "crates" / "unit_fixups_tests"
+    (crate / "src" / "compared.rt").write_text("".join(tests))
+    root = crate / "src" / "lib.rt"
+    root.write_text(root.read_text().replace("mod tests;", "mod compared;\n#[cfg(test)]\nmod tests;"))
+    ran = subprocess.run(["rt", "try", "--test"], cwd=crate, capture_output=True, text=True)
     print(ran.stdout[-3000:], ran.stderr[-3000:])
-    print("kinds compared:", sorted(kinds))
+    print(f"{cells} cells and {stubs} stubs; kinds compared:", sorted(kinds))
     shutil.rmtree(work)
     return ran.returncode
 

@@ -14,7 +14,7 @@ import sys
 import tempfile
 
 ROOT = os.path.dirname(os.path.dirname(os.path.realpath(__file__)))
-CFLAGS = "-march=rv64im -mabi=lp64 -mcmodel=medany -fno-pic -fno-common -ffreestanding -O2 -c".split()
+CFLAGS = "-march=rv64im -mabi=lp64 -mcmodel=medany -ffreestanding -O2 -c".split()
 SETUP = """1 s0 dylib main = made d0
 2 s0 tracker d0 = tracker t0
 3 s0 define d0 t0 o0 = defined u0 i0 1
@@ -29,6 +29,79 @@ LINKED = SETUP + """4 s1 ask d0:all ready main = pending q0
 11 s1 collect q0 = found 10 i0@10000000
 12 s1 image = image
 """
+# The two objects of examples/parity.
+BOTH = """1 s0 dylib main = made d0
+2 s0 tracker d0 = tracker t0
+3 s0 define d0 t0 o0 = defined u0 i0 2
+4 s0 define d0 t0 o1 = defined u1 i2 2
+"""
+PARITY = BOTH + """5 s1 ask d0:all ready main = pending q0
+6 s1 take = start u0
+7 s1 place u0 240 16 = placed 10000000
+8 s1 resolve u0 = resolved
+9 s1 link u0 = pending q1
+10 s1 take = start u1
+11 s1 place u1 96 16 = placed 100000f0
+12 s1 resolve u1 = resolved
+13 s1 link u1 = done q2
+14 s1 take = finish u0 bound i3,i2
+15 s1 emit u0 i0:i3,i2;i1:i3,i2 = emitted
+16 s1 take = finish u1 bound i0
+17 s1 emit u1 i2:i0;i3: = emitted
+18 s1 collect q0 = found 17 i1@10000064
+19 s1 image = image
+"""
+ALONE = """1 s0 dylib main = made d0
+2 s0 tracker d0 = tracker t0
+3 s0 define d0 t0 o0 = defined u0 i0 2
+4 s1 ask d0:all ready main = pending q0
+5 s1 take = start u0
+6 s1 place u0 240 16 = placed 10000000
+7 s1 resolve u0 = resolved
+8 s1 link u0 = missing calls
+9 s1 fail u0 missing calls = failed
+10 s1 collect q0 = failed 9 i1
+end dep failed i1
+"""
+# far.o has a jump in the place of a call, to 2 MiB behind its symbol: its object has no stub.
+FAR = BOTH + """5 s1 ask d0:all ready main = pending q0
+6 s1 take = start u0
+7 s1 place u0 208 16 = placed 10000000
+8 s1 resolve u0 = resolved
+9 s1 link u0 = pending q1
+10 s1 take = start u1
+11 s1 place u1 96 16 = placed 100000d0
+12 s1 resolve u1 = resolved
+13 s1 link u1 = done q2
+14 s1 take = finish u0 bound i3,i2
+15 s1 fail u0 refused 0 44 17 2097316 = failed
+16 s1 collect q0 = failed 15 i1
+end link refused 0 44 17 2097316
+"""
+NEEDS_FAR = BOTH + """5 s1 ask d0:all ready is_odd = pending q0
+6 s1 take = start u1
+7 s1 place u1 96 16 = placed 10000000
+8 s1 resolve u1 = resolved
+9 s1 link u1 = pending q1
+10 s1 take = start u0
+11 s1 place u0 208 16 = placed 10000060
+12 s1 resolve u0 = resolved
+13 s1 link u0 = done q2
+14 s1 take = finish u1 bound i0
+15 s1 emit u1 i2:i0;i3: = emitted
+16 s1 take = finish u0 bound i3,i2
+17 s1 fail u0 refused 0 44 17 2097012 = failed
+18 s1 collect q0 = failed 17 i2
+end dep failed i2
+"""
+TWICE = BOTH + """5 s0 define d0 t0 o1 = duplicate is_odd i2
+end define refused 1
+"""
+SAME = SETUP + """4 s0 define d0 t0 o0 = duplicate main i0
+end define refused 0
+"""
+# Where the relocation of the call of is_odd stands in even.o: its type, and its addend.
+CALL_TYPE, CALL_ADDEND = 1128, 1136
 # Where the instructions of hello.o stand in the file: `main`, and the one that sets the exit code.
 MAIN, CODE = 64, 88
 
@@ -46,8 +119,11 @@ def load_immediate(register, value):
     return (value << 20 | register << 7 | 0x13).to_bytes(4, "little")
 
 
-def files_of(hello):
+def files_of(hello, even, odd):
     return {
+        "even.o": even,
+        "odd.o": odd,
+        "far.o": patched(even, (CALL_TYPE, b"\x11"), (CALL_ADDEND, (1 << 21).to_bytes(8, "little"))),
         "hello.o": hello,
         "empty.o": b"",
         "cut.o": hello[:400],
@@ -76,11 +152,26 @@ CASES = [
     (["frob"], 100, "", "end usage unknown command\n"),
     (["--help"], 100, "", "end usage unknown command\n"),
     (["run"], 100, "", "end usage bad words\n"),
-    (["run", "hello.o", "hello.o"], 100, "", "end usage bad words\n"),
+    (["run", "even.o", "odd.o"], 8, "7 is odd\n", PARITY + "end exited 8\n"),
+    (["run", "--fuel=500", "even.o", "--entry=main", "--workers=0", "--", "odd.o"], 8, "7 is odd\n", PARITY + "end exited 8\n"),
+    (["run", "even.o"], 109, "", ALONE),
+    (["run", "far.o", "odd.o"], 108, "", FAR),
+    (["run", "far.o", "odd.o", "--entry", "is_odd"], 109, "", NEEDS_FAR),
+    (["run", "even.o", "odd.o", "odd.o"], 116, "", TWICE),
+    (["run", "hello.o", "hello.o"], 116, "", SAME),
+    (["run", *["hello.o"] * 1024], 116, "", SAME),
+    (["run", *["hello.o"] * 1025], 100, "", "end usage bad words\n"),
+    (["run", "even.o", "nosuch.o", "empty.o"], 102, "", "end file fault 1\n"),
+    (["run", "even.o", "even.o", "odd.o", "empty.o"], 105, "", "end object refused 2 e1 0\n"),
     (["run", "hello.o", "--entry"], 100, "", "end usage bad words\n"),
     (["run", "hello.o", "--fuel", "1", "--fuel", "1"], 100, "", "end usage bad words\n"),
     (["run", b"hello\xff.o"], 100, "", "end usage bad words\n"),
     (["run", "hello.o", "--fuel", "08"], 100, "", "end usage bad number\n"),
+    (["run", "hello.o", "--workers", "17"], 100, "", "end usage bad number\n"),
+    (["run", "hello.o", "--fuel", "-1"], 100, "", "end usage bad words\n"),
+    (["run", "hello.o", "--fuel=-1"], 100, "", "end usage bad number\n"),
+    (["run", "hello.o", "--entry="], 100, "", "end usage bad words\n"),
+    (["run", "--", "hello.o", "--workers"], 102, "", "end file fault 1\n"),
     (["run", "nosuch.o", "--fuel", "1099511627777"], 100, "", "end usage bad number\n"),
     (["run", "nosuch.o"], 102, "", "end file fault 0\n"),
     (["run", "."], 102, "", "end file fault 0\n"),
@@ -89,6 +180,16 @@ CASES = [
     (["run", "class32.o"], 105, "", "end object refused 0 e3\n"),
     (["run", "flags.o"], 105, "", "end object refused 0 e7 5\n"),
     (["run", "large.o"], 106, "", "end too long 0\n"),
+]
+
+
+# The words of runs with workers, the exit status, standard output and the end line.
+ENDS = [
+    (["run", "even.o", "odd.o"], 8, "7 is odd\n", "end exited 8"),
+    (["run", "odd.o", "even.o", "hello.o", "--entry", "is_odd"], 116, "", "end define refused 2"),
+    (["run", "hello.o"], 0, "hello\n", "end exited 0"),
+    (["run", "even.o"], 109, "", "end dep failed i1"),
+    (["run", "even.o", "odd.o", "--entry", "nosuch"], 107, "", "end missing nosuch"),
 ]
 
 
@@ -110,32 +211,46 @@ class Edge:
         told = self.run(words)
         self.compare(words, (status, out.encode(), log.encode()), (told.returncode, told.stdout, told.stderr))
 
+    def ending(self, words, status, out, end):
+        """A run with workers, whose journal may be any of many."""
+        told = self.run(words)
+        self.compare(words, (status, out.encode(), [end.encode()]), (told.returncode, told.stdout, told.stderr.splitlines()[-1:]))
+
     def write_fault(self, what, **how):
         """A write that fails is answered by the status alone, and the log isn't begun."""
         told = self.run(["run", "hello.o"], **how)
         self.compare(what, (103, b""), (told.returncode, told.stderr))
 
-    def compiled(self, compiler, target, name):
-        """A program of C ends and writes as its object that stands beside it."""
-        made = subprocess.run([compiler, *target, *CFLAGS, "-o", f"{self.folder}/made.o", f"{ROOT}/examples/{name}.c"], stderr=subprocess.PIPE)
-        self.compare(f"{compiler} {name}.c", 0, made.returncode)
-        shutil.copy(f"{ROOT}/examples/{name}.o", f"{self.folder}/kept.o")
-        ends = [self.run(["run", it, "--fuel", "100000000"]) for it in ("made.o", "kept.o")]
+    def compiled(self, compiler, target, names):
+        """A program of C ends and writes as its objects that stand beside its files."""
+        made, kept = [], []
+        for k, name in enumerate(names):
+            told = subprocess.run([compiler, *target, *CFLAGS, "-o", f"{self.folder}/made{k}.o", f"{ROOT}/examples/{name}.c"], stderr=subprocess.PIPE)
+            self.compare(f"{compiler} {name}.c", 0, told.returncode)
+            shutil.copy(f"{ROOT}/examples/{name}.o", f"{self.folder}/kept{k}.o")
+            made.append(f"made{k}.o")
+            kept.append(f"kept{k}.o")
+        ends = [self.run(["run", *it, "--fuel", "100000000"]) for it in (made, kept)]
         last = [(it.returncode, it.stdout, it.stderr.splitlines()[-1]) for it in ends]
-        self.compare(f"run {name}.c by {compiler}", last[1], last[0])
+        self.compare(f"run {', '.join(names)} by {compiler}", last[1], last[0])
 
 
 def main():
     orc = os.path.abspath(sys.argv[1] if len(sys.argv) > 1 else f"{ROOT}/orc")
-    with open(f"{ROOT}/examples/hello.o", "rb") as it:
-        hello = it.read()
+    kept = []
+    for name in ("hello", "parity/even", "parity/odd"):
+        with open(f"{ROOT}/examples/{name}.o", "rb") as it:
+            kept.append(it.read())
     with tempfile.TemporaryDirectory(prefix="orc-edge-") as folder:
-        for name, bytes_of in files_of(hello).items():
+        for name, bytes_of in files_of(*kept).items():
             with open(f"{folder}/{name}", "wb") as it:
                 it.write(bytes_of)
         edge = Edge(orc, folder)
         for case in CASES:
             edge.case(*case)
+        for words, *wanted in ENDS:
+            for workers in ("1", "4", "16"):
+                edge.ending([*words, "--workers", workers], *wanted)
         if os.path.exists("/dev/full"):
             with open("/dev/full", "wb") as full:
                 edge.write_fault("a full output", stdout=full)
@@ -145,8 +260,8 @@ def main():
             if not shutil.which(compiler):
                 print(f"skipped: the examples by {compiler}, which isn't installed")
                 continue
-            for name in ("sieve", "print"):
-                edge.compiled(compiler, target, name)
+            for names in (["sieve"], ["print"], ["parity/even", "parity/odd"]):
+                edge.compiled(compiler, target, names)
     print(f"{edge.tried} compared, {edge.wrong} differ")
     return 1 if edge.wrong else 0
 

@@ -7,6 +7,7 @@ LOG is what `orc` wrote on standard error (`-` is standard input). FILE .. are t
 order: with them sections, symbols and relocations are called by their names, and an address of a trap by
 the symbol that it lies in. Nothing but the log and the files is read.
 """
+import functools
 import re
 import sys
 
@@ -24,7 +25,6 @@ NOT_BUILT = {
     "group": "it has a section group", "rel": "it has relocations without addends", "tls": "it has thread-local sections",
     "compressed": "it has compressed sections", "sectionkind": "it has a placed section of a type that isn't built",
     "xindex": "it keeps a section number elsewhere", "bind": "it has a symbol of a binding that isn't built",
-    "form": "it is read, and needs what can't be had by itself: an undefined, weak, common or hidden symbol, a table of addresses, or more than 64 MiB",
 }
 TRAPS = {
     "fetch": "its bytes are not all mapped",
@@ -130,6 +130,61 @@ class Log:
             if place and place[1] in files:
                 yield files[place[1]], int(place[3], 16), int(place[2])
 
+    @functools.cached_property
+    def told(self):
+        """The file of each unit, the instances of each, and why each was given up that was."""
+        files, units, lost = {}, [], {}
+        for line in self.lines:
+            define = re.fullmatch(r"\d+ s\d+ define .* o(\d+) = defined u(\d+) i(\d+) (\d+)", line)
+            if define:
+                files[define[2]] = int(define[1])
+                units.append((int(define[3]), int(define[4]), define[2]))
+            fail = re.fullmatch(r"\d+ s\d+ fail u(\d+) (.*) = failed", line)
+            if fail:
+                lost[fail[1]] = fail[2]
+        return files, units, lost
+
+    def unit_of_instance(self, i):
+        return next((unit for first, count, unit in self.told[1] if first <= i < first + count), None)
+
+    def file_of_unit(self, unit):
+        files = self.told[0]
+        return self.file(files[unit]) if unit in files else "an object"
+
+    def edge(self, unit, block, at, kind, value):
+        files = self.told[0]
+        it = self.objects[files[unit]] if unit in files and files[unit] < len(self.objects) else None
+        what = it.relocation(block, at) if it else f"the relocation {type_name(kind)}"
+        where = f"{what} at {at} of {it.block(block) if it else f'placed section {block}'}"
+        return f"{where} of {self.file_of_unit(unit)} has the value {value}, which is out of its range"
+
+    def reason(self, unit, text):
+        """Why a unit was given up."""
+        word, *rest = text.split(" ")
+        named = self.file_of_unit(unit)
+        if word == "refused":
+            return self.edge(unit, *(int(it) for it in rest))
+        return {
+            "missing": f"no object defines {' '.join(rest)}, which {named} needs",
+            "inerror": f"{named} needs instance {rest[0] if rest else ''}, which had failed",
+            "baddep": f"{named} needs instance {rest[0] if rest else ''}, which failed meanwhile",
+            "noroom": f"code memory has no room for the {rest[0] if rest else ''} bytes of {named}",
+        }.get(word, f"{named} was given up ({text})")
+
+    def not_ready(self, i):
+        """Why the entry, instance i, couldn't be made ready: the units that were given up, by their own reasons."""
+        lost = self.told[2]
+        first = [self.reason(unit, text) for unit, text in lost.items() if text.split(" ")[0] not in ("inerror", "baddep")]
+        return "The entry couldn't be made ready: " + "; ".join(first or ["something that it needs failed"]) + "."
+
+    def clash(self, number):
+        """Which name of a file was defined before."""
+        for line in self.lines:
+            found = re.fullmatch(r"\d+ s\d+ define .* = duplicate (.*) i(\d+)", line, re.S)
+            if found:
+                return f"{self.file(number)} defines {found[1]}, which {self.file_of_unit(self.unit_of_instance(int(found[2])))} defines too."
+        return f"{self.file(number)} has more names than a session has room for, or one that was defined before."
+
     def address(self, text):
         at = int(text, 16)
         for number, base, need in self.units():
@@ -188,11 +243,21 @@ class Log:
             return f"The instruction at {self.address(rest[0])} couldn't be done: {cause}."
         if first == "object":
             number, why, *args = rest[1:]
-            return f"{self.file(int(number))} can't be run: {self.object_refusal(int(number), why, args)}."
+            return f"{self.file(int(number))} can't be linked: {self.object_refusal(int(number), why, args)}."
         if first == "usage":
             return {"no": "No command was named.", "unknown": "The command is none that is built."}.get(rest[0], "The words don't fit the command, or a number is malformed.")
         if first in ("file", "too"):
-            return f"{self.file(int(rest[1]))} {'is missing, or reading it failed' if first == 'file' else 'has more than 16 MiB'}."
+            return f"{self.file(int(rest[1]))} {'is missing, or reading it failed' if first == 'file' else 'has more than 16 MiB, or the files up to it have more than 256 MiB'}."
+        if first == "link":
+            block, at, kind, value = (int(it) for it in rest[1:])
+            cause = f"refused {block} {at} {kind} {value}"
+            unit = next((unit for unit, text in self.told[2].items() if text == cause), None)
+            edge = self.edge(unit, block, at, kind, value)
+            return f"{edge[0].upper()}{edge[1:]}."
+        if first == "dep":
+            return self.not_ready(int(rest[1][1:]))
+        if first == "define":
+            return self.clash(int(rest[1]))
         return {
             "read": "Reading the source failed.",
             "missing": f"No object has a symbol {' '.join(rest)} that is not local: name another entry, or mark it `.globl`.",
@@ -208,7 +273,7 @@ def main():
         print(__doc__.strip().split("\n\n")[1].strip(), file=sys.stderr)
         return 2
     text = sys.stdin.read() if sys.argv[1] == "-" else open(sys.argv[1], encoding="utf-8", errors="replace").read()
-    print(Log(text, [Object(it) for it in sys.argv[2:]]).words())
+    print(Log(text, [Object(it) for it in dict.fromkeys(sys.argv[2:])]).words())
     return 0
 
 

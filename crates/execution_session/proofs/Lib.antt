@@ -20,3 +20,4 @@ pub mod GivingUp
 pub mod Collected
 pub mod HeldCalls
 pub mod Generating
+pub mod Crossing

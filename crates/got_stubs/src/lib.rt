@@ -5,8 +5,8 @@
 //! definitions of `link_model`: the result of `synthesise` is the layout of the graph. A unit is
 //! smaller than 128 MiB, so no sum here passes 64 bits. The work is linear in the graph: one pass
 //! over the edges marks the symbols that they refer to, and then one goes over the symbols for each
-//! of the three lists. A `Plan` is what is prepared of a graph whatever names are live. Read `fixups`
-//! next for the image at a base.
+//! of the three lists. A `Plan` is what is prepared of a graph whatever names are live. Read
+//! `unit_fixups` next for the image at a base.
 #![tactic(auto)]
 
 mod blocks;

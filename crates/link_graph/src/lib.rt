@@ -5,7 +5,7 @@
 //! an object, by `specs/Object.antt`, and by `specs/Checks.antt` the first check that an object fails.
 //! Contracts see a graph as its lists of blocks, symbols and edges. The work is linear in the object.
 //! Read `elf_read` for the object and `link_model` for what the graph means; `got_stubs` lays it out
-//! next, and `fixups` applies its edges.
+//! next, and `unit_fixups` applies its edges.
 #![tactic(auto)]
 
 mod blocks;

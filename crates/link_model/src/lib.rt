@@ -4,7 +4,7 @@
 //!
 //! Contracts see a graph as its lists of blocks, symbols and edges, and the bytes of a unit as a
 //! function from place to byte. `link_graph` makes graphs of objects, `got_stubs` lays them out and
-//! `fixups` applies their edges, each by these definitions.
+//! `unit_fixups` applies their edges, each by these definitions.
 #![tactic(auto)]
 
 mod graph;

@@ -6,13 +6,16 @@
 
 ghost use Rattle.std.specs.Prelude.{◌≡◌, All, None, IfOk};
 
-use orc_cli::{Answer, UsageKind, end_line, orc};
+use command_line::UsageKind;
+use orc_cli::orc;
 use orc_io::{FolderFiles, Note, OpenGate, Sink, StdSink, StdSource, write_all};
+use run_answers::{Answer, end_line};
 use std::alloc::{AllocError, Global};
-use std::env;
+use std::io::ErrorKind;
 use std::process::ExitCode;
 use std::rc::RcStr;
 use std::rt::Env;
+use std::{env, io};
 
 /// How many notifiers a call is handed.
 const NOTES: usize = 16;
@@ -45,10 +48,11 @@ fn main(rt: HostRuntime) -> ExitCode {
     ExitCode::from(ended.status)
 }
 
-/// The words of the command line. Where one of them is no text, they don't fit.
+/// The words of the command line.
 fn words_of<R: Env + AllocGlobal>(rt: &R) -> Result<Vec<RcStr>, Answer> {
-    let Ok(args) = env::args(rt) else {
-        return Err(Answer::Usage(UsageKind::BadWords));
+    let args = match env::args(rt) {
+        Ok(args) => args,
+        Err(error) => return Err(without_words(&error)),
     };
     let mut words = Vec::new(rt.alloc());
     for arg in args {
@@ -62,6 +66,15 @@ fn words_of<R: Env + AllocGlobal>(rt: &R) -> Result<Vec<RcStr>, Answer> {
     Ok(words)
 }
 
+/// What is answered where the words can't be had: memory is wanting, or one of them is no text, so that
+/// they don't fit.
+fn without_words(error: &io::Error) -> Answer {
+    match error.kind() {
+        ErrorKind::OutOfMemory => Answer::NoMemory,
+        _ => Answer::Usage(UsageKind::BadWords),
+    }
+}
+
 /// Notifiers that nothing was told.
 fn fresh_notes(alloc: Global) -> Result<Vec<Note>, AllocError>
     ensures { IfOk result (λ notes. All (λ n. n.outcome ≡ None) notes.items) }
@@ -73,13 +86,17 @@ fn fresh_notes(alloc: Global) -> Result<Vec<Note>, AllocError>
     Ok(notes)
 }
 
-/// Ends with an answer that was found before the call.
+/// Ends with an answer that was found before the call; where there is no memory for its end line, with that.
 fn refuse<L: Sink>(alloc: Global, log: &mut L, answer: Answer) -> ExitCode {
-    let written = match end_line(alloc, &answer) {
-        Ok(line) => write_all(log, line.as_slice()),
-        Err(_) => Ok(()),
-    };
-    match written {
+    match end_line(alloc, &answer) {
+        Ok(line) => end_with(log, line.as_slice(), answer),
+        Err(_) => end_with(log, b"end no memory\n", Answer::NoMemory),
+    }
+}
+
+/// Writes the end line, and ends with the status of the answer.
+fn end_with<L: Sink>(log: &mut L, line: &[u8], answer: Answer) -> ExitCode {
+    match write_all(log, line) {
         Ok(()) => ExitCode::from(answer.status()),
         Err(_) => ExitCode::from(Answer::WriteFault.status()),
     }

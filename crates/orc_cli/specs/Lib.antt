@@ -1,12 +1,1 @@
-pub mod Words
-pub mod Answers
-pub mod EndLine
-pub mod Unit
-pub mod Form
-pub mod Outcomes
-pub mod Carried
-pub mod Lone
-pub mod ByNames
-pub mod Logged
-pub mod Answered
-pub mod Causes
+pub mod Loading

@@ -1,62 +1,87 @@
-ghost use Rattle.std.specs.Prelude.{◌≡◌, ◌≤◌, [], map, Ok};
-ghost use Rattle.orc_cli.specs.Words.{asked_by, request};
-ghost use Rattle.orc_cli.specs.Answered.{IsFound};
-ghost use Rattle.orc_cli.specs.Outcomes.{IsSilent};
+ghost use Rattle.std.specs.Prelude.{◌≡◌, ◌≤◌, [], IfErr, Ok};
+ghost use Rattle.command_line.specs.Words.{request};
+ghost use Rattle.command_line.specs.Words.{asked_by};
+ghost use Rattle.run_answers.specs.Answered.{IsFound, file_answer};
 
-use crate::answer::Answer;
-use crate::running::{Found, run_object};
-use crate::words::{RunWords, read_command};
+use crate::loading::load;
+use crate::running::{Found, run_loaded};
+use command_line::{CommandError, RunWords, read_command};
 use execution_session::JOURNAL_LIMIT;
+use object_files::LoadError;
 use orc_ids::Bytes;
-use orc_io::{FileError, Files};
+use orc_io::{Files, Gate};
 use orc_names::NameHasher;
+use run_answers::Answer;
 use std::alloc::Global;
 use std::rc::RcStr;
+use std::sync::Wait;
+use std::thread::Threads;
 
 /// What the words answer, before anything is written.
-pub fn find_answer<F: Files, const JMAX: usize>(
+pub(crate) fn find_answer<F: Files, G: Gate + Sync, R: Threads + Wait + Sync, const JMAX: usize>(
+    rt: &R,
     alloc: Global,
     hasher: NameHasher,
     words: &[RcStr],
     files: &mut F,
+    gate: &G,
 ) -> Found
     requires { JMAX ≤ JOURNAL_LIMIT }
-    ensures found { IsFound JMAX (asked_by words.now) (F.holds files.old) (F.faults files.old) (F.faults files.new) result.answer result.output result.journal }
+    ensures found { IsFound JMAX (asked_by words.now)
+        (F.holds files.old) (F.faults files.old) (F.faults files.new)
+        result.answer result.output result.journal }
     ensures counted { F.faults files.old ≤ F.faults files.new }
     ensures same { F.holds files.new ≡ F.holds files.old }
 {
-    match read_command(words) {
-        Ok(run) => run_file::<F, JMAX>(alloc, hasher, &run, files),
-        Err(kind) => silent(alloc, Answer::Usage(kind)),
+    match read_command(alloc, words) {
+        Ok(run) => run_files::<F, G, R, JMAX>(rt, alloc, hasher, &run, files, gate),
+        Err(CommandError::Usage(kind)) => silent(alloc, Answer::Usage(kind)),
+        Err(CommandError::NoMemory) => silent(alloc, Answer::NoMemory),
     }
 }
 
-/// What a run of a file answers.
-fn run_file<F: Files, const JMAX: usize>(
+/// What a file that isn't taken in answers.
+fn file_answer(why: LoadError) -> Answer
+    ensures { result ≡ file_answer why }
+{
+    match why {
+        LoadError::Fault(file) => Answer::FileFault(file),
+        LoadError::TooLong(file) => Answer::TooLong(file),
+        LoadError::Refused(file, why) => Answer::ObjectRefused(file, why),
+        LoadError::NoMemory => Answer::NoMemory,
+    }
+}
+
+/// What a run of files answers.
+fn run_files<F: Files, G: Gate + Sync, R: Threads + Wait + Sync, const JMAX: usize>(
+    rt: &R,
     alloc: Global,
     hasher: NameHasher,
     run: &RunWords<'_>,
     files: &mut F,
+    gate: &G,
 ) -> Found
-    requires { JMAX ≤ JOURNAL_LIMIT }
-    ensures found { IsFound JMAX (Ok (request run.now)) (F.holds files.old) (F.faults files.old) (F.faults files.new) result.answer result.output result.journal }
+    requires limit { JMAX ≤ JOURNAL_LIMIT }
+    requires few { run.now.workers ≤ 16 }
+    ensures found { IsFound JMAX (Ok (request run.now))
+        (F.holds files.old) (F.faults files.old) (F.faults files.new)
+        result.answer result.output result.journal }
     ensures counted { F.faults files.old ≤ F.faults files.new }
     ensures same { F.holds files.new ≡ F.holds files.old }
 {
-    match files.read_file(alloc, run.file) {
-        Ok(bytes) => match run_object::<JMAX>(alloc, hasher, bytes.as_slice(), run) {
+    match load(alloc, hasher, run, files) {
+        Ok(loaded) => match run_loaded::<G, R, JMAX>(rt, alloc, gate, loaded, run) {
             Ok(found) => found,
             Err(_) => silent(alloc, Answer::NoMemory),
         },
-        Err(FileError::TooLong) => silent(alloc, Answer::TooLong(0)),
-        Err(FileError::Failed) => silent(alloc, Answer::FileFault(0)),
-        Err(FileError::NoMemory) => silent(alloc, Answer::NoMemory),
+        Err(why) => silent(alloc, file_answer(why)),
     }
 }
 
-/// An answer without output.
+/// An answer without output, and without a session.
 fn silent(alloc: Global, answer: Answer) -> Found
-    ensures silent { IsSilent answer result.answer result.output }
+    ensures answer { result.answer ≡ answer }
+    ensures output { result.output ≡ [] }
     ensures journal { result.journal ≡ [] }
 {
     Found {

@@ -1,11 +1,10 @@
 ghost use Rattle.std.specs.Prelude.{◌≡◌, ◌≤◌, ◌++◌, ℕ, List, IfOk};
-ghost use Rattle.orc_cli.specs.EndLine.{end_line_of};
-ghost use Rattle.orc_cli.specs.Answered.{IsWritten, IsFinished, held_by};
+ghost use Rattle.run_answers.specs.EndLine.{end_line_of};
+ghost use Rattle.run_answers.specs.Answered.{IsWritten, IsFinished, held_by};
 
-use crate::answer::Answer;
 use crate::running::Found;
-use crate::texts::end_line;
 use orc_io::{Sink, write_all};
+use run_answers::{Answer, end_line};
 use std::alloc::{AllocError, Global};
 
 /// Writes what was found, and answers it.
@@ -15,7 +14,10 @@ pub fn write_found<O: Sink, L: Sink>(
     out: &mut O,
     log: &mut L,
 ) -> Answer
-    ensures written { IsFinished (held_by (O.held out.old) (O.faults out.old)) (held_by (O.held out.new) (O.faults out.new)) (held_by (L.held log.old) (L.faults log.old)) (held_by (L.held log.new) (L.faults log.new)) found.answer found.output found.journal result }
+    ensures written { IsFinished
+        (held_by (O.held out.old) (O.faults out.old)) (held_by (O.held out.new) (O.faults out.new))
+        (held_by (L.held log.old) (L.faults log.old)) (held_by (L.held log.new) (L.faults log.new))
+        found.answer found.output found.journal result }
     ensures out_counted { O.faults out.old ≤ O.faults out.new }
     ensures log_counted { L.faults log.old ≤ L.faults log.new }
 {
@@ -48,7 +50,10 @@ fn write_texts<O: Sink, L: Sink>(
     out: &mut O,
     log: &mut L,
 ) -> Answer
-    ensures written { (journal : List ℕ) → text.now ≡ journal ++ end_line_of answer → IsWritten (held_by (O.held out.old) (O.faults out.old)) (held_by (O.held out.new) (O.faults out.new)) (held_by (L.held log.old) (L.faults log.old)) (held_by (L.held log.new) (L.faults log.new)) answer output.now journal result }
+    ensures written { (journal : List ℕ) → text.now ≡ journal ++ end_line_of answer → IsWritten
+        (held_by (O.held out.old) (O.faults out.old)) (held_by (O.held out.new) (O.faults out.new))
+        (held_by (L.held log.old) (L.faults log.old)) (held_by (L.held log.new) (L.faults log.new))
+        answer output.now journal result }
     ensures out_counted { O.faults out.old ≤ O.faults out.new }
     ensures log_counted { L.faults log.old ≤ L.faults log.new }
 {

@@ -2,6 +2,7 @@ ghost use Rattle.std.specs.Prelude.{◌≡◌, ◌≤◌, All, None, IfOk};
 
 mod common;
 mod hello;
+mod objects;
 
 use common::COMMON;
 use hello::HELLO;
@@ -36,7 +37,7 @@ fn two_notes(alloc: Global) -> Result<Vec<Note>, AllocError>
     Ok(notes)
 }
 
-fn call<R: Threads + Wait + RandomSource + AllocGlobal, F: Files, O: Sink, L: Sink>(
+fn call<R: Threads + Wait + Sync + RandomSource + AllocGlobal, F: Files, O: Sink, L: Sink>(
     rt: &R,
     words: &[&str],
     files: &mut F,
@@ -74,7 +75,7 @@ fn patched(alloc: Global, patches: &[(u8, u32)]) -> Result<Bytes, AllocError> {
 }
 
 /// Runs a patched copy of `hello.o` over an outside that never fails.
-fn expect<R: Threads + Wait + RandomSource + Abort + AllocGlobal>(
+fn expect<R: Threads + Wait + Sync + RandomSource + Abort + AllocGlobal>(
     rt: &R,
     patches: &[(u8, u32)],
     status: u8,
@@ -94,7 +95,7 @@ fn expect<R: Threads + Wait + RandomSource + Abort + AllocGlobal>(
 }
 
 /// Calls over a file `hello.o`, with sinks that have some room and none that fails by itself.
-fn expect_words<R: Threads + Wait + RandomSource + Abort + AllocGlobal>(
+fn expect_words<R: Threads + Wait + Sync + RandomSource + Abort + AllocGlobal>(
     rt: &R,
     words: &[&str],
     status: u8,
@@ -149,7 +150,7 @@ end missing nosuch
 ";
 
 /// The log of a run of `hello.o`.
-fn log_of<R: Threads + Wait + RandomSource + Abort + AllocGlobal>(
+fn log_of<R: Threads + Wait + Sync + RandomSource + Abort + AllocGlobal>(
     rt: &R,
     words: &[&str],
     expected: &[u8],
@@ -195,7 +196,7 @@ end journal full 11
 ";
 
 /// The status and the log of a run of `hello.o` with a journal of so many places.
-fn sized_run<R: Threads + Wait + RandomSource + Abort + AllocGlobal, const JMAX: usize>(
+fn sized_run<R: Threads + Wait + Sync + RandomSource + Abort + AllocGlobal, const JMAX: usize>(
     rt: &R,
     status: u8,
     expected: &[u8],
@@ -319,7 +320,7 @@ fn patched_copies_end_as_their_words_say(rt: HostRuntime) -> Result<(), Fail> {
     Ok(())
 }
 
-const CALLS: [(&[&str], u8, &[u8]); 25] = [
+const CALLS: [(&[&str], u8, &[u8]); 28] = [
     (
         &["orc", "run", "hello.o", "--entry", "main"],
         0,
@@ -420,9 +421,33 @@ const CALLS: [(&[&str], u8, &[u8]); 25] = [
         b"end usage bad words\n",
     ),
     (
-        &["orc", "run", "--fuel", "9", "hello.o"],
+        &[
+            "orc",
+            "run",
+            "--fuel=9",
+            "--entry=main",
+            "--workers",
+            "3",
+            "hello.o",
+        ],
+        0,
+        b"end exited 0\n",
+    ),
+    (
+        &["orc", "run", "hello.o", "--workers", "17"],
         100,
-        b"end usage bad words\n",
+        b"end usage bad number\n",
+    ),
+    // the same file twice defines the same name twice
+    (
+        &["orc", "run", "hello.o", "--", "hello.o"],
+        116,
+        b"end define refused 0\n",
+    ),
+    (
+        &["orc", "run", "hello.o", "nofile.o"],
+        102,
+        b"end file fault 1\n",
     ),
 ];
 
@@ -493,7 +518,7 @@ fn changed(alloc: Global, changes: &[(usize, u8)]) -> Result<Bytes, AllocError> 
 /// Bytes of `hello.o` to change, and the end line.
 type Change = (&'static [(usize, u8)], &'static [u8]);
 
-const CHANGES: [Change; 14] = [
+const CHANGES: [Change; 13] = [
     // a relocation of type 60, one that passes its section's end, and one whose label has no upper part
     (&[(120, 0x3C)], b"end object refused 0 g1 60 0 4\n"),
     (&[(112, 34)], b"end object refused 0 g2 0 34\n"),
@@ -509,13 +534,12 @@ const CHANGES: [Change; 14] = [
     // a refusal of the bytes comes before one of the graph
     (&[(124, 9), (212, 6)], b"end object refused 0 e10 3\n"),
     // main is weak, hidden, undefined; or of a section that is passed over
-    (&[(236, 0x20)], b"end object refused 0 e12 form\n"),
-    (&[(237, 2)], b"end object refused 0 e12 form\n"),
-    (&[(238, 0)], b"end object refused 0 e12 form\n"),
-    (&[(238, 5)], b"end object refused 0 e12 form\n"),
-    // a cell of the global offset table, and a value that is out of range by its addend
-    (&[(120, 20)], b"end object refused 0 e12 form\n"),
-    (&[(131, 0x80)], b"end object refused 0 e12 form\n"),
+    (&[(236, 0x20)], b"end exited 0\n"),
+    (&[(237, 2)], b"end exited 0\n"),
+    (&[(238, 0)], b"end missing main\n"),
+    (&[(238, 5)], b"end missing main\n"),
+    // a value that is out of range by its addend
+    (&[(131, 0x80)], b"end link refused 0 4 23 2147483680\n"),
     // main is at the absolute address 8
     (&[(238, 0xF1), (239, 0xFF), (240, 8)], b"end trap 8 fetch\n"),
 ];

@@ -11,3 +11,4 @@ pub mod Listing
 pub mod Lodging
 pub mod Session
 pub mod Current
+pub mod Crossing

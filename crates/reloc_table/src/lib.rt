@@ -3,7 +3,7 @@
 //! It states the RISC-V ELF psABI's "Relocations" by the definitions of `link_model`: `value` is the
 //! value of an edge, and `patch` its write or the refusal of a value out of range. What `patch` writes
 //! in an instruction format is what the immediates of `orc_words` read back. No call takes memory.
-//! Read `fixups` next for the edges of a whole graph.
+//! Read `unit_fixups` next for the edges of a whole graph.
 #![tactic(auto)]
 
 mod parts;

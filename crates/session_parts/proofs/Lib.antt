@@ -27,3 +27,4 @@ pub mod LostNames
 pub mod Exchanges
 pub mod Entered
 pub mod Beginning
+pub mod Crossing

@@ -4,9 +4,8 @@
 //! What a unit is, `specs/Meaning.antt` says of a graph by the definitions of `link_model`, and
 //! `specs/Others.antt` of the others: offers, shape, addresses, externals, image, groups and refusal.
 //! Contracts see an `ObjectUnit` by that meaning. The graph and its plan are held by an `Arc`, so that a
-//! share of a unit is cheap and nothing is laid out anew. `finish` makes what an emit hands in.
-//! `object_unit` has units of objects that need no other, and goes once the program links several
-//! objects. Read `session_model` for what a session asks of a unit.
+//! share of a unit is cheap and nothing is laid out anew. `finish` makes what an emit hands in. Read
+//! `session_model` for what a session asks of a unit, and `link_worker` for who emits it.
 #![tactic(auto)]
 
 mod absolute_unit;

@@ -4,8 +4,8 @@
 //! `fix` is the image of the unit, and its refusal names the first edge whose value is out of its
 //! range. Contracts see an image as the list of its bytes. What edges reach of each symbol (its address,
 //! its GOT cell and its stub) stands in three tables by symbol, and the values of upper parts in one by
-//! place, so that the work is linear in the graph. `fixups` is the same for units that need no other, and
-//! goes once the program links several objects. Read `reloc_table` for a single edge.
+//! place, so that the work is linear in the graph. Read `reloc_table` for a single edge, and
+//! `session_units` for the unit that the image is of.
 #![tactic(auto)]
 
 mod alone;

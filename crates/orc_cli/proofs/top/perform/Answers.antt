@@ -1,6 +1,6 @@
 -- What was found was written; and all notes are the first ones.
 use Rattle.orc_cli.proofs.AllTaken.{all_taken}
-use Rattle.orc_cli.proofs.Clauses.{answered}
+use Rattle.orc_cli.proofs.Finished.{answered}
 use Rattle.orc_cli.proofs.top.perform.Goals as goal
 
 pub returns-clause-answered : goal.returns-clause-answered

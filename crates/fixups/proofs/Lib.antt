@@ -1,6 +1,0 @@
-pub mod Closed
-pub mod Placing
-pub mod Inside
-pub mod Pairs
-pub mod Pieces
-pub mod Whole

@@ -1,0 +1,101 @@
+-- What a lookup comes to, and a copy of the memory after it.
+use Rattle.std.proofs.Common.{◌≡◌, ℕ, ◌-◌, Bool, true, false, List, [], ◌∷◌, ◌++◌, take, append-nil, refl, sym, ap, subst, ◌∙◌, Option, None, Result, Ok, Err}
+use Rattle.std.proofs.lemmas.Bool.{both_ways}
+use Rattle.std.proofs.lemmas.List.Elements.{All-append, All-cons, All-nil}
+use Rattle.orc_ids.specs.declared.ids.NameId.{NameId}
+use Rattle.orc_ids.specs.declared.ids.UnitId.{UnitId}
+use Rattle.orc_ids.specs.declared.lookup.Outcome.{Outcome}
+use Rattle.orc_ids.specs.declared.lookup.Stop.{Stop}
+use Rattle.orc_ids.specs.declared.lookup.Stop.TheVariants as stop
+use Rattle.orc_ids.specs.declared.place.Shape.{Shape}
+use Rattle.code_memory.specs.declared.image.Segment.{Segment}
+use Rattle.session_model.specs.Calls.{IsStopped, Looks}
+use Rattle.session_model.specs.Meaning.{Meaning, Bindings}
+use Rattle.session_model.specs.State.{state}
+use Rattle.session_model.specs.declared.entry.Entry.{Entry}
+use Rattle.session_model.specs.declared.entry.Event.TheVariants as event
+use Rattle.execution_session.specs.Handed.{IsLowest}
+use Rattle.notifiers.specs.declared.notice.Notice.{Notice}
+use Rattle.notifiers.specs.declared.notice.Unheard.{Unheard}
+use Rattle.turn_lock.specs.declared.view.View.{View}
+use Rattle.seat_calls.specs.Did.{Did, Nothing, Then}
+use Rattle.seat_calls.proofs.Doing.{less_is_done, parts_are_done}
+use Rattle.link_worker.specs.Does.{Does, PlacesLowest, ToldAt}
+use Rattle.link_worker.specs.Looks.{EndsAs, HasLooked, end_stopped, left_of}
+use Rattle.link_worker.specs.declared.looking.LookEnd.{LookEnd}
+use Rattle.link_worker.specs.declared.looking.LookEnd.TheVariants as end
+use Rattle.link_worker.proofs.Telling.{is_placing, places_nothing}
+use Rattle.link_worker.proofs.Working.{stopped_since}
+use Rattle.run_laws.specs.Runs.{lookup_of}
+use Rattle.linked_program.specs.Clients.{Begins, Copies, Ends, IsClient, LookedUp, found_in}
+use Rattle.seat_work.specs.Copies.{CopiesAt, IsStoppedAt, OneCopy}
+
+module _ {U N : Type 0} (means : U → Meaning) (heard : N → Option Outcome) (jmax : ℕ) (v w : View (Entry U)) (old new : List (Notice N)) where
+  -- what a lookup of the entry came to, whoever was told
+  module _ (entry : NameId) (then' back : Option (Unheard N)) where
+    found_end : (e : LookEnd) → Does means heard v w old new (λ h cs. Looks h (lookup_of entry) cs × EndsAs e cs × (back ≡ left_of then' cs)) → Did means v w (Ends entry e)
+    found_end e does = less_is_done means v w (λ h cs. (Looks h (lookup_of entry) cs × EndsAs e cs × (back ≡ left_of then' cs)) × ToldAt h cs does.told × PlacesLowest h cs) (Ends entry e)
+        (λ h cs k. (k.0.0, k.0.1, k.2)) does.did
+
+    stopped_end : Does means heard v w old new (λ h cs. IsStopped (Looks h (lookup_of entry)) cs × (back ≡ left_of then' cs)) → Did means v w (Begins entry)
+    stopped_end does = less_is_done means v w (λ h cs. (IsStopped (Looks h (lookup_of entry)) cs × (back ≡ left_of then' cs)) × ToldAt h cs does.told × PlacesLowest h cs) (Begins entry)
+        (λ h cs k. (k.0.0, k.2)) does.did
+
+    pub looked_up : (e : LookEnd) → HasLooked means heard jmax v w old new (lookup_of entry) then' e back → LookedUp means jmax entry v w e
+    looked_up (end.Found matches) has = found_end (end.Found matches) has
+    looked_up (end.Failed i) has = found_end (end.Failed i) has
+    looked_up (end.InError i) has = found_end (end.InError i) has
+    looked_up (end.Missing name) has = found_end (end.Missing name) has
+    looked_up (end.NoDylib d) has = found_end (end.NoDylib d) has
+    looked_up (end.JournalFull len) has = (stopped_end has.0, has.1)
+    looked_up end.NoMemory has = stopped_end has
+
+-- what a call placed is at the lowest base
+abbrev Lowest : List (Entry Meaning) → ℕ × Entry Meaning → Type 0
+Lowest h c = (u : UnitId) (shape : Shape) → c.1.event ≡ event.Place u shape → IsLowest (state (take (c.0 - 1) h)) shape c.1.reply
+
+-- a lookup that was found
+abbrev is_ok : {A B : Type 0} → Result A B → Bool
+is_ok (Ok a) = true
+is_ok (Err b) = false
+
+abbrev matches_in : Bindings → Result Bindings LookEnd → Bindings
+matches_in other (Ok m) = m
+matches_in other (Err e) = other
+
+found_is : (e : LookEnd) (m : Bindings) → found_in e ≡ Ok m → e ≡ end.Found m
+found_is (end.Found x) m is = ap (λ r. end.Found (matches_in x r)) is
+found_is _ m is = absurd (both_ways true (ap is_ok (sym is)) refl)
+
+module _ {U : Type 0} (means : U → Meaning) (jmax : ℕ) (entry : NameId) (v x w : View (Entry U)) (e : LookEnd) (m : Bindings) (is : found_in e ≡ Ok m) (looked : LookedUp means jmax entry v x e) where
+  found_first : Did means v x (Ends entry (end.Found m))
+  found_first = subst (LookedUp means jmax entry v x) (found_is e m is) looked
+
+  copies : (image : List Segment) (h : List (Entry Meaning)) (cs : List (ℕ × Entry Meaning)) → Then (Ends entry (end.Found m)) (OneCopy image) h cs → Copies entry (end.Found m) image h cs
+  copies image h cs t =
+      let copy = t.4 in
+      let are : cs ≡ t.0 ++ (copy.0, copy.1) ∷ [] = t.2 ∙ ap (λ l. t.0 ++ l) copy.2 in
+      record {
+        looked = t.0;
+        number = copy.0;
+        copy = copy.1;
+        are = are;
+        looks = t.3.0;
+        ends = t.3.1;
+        copies = copy.3;
+        has = copy.4;
+        lowest = subst (PlacesLowest h) (sym are) (All-append (Lowest h) t.0 ((copy.0, copy.1) ∷ []) t.3.2
+            (All-cons (Lowest h) (copy.0, copy.1) [] (places_nothing (state (take (copy.0 - 1) h)) copy.1.event copy.1.reply (subst (λ f. is_placing f ≡ false) (sym copy.3) refl)) (All-nil (Lowest h))));
+      }
+
+  pub looked_and_copied : (image : List Segment) → CopiesAt means x w image → Did means v w (Copies entry (end.Found m) image)
+  looked_and_copied image copy = less_is_done means v w (Then (Ends entry (end.Found m)) (OneCopy image)) (Copies entry (end.Found m) image) (copies image) (parts_are_done means v x w (Ends entry (end.Found m)) (OneCopy image) found_first copy)
+
+  only_looked : Did means x w Nothing → Did means v w (Begins entry)
+  only_looked none = less_is_done means v w (Then (Ends entry (end.Found m)) Nothing) (Begins entry)
+      (λ h cs t. subst (Begins entry h) (sym (t.2 ∙ (ap (λ l. t.0 ++ l) t.4 ∙ append-nil t.0))) (record { rest = []; would = subst (Looks h (lookup_of entry)) (sym (append-nil t.0)) t.3.0 }, t.3.2))
+      (parts_are_done means v x w (Ends entry (end.Found m)) Nothing found_first none)
+
+  pub looked_and_stopped : (st : Stop) → IsStoppedAt means jmax x w st → IsClient means jmax entry v w (end_stopped st) None
+  looked_and_stopped (stop.JournalFull len) s = (only_looked s.0, stopped_since means jmax v.seen x.seen w.seen (stop.JournalFull len) found_first.later s.1)
+  looked_and_stopped stop.NoMemory s = only_looked s.0

@@ -1,0 +1,5 @@
+mod SetUp
+mod SetUpAll
+mod ClientCalls
+mod Assembling
+mod MemberDuties

@@ -1,3 +1,0 @@
-pub mod Lawful
-pub mod Looked
-pub mod Grouped

@@ -1,9 +1,0 @@
-use Rattle.std.proofs.Common.{◌≡◌, ◌++◌, map, drop}
-use Rattle.std.specs.Prelude.{filter}
-use Rattle.link_model.specs.Graph.{is_offered}
-use Rattle.link_model.specs.Offers.{offered_symbols}
-use Rattle.object_unit.specs.Offered.{offer_of}
-use Rattle.object_unit.proofs.offers.all_offers.Given as goal
-
-abbrev pub invariant-loop-s : goal.invariant-loop-s
-invariant-loop-s l = l.all.items ++ map offer_of (filter is_offered (drop l.s-index l.g.symbols)) ≡ map offer_of (offered_symbols l.g)

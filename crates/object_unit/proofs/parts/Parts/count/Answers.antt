@@ -1,6 +1,0 @@
-use Rattle.std.proofs.Common.{rules}
-use Rattle.object_unit.proofs.Looked.{offers_few}
-use Rattle.object_unit.proofs.parts.Parts.count.Goals as goal
-
-pub overflow_cast-result : goal.overflow_cast-result
-overflow_cast-result c = search (rules, offers_few c.self.inside.graph c.self.inside.offers.items c.self.invariant.4 c.self.invariant.1)

@@ -1,5 +1,0 @@
-use Rattle.object_unit.proofs.Looked.{found_in}
-use Rattle.object_unit.proofs.parts.Parts.offer.Goals as goal
-
-pub returns : goal.returns
-returns c = (found_in c.self.inside.graph c.args.self.now c.self.inside.offers.items c.args.k c.index-offer.result.now c.self.view_is c.self.invariant.0 c.self.invariant.4 c.requires c.index-offer.ensures).offer

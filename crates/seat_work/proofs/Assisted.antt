@@ -1,0 +1,25 @@
+-- What a seat that assisted has done.
+use Rattle.std.proofs.Common.{ℕ, List, Option}
+use Rattle.orc_ids.specs.declared.lookup.Outcome.{Outcome}
+use Rattle.session_model.specs.Meaning.{Meaning}
+use Rattle.session_model.specs.declared.entry.Entry.{Entry}
+use Rattle.notifiers.specs.declared.notice.Notice.{Notice}
+use Rattle.turn_lock.specs.declared.view.View.{View}
+use Rattle.seat_calls.specs.Did.{Did}
+use Rattle.seat_calls.proofs.Doing.{less_is_done}
+use Rattle.link_worker.specs.Does.{Does, PlacesLowest, ToldAt}
+use Rattle.link_worker.specs.Works.{HasAssisted, Jobs}
+use Rattle.link_worker.specs.declared.work.Worked.{Worked}
+use Rattle.link_worker.specs.declared.work.Worked.TheVariants as worked
+use Rattle.seat_work.specs.Assists.{Works}
+
+module _ {U N : Type 0} (means : U → Meaning) (heard : N → Option Outcome) (jmax : ℕ) (v w : View (Entry U)) (old new : List (Notice N)) where
+  -- the jobs that were done, whoever was told
+  only_jobs : Does means heard v w old new Jobs → Did means v w Works
+  only_jobs does = less_is_done means v w (λ h cs. Jobs h cs × ToldAt h cs does.told × PlacesLowest h cs) Works (λ h cs k. (k.0, k.2)) does.did
+
+  pub assisted : (e : Worked) → HasAssisted means heard jmax v w old new e → Did means v w Works
+  assisted worked.Did has = absurd has
+  assisted worked.Idle has = only_jobs has
+  assisted (worked.JournalFull len) has = only_jobs has.0
+  assisted worked.NoMemory has = only_jobs has
