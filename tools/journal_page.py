@@ -1,162 +1,188 @@
 #!/usr/bin/env python3
-"""Makes one page of a log, on which its journal can be looked at.
+"""Makes one page of a log, on which the link can be looked at.
 
-    tools/journal_page.py LOG > page.html
+    tools/journal_page.py LOG [FILE ..] [-o PAGE.html]
 
-LOG is what `orc` wrote on standard error (`-` is standard input). The page needs nothing beside it. It has
-a lane for each seat with its entries, a bar for each unit from its first job to its end, and the graph of
-instances at the entry that a slider chooses, coloured by how far each has come. Entries and instances say
-what they are when they are pointed at.
-"""
+LOG is what `orc` wrote on standard error (`-` is standard input), and the page is PAGE.html, or standard output. It
+needs nothing beside it. It has a lane for each seat with its entries, a bar for each unit from its first job to its
+end, how far the instances have come over time, and the graph of instances at the entry that a slider chooses. FILE ..
+are the files of the command, in order: with them units and instances have the names of files and symbols, where the
+log alone tells few. Of a log too long to be drawn at once, the page draws the part around the chosen entry."""
+import argparse
 import html
 import json
+import pathlib
+import re
 import sys
 
-import journal
+from explain import Explanation
+from journal import PHASES, REFUSALS, LogError, read_file
 from journal_dot import COLOURS
+from object_names import object_of, objects_of
 
-PAGE = """<!doctype html>
-<meta charset="utf-8">
-<title>%(title)s</title>
-<style>
-body { font: 14px/1.4 system-ui, sans-serif; margin: 1.5em; color: #222; max-width: 1200px; }
-h1 { font-size: 1.3em; } h2 { font-size: 1em; margin: 1.2em 0 .3em; }
-svg { display: block; border: 1px solid #ddd; background: #fff; max-width: 100%%; }
-text { font: 12px system-ui, sans-serif; fill: #333; }
-pre { background: #f6f6f6; padding: .5em .8em; overflow-x: auto; }
-.key span { display: inline-block; padding: 0 .6em; margin-right: .5em; border: 1px solid #999; border-radius: 9px; }
-input { width: 60%%; vertical-align: middle; }
-.now { fill: #d33; }
-</style>
-<h1>%(title)s</h1>
-<p>%(end)s</p>
-<p><label>Entry <output id="at"></output> of %(count)s <input id="slider" type="range" min="1" max="%(count)s" value="%(count)s"></label></p>
-<pre id="entry"></pre>
-<h2>Seats and units</h2>
-<svg id="lanes"></svg>
-<h2>Instances, and what each depends on</h2>
-<p class="key">%(key)s</p>
-<svg id="graph"></svg>
-<script>
-const DATA = %(data)s, COLOURS = %(colours)s;
-const NS = "http://www.w3.org/2000/svg";
-function put(to, tag, attributes, title) {
-  const it = document.createElementNS(NS, tag);
-  for (const name in attributes) it.setAttribute(name, attributes[name]);
-  if (title) { const t = document.createElementNS(NS, "title"); t.textContent = title; it.append(t); }
-  to.append(it);
-  return it;
-}
-function label(to, x, y, words, anchor) { put(to, "text", {x, y, "text-anchor": anchor || "start"}).textContent = words; }
-const LEFT = 90, STEP = Math.max(6, Math.min(40, 1000 / DATA.entries.length)), ROW = 22;
-const x = n => LEFT + (n - 0.5) * STEP;
-function lanes() {
-  const svg = document.getElementById("lanes"), seats = [...new Set(DATA.entries.map(e => e.seat))].sort((a, b) => a - b);
-  const width = LEFT + STEP * DATA.entries.length + 10, height = ROW * (seats.length + DATA.units.length) + 10;
-  svg.setAttribute("viewBox", `0 0 ${width} ${height}`); svg.setAttribute("width", width);
-  const marker = put(svg, "rect", {y: 0, width: STEP, height, fill: "#fdd"});
-  seats.forEach((seat, row) => {
-    const y = ROW * (row + 0.5) + 5;
-    label(svg, 5, y + 4, seat ? `seat ${seat}` : "seat 0, setup");
-    put(svg, "line", {x1: LEFT, x2: width, y1: y, y2: y, stroke: "#ddd"});
-    for (const e of DATA.entries.filter(e => e.seat === seat))
-      put(svg, "circle", {cx: x(e.number), cy: y, r: 4, fill: "#468"}, e.text).onclick = () => show(e.number);
-  });
-  DATA.units.forEach((u, k) => {
-    const y = ROW * (seats.length + k + 0.5) + 5;
-    label(svg, 5, y + 4, `u${k} ${u.name}`);
-    if (!u.steps.length) return;
-    const from = x(u.steps[0]) - 4, to = x(u.steps[u.steps.length - 1]) + 4;
-    put(svg, "rect", {x: from, width: to - from, y: y - 6, height: 12, rx: 4, fill: u.phase === "failed" ? "#f99" : u.phase === "gone" ? "#ddd" : "#9cd", stroke: "#678"}, `unit ${k}, ${u.name}: ${u.phase}${u.base ? ", " + u.need + " bytes at " + u.base : ""}`);
-    for (const n of u.steps) put(svg, "line", {x1: x(n), x2: x(n), y1: y - 6, y2: y + 6, stroke: "#357"}, DATA.entries[n - 1].text);
-  });
-  return n => marker.setAttribute("x", x(n) - STEP / 2);
-}
-function graph() {
-  const svg = document.getElementById("graph"), places = {}, across = Math.max(1, Math.ceil(Math.sqrt(DATA.units.length * 2)));
-  let y = 30, tallest = 0;
-  DATA.units.forEach((u, k) => {
-    const column = k %% across;
-    if (column === 0 && k) { y += tallest + 40; tallest = 0; }
-    const height = 26 * Math.max(1, u.rows.length);
-    tallest = Math.max(tallest, height);
-    put(svg, "rect", {x: 20 + column * 150, y: y - 4, width: 110, height: height + 8, rx: 6, fill: "none", stroke: "#bbb"});
-    label(svg, 24 + column * 150, y - 8, `u${k} ${u.name}`);
-    u.rows.forEach((i, j) => { places[i] = [75 + column * 150, y + 13 + 26 * j]; });
-  });
-  svg.setAttribute("viewBox", `0 0 ${40 + across * 150} ${y + tallest + 20}`); svg.setAttribute("width", Math.min(1200, 40 + across * 150));
-  const defs = put(svg, "defs", {}), head = put(defs, "marker", {id: "head", viewBox: "0 0 8 8", refX: 8, refY: 4, markerWidth: 7, markerHeight: 7, orient: "auto"});
-  put(head, "path", {d: "M0 0 L8 4 L0 8 z", fill: "#666"});
-  const edges = DATA.deps.map(([n, i, j]) => {
-    const [a, b] = places[i], [c, d] = places[j], bend = i === j ? 30 : 12;
-    const it = put(svg, "path", {d: `M${a} ${b} Q${(a + c) / 2 + bend} ${(b + d) / 2 - bend} ${c + (a > c ? 22 : a < c ? -22 : 0)} ${d}`, fill: "none", stroke: "#666", "marker-end": "url(#head)"}, `i${i} depends on i${j}`);
-    return [n, it];
-  });
-  const nodes = Object.entries(places).map(([i, [cx, cy]]) => {
-    const it = put(svg, "ellipse", {cx, cy, rx: 22, ry: 10, stroke: "#555"}), title = put(it, "title", {});
-    label(svg, cx, cy + 4, `i${i}`, "middle");
-    return [Number(i), it, title];
-  });
-  return n => {
-    const phases = DATA.phases[n - 1];
-    for (const [i, it, title] of nodes) {
-      const phase = i < phases.length ? phases[i] : null;
-      it.setAttribute("fill", phase === null ? "none" : COLOURS[phase]);
-      it.setAttribute("stroke-dasharray", phase === null || phase === "gone" ? "3" : "");
-      title.textContent = `i${i}: ${phase === null ? "not defined yet" : phase}`;
-    }
-    for (const [at, it] of edges) it.setAttribute("visibility", at <= n ? "visible" : "hidden");
-  };
-}
-const parts = DATA.entries.length ? [lanes(), graph()] : [], slider = document.getElementById("slider");
-function show(n) {
-  slider.value = n;
-  document.getElementById("at").textContent = n;
-  document.getElementById("entry").textContent = DATA.entries[n - 1].text;
-  for (const part of parts) part(n);
-}
-slider.oninput = () => show(Number(slider.value));
-if (DATA.entries.length) show(DATA.entries.length);
-</script>
-"""
+TEMPLATE = pathlib.Path(__file__).resolve().parent / "journal_page.html"
+# more than this isn't drawn at once, but a unit with its neighbours
+MOST_INSTANCES, MOST_EDGES, MOST_UNITS = 240, 1500, 90
+TALLEST = 9
 
 
-def page(name, text):
-    found = journal.entries(text)
-    state, phases = journal.states(found)
-    # each dependency with the entry that recorded it
-    emitted = {}
-    for e in found:
-        if e.reply[0] == "emitted":
-            for group in filter(None, (e.words[1] if len(e.words) > 1 else "").split(";")):
-                for i in group.partition(":")[0].split(","):
-                    emitted[int(i[1:])] = e.number
-    data = {
-        "entries": [{"number": e.number, "seat": e.seat, "text": e.text} for e in found],
-        "units": [{"name": u.name, "rows": [*u.rows()], "steps": u.steps, "phase": u.phase, "base": u.base, "need": u.need} for u in state.units],
-        "phases": phases,
-        "deps": [(emitted[i], i, j) for i, deps in sorted(state.deps.items()) for j in deps],
+def unit_of(entry):
+    """The unit that an entry speaks of, if it speaks of one."""
+    unit = getattr(entry.event, "unit", None)
+    return unit if isinstance(unit, int) else entry.reply.unit
+
+
+def needs(session):
+    """The units that each unit needs, without itself, in the order in which they were told."""
+    found = {unit.number: {} for unit in session.units}
+    for unit in session.units:
+        rows = [dep for number in unit.rows() for dep in session.instances[number].deps] + unit.needs
+        found[unit.number] = dict.fromkeys(session.instances[it].unit for it in rows if it < len(session.instances))
+        found[unit.number].pop(unit.number, None)
+    return found
+
+
+def distances(session, needed):
+    """How many steps each started unit is away from one that a lookup began with."""
+    found = {}
+    for unit in sorted((it for it in session.units if it.spans), key=lambda it: it.spans[0].first):
+        if unit.number in found:
+            continue
+        found[unit.number], left = 0, [unit.number]
+        for number in left:
+            for other in needed[number]:
+                if other not in found:
+                    found[other] = found[number] + 1
+                    left.append(other)
+    return found
+
+
+def columns(session):
+    """The units in columns: by their distance, each near those that need it, and what was never started last."""
+    needed = needs(session)
+    far = distances(session, needed)
+    layers, height = {}, {}
+    for unit in session.units:
+        layers.setdefault(far.get(unit.number, len(session.units)), []).append(unit.number)
+    made = []
+    for _, layer in sorted(layers.items()):
+        users = {it: [height[other] for other in height if it in needed[other]] for it in layer}
+        layer.sort(key=lambda it: (sum(users[it]) / len(users[it]) if users[it] else 0, it))
+        height.update((it, place / len(layer)) for place, it in enumerate(layer))
+        made += [layer[at : at + TALLEST] for at in range(0, len(layer), TALLEST)]
+    return made
+
+
+def is_small(session):
+    edges = sum(len(members) * len(deps) for _, members, deps in session.groups)
+    return len(session.instances) <= MOST_INSTANCES and edges <= MOST_EDGES and len(session.units) <= MOST_UNITS
+
+
+def unit_data(explanation, unit):
+    why = explanation.reason(unit) if unit.why else None
+    return {
+        "name": unit.name,
+        "file": explanation.unit_name(unit) if object_of(explanation.objects, unit) else unit.name,
+        "rows": [*unit.rows()],
+        "spans": [[span.seat, span.first, span.last] for span in unit.spans],
+        "phase": unit.phase,
+        "end": unit.end,
+        "removed": unit.removed,
+        "defined": unit.defined,
+        "base": None if unit.base is None else f"{unit.base:x}",
+        "need": unit.need,
+        "why": why,
     }
-    end = next((it for it in reversed(text.splitlines()) if it.startswith("end ")), "The log has no end line.")
-    return PAGE % {
-        "title": html.escape(f"Journal of {name}"),
-        "end": html.escape(end),
-        "count": len(found),
-        "key": " ".join(f'<span style="background:{colour}">{phase}</span>' for phase, colour in COLOURS.items()),
-        # (no text of a log may end the script)
-        "data": json.dumps(data).replace("<", "\\u003c"),
-        "colours": json.dumps(COLOURS),
+
+
+def data_of(explanation):
+    log, session = explanation.log, explanation.session
+    small = is_small(session)
+    return {
+        "entries": [[it.seat, it.word, it.reply.word, unit_of(it), it.text] for it in log.entries],
+        "refusals": sorted(REFUSALS),
+        "units": [unit_data(explanation, it) for it in session.units],
+        "instances": [[it.unit, it.name, [[at, PHASES.index(phase)] for at, phase in it.changes]] for it in session.instances],
+        "groups": session.groups,
+        "phases": [[phase, COLOURS[phase]] for phase in PHASES],
+        "columns": columns(session) if small else None,
     }
+
+
+def notes(log):
+    """What is to be said of the log itself."""
+    if log.rest:
+        yield f"The log is cut off in the middle of a line. What stands there: {log.rest[:400]}"
+    elif log.rest == "" and log.end:
+        yield "No line break ends the log: its last line may be cut off."
+    if not log.end and not log.rest and not log.results:
+        yield "The log has no end line: writing failed before it, or memory ran out."
+    if not log.entries:
+        yield "The log has no journal: no session was begun, or nothing of it was written."
+
+
+def counted(count, word):
+    return f"{count:,} {word}" if count == 1 else f"{count:,} {word}s".replace("entrys", "entries")
+
+
+def summary(explanation):
+    """What the log has, in numbers."""
+    log, session = explanation.log, explanation.session
+    ends = {phase: sum(it.phase == phase for it in session.units) for phase in ("emitted", "failed", "removed")}
+    idle = sum(not it.spans for it in session.units)
+    told = [f"{count:,} {phase}" for phase, count in [*ends.items(), ("never started", idle)] if count]
+    yield counted(len(log.entries), "entry")
+    yield counted(len({it.seat for it in log.entries}), "seat")
+    yield counted(len(session.units), "unit") + (f": {', '.join(told)}" if told else "")
+    yield counted(len(session.instances), "instance")
+
+
+def paragraphs(kind, lines):
+    return "\n".join(f'<p class="{kind}">{html.escape(line)}</p>' for line in lines)
+
+
+def page(name, explanation, text):
+    log = explanation.log
+    results = "\n".join(it.text for it in log.results)
+    parts = {
+        "TITLE": html.escape(name),
+        "END": html.escape(log.end.text) if log.end else "results of a session" if log.results else "no end line",
+        "WORDS": html.escape(explanation.words()) if log.end else "",
+        "KIND": "good" if (log.end and log.end.word in ("exited", "done")) or (log.results and not log.end) else "bad",
+        "NOTES": paragraphs("note", notes(log)),
+        "SUMMARY": "".join(f"<li>{html.escape(it)}</li>" for it in summary(explanation)) if log.entries else "",
+        "RESULTS": f"<section><h2>Results</h2><pre>{html.escape(results)}</pre></section>" if results else "",
+        "TEXT": html.escape(text),
+        "HIDDEN": "" if log.entries else "hidden",
+        "DATA": json.dumps(data_of(explanation), separators=(",", ":")).replace("<", "\\u003c"),
+    }
+    template = TEMPLATE.read_text(encoding="utf-8")
+    return re.sub("@([A-Z]+)@", lambda found: parts[found[1]], template)
+
+
+def log_text(log):
+    """The log as it was read."""
+    lines = [it.text for it in [*log.entries, *log.results, *([log.end] if log.end else [])]]
+    return "\n".join([*lines, *([log.rest] if log.rest else [])])
 
 
 def main():
-    if len(sys.argv) != 2:
-        print(__doc__.strip().split("\n\n")[1].strip(), file=sys.stderr)
-        return 2
-    text = sys.stdin.read() if sys.argv[1] == "-" else open(sys.argv[1], encoding="utf-8", errors="replace").read()
-    print(page("standard input" if sys.argv[1] == "-" else sys.argv[1].rpartition("/")[2], text), end="")
-    return 0
+    parser = argparse.ArgumentParser(description=__doc__, formatter_class=argparse.RawDescriptionHelpFormatter)
+    parser.add_argument("log", metavar="LOG")
+    parser.add_argument("files", nargs="*", metavar="FILE")
+    parser.add_argument("-o", dest="page", metavar="PAGE.html")
+    arguments = parser.parse_args()
+    try:
+        log = read_file(arguments.log)
+        name = "standard input" if arguments.log == "-" else pathlib.Path(arguments.log).name
+        made = page(name, Explanation(log, objects_of(arguments.files)), log_text(log)).encode("utf-8", errors="backslashreplace")
+        if arguments.page:
+            pathlib.Path(arguments.page).write_bytes(made)
+        else:
+            sys.stdout.buffer.write(made)
+    except (LogError, OSError) as error:
+        sys.exit(f"{arguments.log}: {error}")
 
 
 if __name__ == "__main__":
-    sys.exit(main())
+    main()
