@@ -1,17 +1,18 @@
 -- The text of each event.
 use Rattle.std.specs.Prelude.{ℕ, List, ◌++◌, codes, Option, Some, None, All}
-use Rattle.std.specs.Fmt.{decimal, signed_decimal}
+use Rattle.std.specs.Fmt.{decimal}
 use Rattle.orc_ids.specs.declared.lookup.Wanted.{Wanted}
 use Rattle.session_model.specs.Meaning.{Meaning}
 use Rattle.session_model.specs.declared.entry.Event.{Event}
 use Rattle.session_model.specs.declared.entry.Event.TheVariants as event
 use Rattle.session_model.specs.declared.entry.Why.{Why}
 use Rattle.session_model.specs.declared.entry.Why.TheVariants as why
+use Rattle.text_parts.specs.Places.{edge_text}
 use Rattle.journal_text.specs.Parts.{IsGiven, name_text, unit_text, level_text, items_text, wanted_list_text, groups_text}
 
--- why a unit is given up; an edge that is out of range has its place, kind and value
+-- why a unit is given up; it may be an edge that is out of range
 abbrev pub why_text : List (List ℕ) → Why → List ℕ
-why_text names (why.Refused place kind value) = codes "refused " ++ decimal place.block ++ codes " " ++ decimal place.offset ++ codes " " ++ decimal kind ++ codes " " ++ signed_decimal value
+why_text names (why.Refused place kind value) = codes "refused " ++ edge_text place kind value
 why_text names (why.Missing name) = codes "missing " ++ name_text names name
 why_text names (why.InError i) = codes "inerror i" ++ decimal i.0
 why_text names (why.AliasCycle i) = codes "aliascycle i" ++ decimal i.0

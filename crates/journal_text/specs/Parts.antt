@@ -1,6 +1,6 @@
--- The parts of a line: addresses, names and lists.
+-- The parts of a line: names and lists.
 use Rattle.std.specs.Prelude.{ℕ, ◌<◌, Bool, false, true, List, [], ◌∷◌, ◌++◌, length, codes, slice_get, Option, Some, None, unwrap_or}
-use Rattle.std.specs.Fmt.{digits, decimal}
+use Rattle.std.specs.Fmt.{decimal}
 use Rattle.orc_ids.specs.declared.groups.Group.{Group}
 use Rattle.orc_ids.specs.declared.ids.InstId.{InstId}
 use Rattle.orc_ids.specs.declared.ids.NameId.{NameId}
@@ -12,10 +12,7 @@ use Rattle.orc_ids.specs.declared.lookup.OrderItem.{OrderItem}
 use Rattle.orc_ids.specs.declared.lookup.Scope.{Scope}
 use Rattle.orc_ids.specs.declared.lookup.Scope.TheVariants.{All as All_names, Exported}
 use Rattle.orc_ids.specs.declared.lookup.Wanted.{Wanted}
-
--- an address: lower-case hexadecimal, without leading zeros
-abbrev pub hex : ℕ → List ℕ
-hex n = digits 16 false n
+use Rattle.text_parts.specs.Hexadecimal.{hex}
 
 -- the name has a text in the table
 abbrev pub IsGiven : List (List ℕ) → NameId → Type 0

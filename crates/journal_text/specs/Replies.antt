@@ -5,7 +5,8 @@ use Rattle.session_model.specs.declared.entry.Finishing.{Finishing}
 use Rattle.session_model.specs.declared.entry.Finishing.TheVariants.{Bound, Lost}
 use Rattle.session_model.specs.declared.entry.Reply.{Reply}
 use Rattle.session_model.specs.declared.entry.Reply.TheVariants as reply
-use Rattle.journal_text.specs.Parts.{hex, IsGiven, name_text, found_list_text, bound_list_text}
+use Rattle.text_parts.specs.Hexadecimal.{hex}
+use Rattle.journal_text.specs.Parts.{IsGiven, name_text, found_list_text, bound_list_text}
 
 -- how a unit's link query ended
 abbrev pub finishing_text : Finishing → List ℕ

@@ -3,10 +3,11 @@ ghost use Rattle.session_model.specs.State.{plain_event};
 ghost use Rattle.journal_text.specs.Events.{why_text, ask_word, event_text, KnownWhy, KnownEvent};
 
 use crate::lists::{put_groups, put_items, put_wanted_list};
-use crate::parts::{level_word, put, put_named, put_numbered, put_pair, put_unit};
+use crate::parts::{level_word, put_named, put_unit};
 use orc_names::Names;
 use session_model::{Event, UnitKind, Why};
 use std::alloc::AllocError;
+use text_parts::{put, put_edge, put_numbered, put_pair};
 
 pub(crate) fn put_event<U: UnitKind>(
     out: &mut Vec<u8>,
@@ -76,11 +77,7 @@ fn put_why(out: &mut Vec<u8>, names: &Names, why: Why) -> Result<(), AllocError>
     ensures { OnOk result (out.new.items ≡ out.old.items ++ why_text names.now why) }
 {
     match why {
-        Why::Refused(place, kind, value) => {
-            put_numbered(out, b"refused ", place.block)?;
-            put_pair(out, b" ", place.offset, b" ", kind)?;
-            put_numbered(out, b" ", value)
-        }
+        Why::Refused(place, kind, value) => put_edge(out, b"refused ", place, kind, value),
         Why::Missing(name) => put_named(out, b"missing ", names, name),
         Why::InError(i) => put_numbered(out, b"inerror i", i.0),
         Why::AliasCycle(i) => put_numbered(out, b"aliascycle i", i.0),

@@ -40,7 +40,7 @@ fn knows_event<U: UnitKind>(names: &Names, event: &Event<U>) -> bool
 }
 
 /// Whether each name of a reply is one of the table.
-fn knows_reply(names: &Names, reply: &Reply) -> bool
+pub fn knows_reply(names: &Names, reply: &Reply) -> bool
     ensures { IsTrue result ↔ KnownReply names.now reply.now }
 {
     match reply {
@@ -50,7 +50,8 @@ fn knows_reply(names: &Names, reply: &Reply) -> bool
     }
 }
 
-fn are_given(names: &Names, wanted: &[Wanted]) -> bool
+/// Whether each name that is looked up is one of the table.
+pub fn are_given(names: &Names, wanted: &[Wanted]) -> bool
     ensures { IsTrue result ↔ All (λ (w : Wanted). IsGiven names.now w.name) wanted.now }
 {
     for w in wanted {
@@ -62,7 +63,7 @@ fn are_given(names: &Names, wanted: &[Wanted]) -> bool
 }
 
 /// Whether a name is one of the table.
-fn is_given(names: &Names, name: NameId) -> bool
+pub fn is_given(names: &Names, name: NameId) -> bool
     ensures { IsTrue result ↔ IsGiven names.now name }
 {
     (name.0 as usize) < names.len()

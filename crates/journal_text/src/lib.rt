@@ -3,9 +3,9 @@
 //!
 //! Contracts see the text as `text_of_history` of the plain history and the table of names.
 //! `specs/Events` and `specs/Replies` have a line for each event and each reply, in the words of the
-//! grammar; `specs/Parts` has the lists, names and addresses in them. Numbers are decimal, and
-//! addresses lower-case hexadecimal without leading zeros. A list that is empty is left out with the
-//! space before it.
+//! grammar; `specs/Parts` has the lists and names in them. Numbers are decimal, and addresses
+//! lower-case hexadecimal without leading zeros, as `text_parts` puts them. A list that is empty is left
+//! out with the space before it.
 //!
 //! Read `session_model` first for what the events and replies mean, and `orc_names` for the names.
 #![tactic(auto)]
@@ -17,5 +17,7 @@ mod parts;
 mod replies;
 mod text;
 
-pub use known::are_known;
+pub use known::{are_given, are_known, is_given, knows_reply};
+pub use parts::put_named;
+pub use replies::put_reply;
 pub use text::text_of;

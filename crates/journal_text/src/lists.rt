@@ -2,10 +2,11 @@ ghost use Rattle.std.specs.Prelude.{◌≡◌, ◌++◌, OnOk, All};
 ghost use Rattle.orc_ids.specs.declared.lookup.Wanted.{Wanted};
 ghost use Rattle.journal_text.specs.Parts.{IsGiven, item_text, items_text, wanted_text, wanted_list_text, inst_text, insts_text, group_text, groups_text, found_text, found_list_text, bound_text, bound_list_text};
 
-use crate::parts::{put, put_at, put_numbered, scope_word};
+use crate::parts::scope_word;
 use orc_ids::{Group, InstId, OrderItem, Wanted};
 use orc_names::Names;
 use std::alloc::{AllocError, Global};
+use text_parts::{put, put_at, put_numbered};
 
 fn put_item(out: &mut Vec<u8>, item: OrderItem) -> Result<(), AllocError>
     ensures { OnOk result (out.new.items ≡ out.old.items ++ item_text item) }

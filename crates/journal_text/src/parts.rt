@@ -1,69 +1,14 @@
-//! The parts of texts: words, numbers, names and addresses, each put at the end of a buffer.
-ghost use Rattle.std.specs.Prelude.{◌≡◌, ◌++◌, ◌<◌, length, OnOk};
-ghost use Rattle.journal_text.specs.Parts.{hex, IsGiven, name_text, unit_text, level_text, scope_text};
+//! The parts of a line that speak of names, units, levels and scopes.
+ghost use Rattle.std.specs.Prelude.{◌≡◌, ◌++◌, OnOk};
+ghost use Rattle.journal_text.specs.Parts.{IsGiven, name_text, unit_text, level_text, scope_text};
 
-use itoa::Integer;
 use orc_ids::{Level, NameId, Scope, UnitName};
 use orc_names::Names;
-use std::alloc::{AllocError, Global};
-
-/// A text.
-pub(crate) fn put(out: &mut Vec<u8>, text: &[u8]) -> Result<(), AllocError>
-    ensures { OnOk result (out.new.items ≡ out.old.items ++ text.now) }
-{
-    out.extend_from_slice(text)
-}
-
-/// A decimal number.
-pub(crate) fn put_decimal<I: Integer>(out: &mut Vec<u8>, number: I) -> Result<(), AllocError>
-    ensures { OnOk result (out.new.items ≡ out.old.items ++ I.text number) }
-{
-    let mut buffer = itoa::Buffer::new();
-    put(out, buffer.format(number).as_bytes())
-}
-
-/// A text and a decimal number.
-pub(crate) fn put_numbered<I: Integer>(
-    out: &mut Vec<u8>,
-    text: &[u8],
-    number: I,
-) -> Result<(), AllocError>
-    ensures { OnOk result (out.new.items ≡ out.old.items ++ (text.now ++ I.text number)) }
-{
-    put(out, text)?;
-    put_decimal(out, number)
-}
-
-/// Two texts, each with a decimal number.
-pub(crate) fn put_pair<I: Integer, J: Integer>(
-    out: &mut Vec<u8>,
-    text: &[u8],
-    number: I,
-    next: &[u8],
-    second: J,
-) -> Result<(), AllocError>
-    ensures { OnOk result (out.new.items ≡ out.old.items ++ (text.now ++ I.text number ++ next.now ++ J.text second)) }
-{
-    put_numbered(out, text, number)?;
-    put_numbered(out, next, second)
-}
-
-/// A text and an address.
-pub(crate) fn put_at(
-    alloc: Global,
-    out: &mut Vec<u8>,
-    text: &[u8],
-    address: u64,
-) -> Result<(), AllocError>
-    ensures { OnOk result (out.new.items ≡ out.old.items ++ (text.now ++ hex address)) }
-{
-    let digits = format!(in alloc; "{address:x}")?;
-    put(out, text)?;
-    put(out, digits.as_bytes())
-}
+use std::alloc::AllocError;
+use text_parts::{put, put_numbered};
 
 /// A text and a name.
-pub(crate) fn put_named(
+pub fn put_named(
     out: &mut Vec<u8>,
     text: &[u8],
     names: &Names,

@@ -2,13 +2,14 @@ ghost use Rattle.std.specs.Prelude.{◌≡◌, ◌++◌, OnOk};
 ghost use Rattle.journal_text.specs.Replies.{finishing_text, reply_text, KnownReply};
 
 use crate::lists::{put_bound_list, put_found_list};
-use crate::parts::{put, put_at, put_named, put_numbered, put_pair};
+use crate::parts::put_named;
 use orc_names::Names;
 use session_model::{Finishing, Reply};
 use std::alloc::{AllocError, Global};
+use text_parts::{put, put_at, put_numbered, put_pair};
 
 /// The words of a reply.
-pub(crate) fn put_reply(
+pub fn put_reply(
     alloc: Global,
     out: &mut Vec<u8>,
     names: &Names,

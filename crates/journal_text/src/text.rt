@@ -3,12 +3,12 @@ ghost use Rattle.session_model.specs.State.{plain_entry, plain_history};
 ghost use Rattle.journal_text.specs.Journal.{line_of, text_of_history, KnownEntry, AreKnown};
 
 use crate::events::put_event;
-use crate::parts::{put, put_decimal, put_numbered};
 use crate::replies::put_reply;
 use orc_ids::Bytes;
 use orc_names::Names;
 use session_model::{Entry, UnitKind};
 use std::alloc::{AllocError, Global};
+use text_parts::{put, put_decimal, put_numbered};
 
 /// The text of a history, whose names the table gave. The work is linear in the text.
 pub fn text_of<U: UnitKind>(

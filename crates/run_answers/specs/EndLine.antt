@@ -1,15 +1,15 @@
 -- The end line of each answer: the last line of the log.
-use Rattle.std.specs.Prelude.{ℕ, false, List, [], ◌∷◌, ◌++◌, codes}
-use Rattle.std.specs.Fmt.{digits, decimal, signed_decimal}
+use Rattle.std.specs.Prelude.{ℕ, List, [], ◌∷◌, ◌++◌, codes}
+use Rattle.std.specs.Fmt.{decimal}
 use Rattle.elf_read.specs.declared.error.ElfError.{ElfError}
 use Rattle.elf_read.specs.declared.error.ElfError.TheVariants.{Short, BadMagic, NotClass64, NotLittle, NotRelocatable, NotRiscv, BadFlags, BadTable, BadSymbol, BadLink, Overlap, NotBuilt, NoMemory as ElfNoMemory}
 use Rattle.elf_read.specs.declared.error.NotBuiltKind.{NotBuiltKind}
 use Rattle.elf_read.specs.declared.error.NotBuiltKind.TheVariants.{Group, Rel, Tls, Compressed, SectionKind, Xindex, Bind, Form}
-use Rattle.orc_ids.specs.declared.place.Place.{Place}
 use Rattle.link_graph.specs.declared.error.GraphError.{GraphError}
 use Rattle.link_graph.specs.declared.error.GraphError.TheVariants.{UnknownReloc, RelocOutside, TlsOrIfunc, BadPair, NeedsAlign, TooMany, NoMemory as GraphNoMemory}
-use Rattle.rv_hart.specs.declared.step.Cause.{Cause}
-use Rattle.rv_hart.specs.declared.step.Cause.TheVariants.{Fetch, Illegal, Misaligned, Load, Store, Break}
+use Rattle.exec_run.specs.declared.ran.RunEnd.TheVariants as end
+use Rattle.text_parts.specs.Places.{place_text, edge_text}
+use Rattle.run_text.specs.RunEnds.{run_end_text}
 use Rattle.command_line.specs.declared.error.UsageKind.{UsageKind}
 use Rattle.command_line.specs.declared.error.UsageKind.TheVariants.{NoCommand, UnknownCommand, BadWords, BadNumber}
 use Rattle.object_files.specs.declared.error.ObjectWhy.{ObjectWhy}
@@ -17,23 +17,11 @@ use Rattle.object_files.specs.declared.error.ObjectWhy.TheVariants.{Elf, Graph}
 use Rattle.run_answers.specs.declared.answer.Answer.{Answer}
 use Rattle.run_answers.specs.declared.answer.Answer.TheVariants.{Exited, Usage, ReadFault, FileFault, WriteFault, ObjectRefused, TooLong, Missing, LinkRefused, DepFailed, Trap, OutOfFuel, OutputFull, JournalFull, NoMemory, DefineRefused}
 
--- an address, or a word: lower-case hexadecimal, without leading zeros
-abbrev pub hex : ℕ → List ℕ
-hex n = digits 16 false n
-
 abbrev pub usage_text : UsageKind → List ℕ
 usage_text NoCommand = codes "no command"
 usage_text UnknownCommand = codes "unknown command"
 usage_text BadWords = codes "bad words"
 usage_text BadNumber = codes "bad number"
-
-abbrev pub cause_text : Cause → List ℕ
-cause_text Fetch = codes "fetch"
-cause_text (Illegal word) = codes "illegal " ++ hex word
-cause_text (Misaligned at) = codes "misaligned " ++ hex at
-cause_text (Load at) = codes "load " ++ hex at
-cause_text (Store at) = codes "store " ++ hex at
-cause_text Break = codes "break"
 
 abbrev pub kind_text : NotBuiltKind → List ℕ
 kind_text Group = codes "group"
@@ -60,10 +48,6 @@ elf_text (Overlap section) = codes "e11 " ++ decimal section
 elf_text (NotBuilt kind) = codes "e12 " ++ kind_text kind
 elf_text ElfNoMemory = codes "e13"
 
--- a block, and an offset in it
-abbrev pub place_text : Place → List ℕ
-place_text place = decimal place.block ++ codes " " ++ decimal place.offset
-
 abbrev pub graph_text : GraphError → List ℕ
 graph_text (UnknownReloc kind place) = codes "g1 " ++ decimal kind ++ codes " " ++ place_text place
 graph_text (RelocOutside place) = codes "g2 " ++ place_text place
@@ -78,7 +62,7 @@ why_text (Elf error) = elf_text error
 why_text (Graph error) = graph_text error
 
 abbrev pub answer_text : Answer → List ℕ
-answer_text (Exited code) = codes "exited " ++ decimal code
+answer_text (Exited code) = run_end_text (end.Exited code)
 answer_text (Usage kind) = codes "usage " ++ usage_text kind
 answer_text ReadFault = codes "read fault"
 answer_text (FileFault file) = codes "file fault " ++ decimal file
@@ -86,11 +70,11 @@ answer_text WriteFault = codes "write fault"
 answer_text (ObjectRefused file why) = codes "object refused " ++ decimal file ++ codes " " ++ why_text why
 answer_text (TooLong file) = codes "too long " ++ decimal file
 answer_text (Missing name) = codes "missing " ++ name
-answer_text (Trap pc cause) = codes "trap " ++ hex pc ++ codes " " ++ cause_text cause
-answer_text (LinkRefused place kind v) = codes "link refused " ++ place_text place ++ codes " " ++ decimal kind ++ codes " " ++ signed_decimal v
+answer_text (Trap pc cause) = run_end_text (end.Trap pc cause)
+answer_text (LinkRefused place kind v) = codes "link refused " ++ edge_text place kind v
 answer_text (DepFailed i) = codes "dep failed i" ++ decimal i.0
-answer_text OutOfFuel = codes "out of fuel"
-answer_text OutputFull = codes "output full"
+answer_text OutOfFuel = run_end_text end.OutOfFuel
+answer_text OutputFull = run_end_text end.OutputFull
 answer_text (JournalFull len) = codes "journal full " ++ decimal len
 answer_text NoMemory = codes "no memory"
 answer_text (DefineRefused file) = codes "define refused " ++ decimal file

@@ -1,3 +1,5 @@
+pub mod CallsKept
+pub mod Checks
 pub mod Counts
 pub mod Cuts
 pub mod Digits
@@ -5,6 +7,11 @@ pub mod FileNames
 pub mod LinesNext
 pub mod LinesRead
 pub mod NameNumbers
+pub mod NamesApart
+pub mod ScriptSoFar
+pub mod SetupKept
 pub mod Steps
 pub mod Tables
 pub mod TextNumbers
+pub mod WellFormedScripts
+pub mod WordSizes

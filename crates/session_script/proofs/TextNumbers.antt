@@ -9,7 +9,7 @@ use Rattle.std.proofs.lemmas.Bool.Decides.{nat_tests}
 use Rattle.session_script.specs.Texts.{has, number_of, mentioned, all_mentioned}
 
 -- what passes somewhere passes first at a place within
-within : (p : List ℕ → Bool) (xs : List (List ℕ)) → list_any p xs ≡ true → position_or_len p xs < length xs
+pub within : (p : List ℕ → Bool) (xs : List (List ℕ)) → list_any p xs ≡ true → position_or_len p xs < length xs
 within p [] h = absurd cc
 within p (x ∷ xs) h = elim (cases_Bool (p x)) [
   | inl t ↦ rw t (omega arith)
@@ -24,14 +24,14 @@ first_stays p (x ∷ xs) y h = elim (cases_Bool (p x)) [
   | inr f ↦ rw f (ap (λ n. 1 + n) (first_stays p xs y (rw f at h)))
 ]
 
-any_stays : (p : List ℕ → Bool) (xs : List (List ℕ)) (y : List ℕ) → list_any p xs ≡ true → list_any p (xs ++ y ∷ []) ≡ true
+pub any_stays : (p : List ℕ → Bool) (xs : List (List ℕ)) (y : List ℕ) → list_any p xs ≡ true → list_any p (xs ++ y ∷ []) ≡ true
 any_stays p [] y h = absurd cc
 any_stays p (x ∷ xs) y h = elim (cases_Bool (p x)) [
   | inl t ↦ rw t refl
   | inr f ↦ rw f (any_stays p xs y (rw f at h))
 ]
 
-any_last : (p : List ℕ → Bool) (xs : List (List ℕ)) (y : List ℕ) → p y ≡ true → list_any p (xs ++ y ∷ []) ≡ true
+pub any_last : (p : List ℕ → Bool) (xs : List (List ℕ)) (y : List ℕ) → p y ≡ true → list_any p (xs ++ y ∷ []) ≡ true
 any_last p [] y h = rw h refl
 any_last p (x ∷ xs) y h = elim (cases_Bool (p x)) [
   | inl t ↦ rw t refl
@@ -39,7 +39,7 @@ any_last p (x ∷ xs) y h = elim (cases_Bool (p x)) [
 ]
 
 -- the number of what stands there is its first place
-number_there : (t : List ℕ) (texts : List (List ℕ)) → has t texts ≡ true → number_of t texts ≡ position_or_len (bytes_eq t) texts
+pub number_there : (t : List ℕ) (texts : List (List ℕ)) → has t texts ≡ true → number_of t texts ≡ position_or_len (bytes_eq t) texts
 number_there t texts h =
     let low = within (bytes_eq t) texts h in
     let test : nat_lt (position_or_len (bytes_eq t) texts) (length texts) ≡ true = grind (arith, nat_tests) in

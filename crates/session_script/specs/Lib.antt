@@ -5,4 +5,5 @@ pub mod Refused
 pub mod Scripts
 pub mod Setup
 pub mod Texts
+pub mod WellFormed
 pub mod Words

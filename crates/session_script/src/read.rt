@@ -4,6 +4,7 @@ ghost use Rattle.session_script.specs.declared.limits.TheConstants.{LINE_LIMIT};
 ghost use Rattle.session_script.specs.Words.{lines_of};
 ghost use Rattle.session_script.specs.Known.{IsRefusal};
 ghost use Rattle.session_script.specs.Scripts.{worded_line, line_in, numbered_line, lines_from, script_of_known, script_of, error_of};
+ghost use Rattle.session_script.specs.WellFormed.{IsWellFormed};
 
 use crate::error::{Refusal, ScriptError, ScriptWhy};
 use crate::limits::{LINE_LIMIT, SIZE_LIMIT};
@@ -23,6 +24,7 @@ pub fn read_script(
     hasher: NameHasher,
 ) -> Result<Script, ScriptError>
     ensures read { IfOk result (λ script. script_of notes bytes.now ≡ Ok script) }
+    ensures well_formed { IfOk result (λ script. IsWellFormed notes script) }
     ensures refused { IfErr result (λ e. e ≢ error.NoMemory → script_of notes bytes.now ≡ Err e) }
 {
     let mut reader = Reader::new(alloc, hasher, notes);
