@@ -47,6 +47,13 @@ impl<S: Drop, D: Drop> Crew<S, D> {
             done,
         })
     }
+
+    /// The duties, which nobody has done.
+    pub fn into_duties(self) -> Vec<D>
+        ensures { result.items ≡ self }
+    {
+        self.duties
+    }
 }
 
 impl<T: Counted + Send, D: Duty<T> + Drop + Send> Crew<Seat<T, T::Entry>, D> {

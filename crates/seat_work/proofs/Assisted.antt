@@ -23,3 +23,10 @@ module _ {U N : Type 0} (means : U → Meaning) (heard : N → Option Outcome) (
   assisted worked.Idle has = only_jobs has
   assisted (worked.JournalFull len) has = only_jobs has.0
   assisted worked.NoMemory has = only_jobs has
+
+  -- and who was told at them
+  pub assisted_telling : (e : Worked) → HasAssisted means heard jmax v w old new e → Does means heard v w old new Jobs
+  assisted_telling worked.Did has = absurd has
+  assisted_telling worked.Idle has = has
+  assisted_telling (worked.JournalFull len) has = has.0
+  assisted_telling worked.NoMemory has = has

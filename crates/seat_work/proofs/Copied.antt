@@ -20,6 +20,8 @@ use Rattle.session_model.specs.declared.rows.UnitPhase.{UnitPhase}
 use Rattle.session_model.specs.declared.rows.UnitPhase.TheVariants as stage
 use Rattle.session_laws.proofs.Along.{state_from_push}
 use Rattle.session_laws.proofs.Settling.{settling_keeps}
+use Rattle.closure_laws.specs.Quiet.{SettlesNow}
+use Rattle.closure_laws.proofs.Unstirred.{quiet_settles_none}
 use Rattle.execution_session.specs.Handed.{IsCopied, IsMemory}
 use Rattle.execution_session.specs.Performs.{Performs}
 use Rattle.shared_session.specs.Does.{seat}
@@ -27,8 +29,10 @@ use Rattle.turn_lock.specs.declared.view.View.{View}
 use Rattle.seat_calls.specs.Did.{Single}
 use Rattle.seat_calls.proofs.Doing.{less_is_done}
 use Rattle.link_worker.specs.Jobs.{IsCause}
+use Rattle.link_worker.specs.Works.{IsFree}
 use Rattle.link_worker.proofs.Collecting.{one_lacks}
-use Rattle.link_worker.proofs.Turning.{TurnOf, no_call, one_call, seen_is}
+use Rattle.link_worker.proofs.Freeing.{free_stays}
+use Rattle.link_worker.proofs.Turning.{TurnOf, legal_after, no_call, one_call, seen_is}
 use Rattle.link_worker.proofs.Working.{stopped_now}
 use Rattle.seat_work.specs.Copies.{CopiesAt, IsStoppedAt, OneCopy}
 
@@ -65,7 +69,14 @@ module _ {U : Type 0} (means : U → Meaning) (jmax : ℕ) (v w : View (Entry U)
 
   pub copied : (r : Reply) (image : List Segment) → CopyOf (Ok r) (Some image) → CopiesAt means v w image
   copied reply.Image image t = less_is_done means v w (Single (plain_history means t.old) (copied_entry v.number)) (OneCopy image)
-      (λ h cs s. (length (plain_history means t.old) + 1, copied_entry v.number, s.0, refl, has_memory (plain_history means t.old) (take (length (plain_history means t.old) + 1) h) v.number image t.did.1 s.2))
+      (λ h cs s. (
+        length (plain_history means t.old) + 1,
+        copied_entry v.number,
+        s.0,
+        refl,
+        has_memory (plain_history means t.old) (take (length (plain_history means t.old) + 1) h) v.number image t.did.1 s.2,
+        λ k now. quiet_settles_none jmax (plain_history means t.old) (copied_entry v.number) (legal_after means jmax v w _ t (copied_entry v.number) t.did.0.grown) refl k (subst (λ l. SettlesNow l k) s.2 now),
+      ))
       (one_call means jmax v w _ t (copied_entry v.number) refl t.did.0.grown)
   copied _ image t = absurd (none-some image (sym t.did.1))
 
@@ -79,3 +90,7 @@ module _ {U : Type 0} (means : U → Meaning) (jmax : ℕ) (v w : View (Entry U)
             (subst (λ l. IsCause means jmax l (stop.JournalFull len)) (sym (seen_is means jmax v w _ t ∙ s.0)) (s.1.length, one_lacks jmax (plain_history means t.old) v.number event.Image lawful.legal lawful.places s.1.full)),
       )
   copy_stopped stop.NoMemory image t = let none = no_call means jmax v w _ t t.did.0 in (none, stopped_now means jmax v.seen w.seen stop.NoMemory none.later tt)
+
+  -- a seat that held no unit holds none
+  pub copy_free : (answer : Result Reply Stop) (image : Option (List Segment)) → CopyOf answer image → IsFree means v → IsFree means w
+  copy_free answer image t free = free_stays means jmax v w event.Image answer (record { old = t.old; new = t.new; passed = t.passed; did = t.did.0 }) refl free

@@ -6,14 +6,15 @@ use Rattle.session_model.specs.Meaning.{Meaning}
 use Rattle.session_model.specs.State.{state}
 use Rattle.session_model.specs.declared.entry.Entry.{Entry}
 use Rattle.session_model.specs.declared.entry.Event.TheVariants as event
+use Rattle.closure_laws.specs.Quiet.{SettlesNow}
 use Rattle.execution_session.specs.Handed.{IsMemory}
 use Rattle.turn_lock.specs.declared.view.View.{View}
 use Rattle.seat_calls.specs.Did.{Did, Nothing, Promise}
 use Rattle.link_worker.specs.Works.{WasStopped}
 
--- one call, which copied the memory
+-- one call, which copied the memory, and at which no query settled
 abbrev pub OneCopy : List Segment → Promise
-OneCopy memory h cs = (n : ℕ) × (e : Entry Meaning) × (cs ≡ (n, e) ∷ []) × (e.event ≡ event.Image) × IsMemory (state (take n h)) memory
+OneCopy memory h cs = (n : ℕ) × (e : Entry Meaning) × (cs ≡ (n, e) ∷ []) × (e.event ≡ event.Image) × IsMemory (state (take n h)) memory × ((k : ℕ) → SettlesNow (take n h) k → ⊥)
 
 module _ {U : Type 0} (means : U → Meaning) where
   abbrev pub CopiesAt : View (Entry U) → View (Entry U) → List Segment → Type 0

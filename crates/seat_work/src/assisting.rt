@@ -1,6 +1,8 @@
 //! Jobs are done for others.
 ghost use Rattle.turn_lock.specs.Handles.{view, turn_id, IsReady};
-ghost use Rattle.link_worker.specs.Works.{IsFree};
+ghost use Rattle.std.specs.Prelude.{[]};
+ghost use Rattle.link_worker.specs.Does.{Does};
+ghost use Rattle.link_worker.specs.Works.{IsFree, Jobs};
 ghost use Rattle.seat_work.specs.Assists.{HasDoneJobs};
 
 use link_worker::{LinkedUnit, assist};
@@ -25,6 +27,7 @@ pub fn do_jobs<U: LinkedUnit, N: Notify, G: Gate, R: Wait, const JMAX: usize>(
     requires free { IsFree U.meaning (view pass.old) }
     ensures ready { IsReady (turn_id shared.now) pass.new }
     ensures jobs { HasDoneJobs U.meaning (view pass.old) (view pass.new) }
+    ensures told { Does U.meaning N.heard (view pass.old) (view pass.new) [] result Jobs }
 {
     let mut fired = FiredList::new();
     let _worked = assist(rt, alloc, shared, pass, gate, ended, clients, &mut fired);

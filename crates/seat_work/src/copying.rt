@@ -1,6 +1,7 @@
 //! The memory is copied.
 ghost use Rattle.std.specs.Prelude.{IfOk, IfErr};
 ghost use Rattle.turn_lock.specs.Handles.{view, turn_id, IsReady};
+ghost use Rattle.link_worker.specs.Works.{IsFree};
 ghost use Rattle.seat_work.specs.Copies.{CopiesAt, IsStoppedAt};
 
 use code_memory::Image;
@@ -19,6 +20,7 @@ pub fn copy_memory<U: UnitKind, N: Notify, R: Wait, const JMAX: usize>(
 ) -> Result<Image, Stop>
     requires ready { IsReady (turn_id shared.now) pass.old }
     ensures ready { IsReady (turn_id shared.now) pass.new }
+    ensures free { IsFree U.meaning (view pass.old) → IsFree U.meaning (view pass.new) }
     ensures copied { IfOk result (CopiesAt U.meaning (view pass.old) (view pass.new)) }
     ensures stopped { IfErr result (IsStoppedAt U.meaning JMAX (view pass.old) (view pass.new)) }
 {

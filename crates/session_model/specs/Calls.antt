@@ -1,15 +1,14 @@
--- The calls that a job, a lookup and the lines of a client make, as lists of entries of the caller's seat.
-use Rattle.std.specs.Prelude.{◌≡◌, ⊤, ℕ, ℤ, MatchBool, ◌+◌, Bool, true, false, ◌==◌, ◌⊎◌, List, [], ◌∷◌, ◌++◌, take, slice_get, map, flat_map, Option, Some, None, is_some, unwrap_or, if◌then◌else◌}
+-- The calls that a job and a lookup make, as lists of entries of the caller's seat.
+use Rattle.std.specs.Prelude.{◌≡◌, ℕ, ℤ, MatchBool, ◌+◌, Bool, true, false, ◌==◌, ◌⊎◌, List, [], ◌∷◌, ◌++◌, take, slice_get, map, Option, Some, None, is_some, unwrap_or, if◌then◌else◌}
 use Rattle.std.specs.Option.{option_map_or}
 use Rattle.orc_ids.specs.declared.ids.GenId.{GenId}
-use Rattle.orc_ids.specs.declared.ids.NameId.{NameId}
 use Rattle.orc_ids.specs.declared.ids.QueryId.{QueryId}
 use Rattle.orc_ids.specs.declared.ids.UnitId.{UnitId}
 use Rattle.orc_ids.specs.declared.lookup.Level.{Level}
 use Rattle.orc_ids.specs.declared.lookup.OrderItem.{OrderItem}
 use Rattle.orc_ids.specs.declared.lookup.Wanted.{Wanted}
 use Rattle.orc_ids.specs.declared.place.Place.{Place}
-use Rattle.session_model.specs.Meaning.{Meaning, Bindings}
+use Rattle.session_model.specs.Meaning.{Meaning}
 use Rattle.session_model.specs.Plain.{Plain, Query, UnitRow, is_alias, unit_shape}
 use Rattle.session_model.specs.State.{state, IsOpen}
 use Rattle.session_model.specs.declared.entry.Entry.{Entry}
@@ -165,88 +164,3 @@ pub data Looks (h : List (Entry Meaning)) (l : Lookup) : List (ℕ × Entry Mean
 pub record IsStopped (whole : List (ℕ × Entry Meaning) → Type 0) (cs : List (ℕ × Entry Meaning)) : Type 0 where
   pub rest : List (ℕ × Entry Meaning)
   pub would : whole (cs ++ rest)
-
--- A line of a script: one event, as a definition, a move or a removal; a lookup; or a run, which begins
--- at a name.
-pub data Line : Type 0 where
-  One : Event Meaning → Line
-  LookUp : Lookup → Line
-  Run : NameId → Line
-
--- the addresses that a client's lookups gave it, the latest first
-abbrev pub Addresses : Type 0
-Addresses = List (NameId × ℕ)
-
-abbrev pub address_of : NameId → Addresses → Option ℕ
-address_of name [] = None
-address_of name (a ∷ later) = if a.0.0 == name.0 then Some a.1 else address_of name later
-
--- the wanted names that were found, each with its address
-abbrev pub found_names : List Wanted → Bindings → Addresses
-found_names (w ∷ ws) (Some p ∷ bs) = (w.name, p.1) ∷ found_names ws bs
-found_names (w ∷ ws) (None ∷ bs) = found_names ws bs
-found_names _ _ = []
-
-abbrev pub found_in : List Wanted → Reply → Addresses
-found_in wanted (reply.Found at matches) = found_names wanted matches
-found_in wanted _ = []
-
--- what a line found, by its entries
-abbrev pub found_by : Line → List (ℕ × Entry Meaning) → Addresses
-found_by (LookUp l) cs = flat_map (λ c. found_in l.wanted c.1.reply) cs
-found_by _ cs = []
-
--- a run copies the memory, if the client found the name that it begins at
-abbrev pub OfRun : Option ℕ → List (ℕ × Entry Meaning) → Type 0
-OfRun None cs = cs ≡ []
-OfRun (Some at) (c ∷ []) = c.1.event ≡ event.Image
-OfRun (Some at) _ = ⊥
-
--- the entries of a line, with what its client found before
-abbrev pub OfLine : List (Entry Meaning) → Addresses → Line → List (ℕ × Entry Meaning) → Type 0
-OfLine h found (One e) (c ∷ []) = c.1.event ≡ e
-OfLine h found (One e) _ = ⊥
-OfLine h found (LookUp l) cs = Looks h l cs
-OfLine h found (Run name) cs = OfRun (address_of name found) cs
-
--- the entries of lines, one line after the other, and what was found at their end
-pub data OfLines (h : List (Entry Meaning)) : Addresses → List Line → List (ℕ × Entry Meaning) → Addresses → Type 0 where
-  Ends : (found : Addresses) → OfLines h found [] [] found
-  Goes : (found last : Addresses) (line : Line) (lines : List Line) (now later : List (ℕ × Entry Meaning)) →
-      OfLine h found line now → OfLines h (found_by line now ++ found) lines later last →
-      OfLines h found (line ∷ lines) (now ++ later) last
-
--- all lines were done, or they were stopped in one, and the lines after it have no entry
-pub record StopIn (h : List (Entry Meaning)) (lines : List Line) (cs : List (ℕ × Entry Meaning)) : Type 0 where
-  pub done : List Line
-  pub line : Line
-  pub left : List Line
-  pub are : lines ≡ done ++ line ∷ left
-  pub found : Addresses
-  pub before : List (ℕ × Entry Meaning)
-  pub part : List (ℕ × Entry Meaning)
-  pub calls : cs ≡ before ++ part
-  pub were : OfLines h [] done before found
-  pub stopped : IsStopped (OfLine h found line) part
-
-abbrev pub AllDone : List (Entry Meaning) → List Line → List (ℕ × Entry Meaning) → Type 0
-AllDone h lines cs = (last : Addresses) × OfLines h [] lines cs last
-
-abbrev pub OfClient : List (Entry Meaning) → List Line → List (ℕ × Entry Meaning) → Type 0
-OfClient h lines cs = AllDone h lines cs ⊎ StopIn h lines cs
-
--- the clients have the seats from s on
-abbrev pub OfClients : List (Entry Meaning) → ℕ → List (List Line) → Type 0
-OfClients h s [] = ⊤
-OfClients h s (lines ∷ clients) = OfClient h lines (numbered_calls s 1 h) × OfClients h (s + 1) clients
-
-abbrev pub NoCalls : List (Entry Meaning) → ℕ → List (List Line) → Type 0
-NoCalls h s [] = ⊤
-NoCalls h s (lines ∷ clients) = (numbered_calls s 1 h ≡ []) × NoCalls h (s + 1) clients
-
--- A script's setup lines, which seat 0 calls, and the lines of its clients, whose seats are 1 and up. Where
--- a setup line was stopped, no client has an entry.
-abbrev pub OfScript : List (Entry Meaning) → List Line → List (List Line) → Type 0
-OfScript h setup clients =
-    (AllDone h setup (numbered_calls 0 1 h) × OfClients h 1 clients)
-    ⊎ (StopIn h setup (numbered_calls 0 1 h) × NoCalls h 1 clients)

@@ -1,7 +1,7 @@
 use Rattle.std.proofs.Common.{subst, Some}
 use Rattle.std.proofs.lemmas.Result.{err_from_is_err_and}
 use Rattle.turn_lock.specs.Handles.{view}
-use Rattle.seat_work.proofs.Copied.{CopyOf, copied, copy_stopped}
+use Rattle.seat_work.proofs.Copied.{CopyOf, copied, copy_free, copy_stopped}
 use Rattle.seat_work.proofs.copying.copy_memory.Goals as goal
 
 pub returns-in_err-answer-clause-stopped : goal.returns-in_err-answer-clause-stopped
@@ -14,3 +14,9 @@ pub returns-clause-copied : goal.returns-clause-copied
 returns-clause-copied g c = copied g.U.UnitKind.meaning g.row.JMAX (view c.args.pass.now) (view c.perform-answer.new.seat) c.in_ok-answer.field-0 c.in-Some.image
     (subst (λ a. CopyOf g.U.UnitKind.meaning g.row.JMAX (view c.args.pass.now) (view c.perform-answer.new.seat) a (Some c.in-Some.image)) c.in_ok-answer.was
     (subst (λ i. CopyOf g.U.UnitKind.meaning g.row.JMAX (view c.args.pass.now) (view c.perform-answer.new.seat) c.perform-answer.result.answer i) c.in-Some.is c.perform-answer.ensures.turned))
+
+pub returns-in_err-answer-clause-free : goal.returns-in_err-answer-clause-free
+returns-in_err-answer-clause-free g c = copy_free g.U.UnitKind.meaning g.row.JMAX (view c.args.pass.now) (view c.perform-answer.new.seat) c.perform-answer.result.answer c.perform-answer.result.image c.perform-answer.ensures.turned
+
+pub returns-clause-free : goal.returns-clause-free
+returns-clause-free g c = copy_free g.U.UnitKind.meaning g.row.JMAX (view c.args.pass.now) (view c.perform-answer.new.seat) c.perform-answer.result.answer c.perform-answer.result.image c.perform-answer.ensures.turned

@@ -1,0 +1,3 @@
+pub mod Dylibs
+pub mod Lines
+pub mod Plans

@@ -1,0 +1,71 @@
+-- The lines of a script's clients: which calls each makes, and how it ends.
+use Rattle.std.specs.Prelude.{◌≡◌, ℕ, ⊤, List, [], ◌∷◌, ◌++◌, All, take, Option, Some, None}
+use Rattle.orc_ids.specs.declared.lookup.Stop.{Stop}
+use Rattle.code_memory.specs.Mapped.{byte_at}
+use Rattle.code_memory.specs.declared.image.Segment.{Segment}
+use Rattle.exec_run.specs.Run.{RunsTo}
+use Rattle.exec_run.specs.declared.ran.RunEnd.{RunEnd}
+use Rattle.session_model.specs.Calls.{IsStopped, Looks}
+use Rattle.session_model.specs.Meaning.{Meaning}
+use Rattle.session_model.specs.State.{state}
+use Rattle.session_model.specs.declared.entry.Entry.{Entry}
+use Rattle.session_model.specs.declared.entry.Event.{Event}
+use Rattle.session_model.specs.declared.entry.Event.TheVariants as event
+use Rattle.session_model.specs.declared.entry.Reply.{Reply}
+use Rattle.link_worker.specs.Looks.{EndsAs}
+use Rattle.link_worker.specs.declared.looking.LookEnd.{LookEnd}
+use Rattle.link_worker.specs.declared.looking.LookEnd.TheVariants as look
+use Rattle.script_calls.specs.Lines.{Line, One, LookUp, Run}
+use Rattle.given_names.specs.Given.{Given, address_of, given_names}
+use Rattle.run_laws.specs.Ended.{AreMemory}
+use Rattle.script_laws.specs.declared.line_end.LineEnd.{LineEnd}
+use Rattle.script_laws.specs.declared.line_end.LineEnd.TheVariants.{Looked, Ran, Replied, Skipped, Stopped, Unfound}
+
+-- what a line gave
+abbrev pub given_by : Line → LineEnd → Given
+given_by (LookUp l) (Looked (look.Found matches)) = given_names l.wanted matches
+given_by line end = []
+
+-- one call, which was answered so
+abbrev pub OneCall : Event Meaning → Reply → List (ℕ × Entry Meaning) → Type 0
+OneCall e r cs = (n : ℕ) × (c : Entry Meaning) × (cs ≡ (n, c) ∷ []) × (c.event ≡ e) × (c.reply ≡ r)
+
+-- one copy of the memory
+abbrev pub IsCopy : List (ℕ × Entry Meaning) → Type 0
+IsCopy (c ∷ []) = c.1.event ≡ event.Image
+IsCopy cs = ⊥
+
+-- a copy of the memory, which was run from the address
+abbrev pub CopiesAndRuns : List (Entry Meaning) → Option ℕ → ℕ → List ℕ → RunEnd → List ℕ → List (ℕ × Entry Meaning) → Type 0
+CopiesAndRuns h (Some address) fuel args end output (c ∷ []) =
+    (c.1.event ≡ event.Image) × ((ranges : List Segment) × AreMemory (state (take c.0 h)) ranges × RunsTo (byte_at ranges) address args fuel end output)
+CopiesAndRuns h address fuel args end output cs = ⊥
+
+-- The line made these calls, and ended so; names were given these addresses before.
+abbrev pub IsLine : List (Entry Meaning) → Given → Line → LineEnd → List (ℕ × Entry Meaning) → Type 0
+IsLine h given (One e) (Replied r) cs = OneCall e r cs
+IsLine h given (LookUp l) (Looked end) cs = Looks h l cs × EndsAs end cs
+IsLine h given (Run name fuel args) Unfound cs = (address_of name given ≡ None) × (cs ≡ [])
+IsLine h given (Run name fuel args) (Ran end output) cs = CopiesAndRuns h (address_of name given) fuel args end output cs
+IsLine h given line end cs = ⊥
+
+-- the calls that a line makes, whatever comes of them
+abbrev pub CallsOf : List (Entry Meaning) → Given → Line → List (ℕ × Entry Meaning) → Type 0
+CallsOf h given (One e) cs = (r : Reply) × OneCall e r cs
+CallsOf h given (LookUp l) cs = Looks h l cs
+CallsOf h given (Run name fuel args) cs = (address : ℕ) × (address_of name given ≡ Some address) × IsCopy cs
+
+-- each of the lines was skipped
+abbrev pub AreSkipped : List Line → List LineEnd → Type 0
+AreSkipped [] [] = ⊤
+AreSkipped (line ∷ lines) (Skipped ∷ ends) = AreSkipped lines ends
+AreSkipped lines ends = ⊥
+
+-- The lines made these calls, one line after the other, and each ended so. One that was stopped made the beginning of its calls, and
+-- the lines after it are skipped, without a call.
+pub data AreLines (h : List (Entry Meaning)) : Given → List Line → List LineEnd → List (ℕ × Entry Meaning) → Type 0 where
+  AtEnd : (given : Given) → AreLines h given [] [] []
+  Goes : (given : Given) (line : Line) (lines : List Line) (end : LineEnd) (ends : List LineEnd) (now later : List (ℕ × Entry Meaning)) →
+      IsLine h given line end now → AreLines h (given_by line end ++ given) lines ends later → AreLines h given (line ∷ lines) (end ∷ ends) (now ++ later)
+  Stops : (given : Given) (line : Line) (lines : List Line) (st : Stop) (skipped : List LineEnd) (now : List (ℕ × Entry Meaning)) →
+      IsStopped (CallsOf h given line) now → AreSkipped lines skipped → AreLines h given (line ∷ lines) (Stopped st ∷ skipped) now
