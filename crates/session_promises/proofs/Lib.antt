@@ -1,0 +1,7 @@
+pub mod Entries
+pub mod Failures
+pub mod FoundReady
+pub mod LastCalls
+pub mod Lodged
+pub mod Runs
+pub mod Settled

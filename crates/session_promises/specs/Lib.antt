@@ -1,0 +1,4 @@
+pub mod Lookups
+pub mod Failures
+pub mod Runs
+pub mod Laws

@@ -1,0 +1,33 @@
+//! The laws.
+ghost use Rattle.session_promises.specs.Laws.{FailedWhereLost, FailureHitsThose, FoundIsReady, FoundWhereSettled, IntactRunsAsLinked, NothingElseFails};
+
+/// A lookup that is found is answered with addresses at exactly the first entry that leaves all its matches at
+/// its level.
+pub fn found_where_settled()
+    ensures { FoundWhereSettled }
+{}
+
+/// A lookup that failed was answered so at exactly the first entry that loses a match.
+pub fn failed_where_lost()
+    ensures { FailedWhereLost }
+{}
+
+/// Where a lookup at Ready is found, all that its matches reach is emitted.
+pub fn found_is_ready()
+    ensures { FoundIsReady }
+{}
+
+/// A failure puts in error exactly the unready instances that reach what it strikes.
+pub fn failure_hits_those()
+    ensures { FailureHitsThose }
+{}
+
+/// Nothing but a fail or a removal puts an instance in error.
+pub fn nothing_else_fails()
+    ensures { NothingElseFails }
+{}
+
+/// A run from an intact symbol has the end and the output of the statically linked program of its closure.
+pub fn intact_runs_as_linked()
+    ensures { IntactRunsAsLinked }
+{}
