@@ -1,0 +1,10 @@
+mod Setting
+mod OneLine
+mod ManyLines
+mod MemberEnds
+mod Notifying
+mod ScriptRuns
+mod WholeSession
+mod Loops
+mod NewMembers
+mod Crossing

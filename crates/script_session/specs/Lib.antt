@@ -1,0 +1,5 @@
+pub mod SetUps
+pub mod Lines
+pub mod Clients
+pub mod Members
+pub mod Leaving
