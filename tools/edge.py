@@ -193,6 +193,53 @@ ENDS = [
 ]
 
 
+HELLO = "dylib main\ntracker main t\nobject main t hello.o\n"
+LOOKUP = "lookup ready main:all main\n"
+LOOKED = LINKED.replace("12 s1 image = image\n", "")
+HELLO_TEXT = b"hello\n".hex()
+ODD_TEXT = b"7 is odd\n".hex()
+TWO_CLIENTS = "dylib main\ntracker main t\nobject main t even.o\nobject main t odd.o\nclient\n" + LOOKUP + "run main 100000\nclient\n" + LOOKUP.replace(" main\n", " is_odd\n")
+
+# The script on standard input, the words, the exit status, standard output and standard error.
+SCRIPTS = [
+    ("", [], 0, "", "end done\n"),
+    (HELLO + "client\n" + LOOKUP + "run main 1000\n", [], 0, LINKED + f"c1 l1 found main@10000000\nc1 l2 exited 0 {HELLO_TEXT}\n", "end done\n"),
+    (HELLO + "client\n" + LOOKUP + "run main 8\n", ["--workers", "0"], 0, LINKED + f"c1 l1 found main@10000000\nc1 l2 out of fuel {HELLO_TEXT}\n", "end done\n"),
+    (
+        HELLO + "client\n" + LOOKUP + "remove t\n" + LOOKUP + "run main 100\n",
+        [],
+        0,
+        LOOKED
+        + "12 s1 remove t0 = removed\n13 s1 ask d0:all ready main = missing main\n14 s1 image = image\n"
+        + "c1 l1 found main@10000000\nc1 l2 removed\nc1 l3 missing main\nc1 l4 trap 10000000 fetch -\n",
+        "end done\n",
+    ),
+    (
+        HELLO + "client\n" + LOOKUP.replace("lookup", "watch"),
+        [],
+        0,
+        LOOKED.replace("ask", "watch 0") + "c1 l1 found main@10000000\n",
+        "end done\n",
+    ),
+    (HELLO + "client\ndefine main t hello.o\nrun main 1\n", [], 0, SETUP + "4 s1 define d0 t0 o0 = duplicate main i0\nc1 l1 duplicate main i0\nc1 l2 unfound\n", "end done\n"),
+    ("client\n" + LOOKUP, [], 104, "", "end script refused 2 unknown\n"),
+    ("frob\n", ["--workers", "16"], 104, "", "end script refused 1 word\n"),
+    (HELLO + "client\n" + 17 * LOOKUP.replace("lookup", "watch"), [], 104, "", "end script refused 21 nonote\n"),
+    (HELLO.replace("hello.o", "nosuch.o"), [], 102, "", "end file fault 0\n"),
+    (HELLO + "object main t cut.o\n", [], 105, "", "end object refused 1 e1 400\n"),
+    (HELLO.replace("hello.o", "large.o"), [], 106, "", "end too long 0\n"),
+    (HELLO, ["hello.o"], 100, "", "end usage bad words\n"),
+    (HELLO, ["--fuel", "1"], 100, "", "end usage bad words\n"),
+    (HELLO, ["--workers", "17"], 100, "", "end usage bad number\n"),
+]
+
+# The same with workers and several clients, whose journal may be any of many: the result lines.
+RESULTS = [
+    (HELLO + "client\n" + LOOKUP + "run main 1000\n", f"c1 l1 found main@10000000\nc1 l2 exited 0 {HELLO_TEXT}\n"),
+    (HELLO + "client\n" + LOOKUP.replace(" main\n", " nosuch\n") + "run nosuch 1\n", "c1 l1 missing nosuch\nc1 l2 unfound\n"),
+]
+
+
 class Edge:
     def __init__(self, orc, folder):
         self.orc, self.folder, self.tried, self.wrong = orc, folder, 0, 0
@@ -215,6 +262,27 @@ class Edge:
         """A run with workers, whose journal may be any of many."""
         told = self.run(words)
         self.compare(words, (status, out.encode(), [end.encode()]), (told.returncode, told.stdout, told.stderr.splitlines()[-1:]))
+
+    def session(self, script, words, status, out, log):
+        told = self.fed(script, words)
+        self.compare(f"session {words} of {script!r}", (status, out.encode(), log.encode()), (told.returncode, told.stdout, told.stderr))
+
+    def results(self, script, workers, lines):
+        told = self.fed(script, ["--workers", workers])
+        results = b"".join(it for it in told.stdout.splitlines(keepends=True) if it.startswith(b"c"))
+        self.compare(f"session with {workers} workers of {script!r}", (0, lines.encode(), b"end done\n"), (told.returncode, results, told.stderr))
+
+    def clients(self, workers):
+        """Two clients beside each other: what is found lies wherever it was placed first, and the run is the same."""
+        told = self.fed(TWO_CLIENTS, ["--workers", workers])
+        results = [it for it in told.stdout.decode().splitlines() if it.startswith("c")]
+        kept = [it.partition("@")[0] for it in results]
+        wanted = ["c1 l1 found main", f"c1 l2 exited 8 {ODD_TEXT}", "c2 l1 found is_odd"]
+        self.compare(f"two clients and {workers} workers", (0, wanted, b"end done\n"), (told.returncode, kept, told.stderr))
+
+    def fed(self, script, words):
+        """The session of a script on standard input."""
+        return subprocess.run([self.orc, "session", *words], cwd=self.folder, input=script.encode(), stdout=subprocess.PIPE, stderr=subprocess.PIPE, timeout=60)
 
     def write_fault(self, what, **how):
         """A write that fails is answered by the status alone, and the log isn't begun."""
@@ -251,6 +319,12 @@ def main():
         for words, *wanted in ENDS:
             for workers in ("1", "4", "16"):
                 edge.ending([*words, "--workers", workers], *wanted)
+        for case in SCRIPTS:
+            edge.session(*case)
+        for workers in ("0", "1", "4", "16"):
+            for script, lines in RESULTS:
+                edge.results(script, workers, lines)
+            edge.clients(workers)
         if os.path.exists("/dev/full"):
             with open("/dev/full", "wb") as full:
                 edge.write_fault("a full output", stdout=full)

@@ -13,7 +13,8 @@ The objects are written here, without an assembler. Shapes:
     wide    two objects of as many functions, each of which has a call of its own object and one of the other
 
 Each is made of 100 and of 1,000 objects (a command line has at most 1,024) or functions, and run with 0, 1, 4 and 16
-workers; ld.lld links the same files, with one thread, and qemu-riscv64 runs what it made. Times are the least of three runs, in
+workers, and by a script of 1, 4 and 16 clients, which each look main up and run it, with 4 workers; ld.lld links
+the same files, with one thread, and qemu-riscv64 runs what it made. Times are the least of three runs, in
 processor and wall seconds, and how often that of the fewest objects goes into that of the most is said at the end of a
 row. Output and exit status are compared with what the programs are made to answer; the exit status is 1 where one
 differs. What isn't installed is passed over."""
@@ -30,6 +31,7 @@ import time
 
 FUNCTIONS, OBJECT_BYTES, REACHED = 50, 30_000, 3
 WORKERS = (0, 1, 4, 16)
+CLIENTS = (1, 4, 16)
 ROUNDS = 3
 TEXT = b"ok\n"
 FUEL = 1 << 40
@@ -240,13 +242,13 @@ def start():
     return text.file()
 
 
-def measured(command, folder, runs):
-    """What a command wrote and its exit status, and the least of its processor and wall times."""
+def measured(command, folder, runs, source=os.devnull):
+    """What a command wrote that reads a file, its exit status, and the least of its processor and wall times."""
     processor = wall = float("inf")
     for _ in range(runs):
-        with open(folder / "out", "wb") as out, open(folder / "log", "wb") as log:
+        with open(folder / source, "rb") as text, open(folder / "out", "wb") as out, open(folder / "log", "wb") as log:
             began = time.monotonic()
-            child = subprocess.Popen([str(it) for it in command], cwd=folder, stdin=subprocess.DEVNULL, stdout=out, stderr=log)
+            child = subprocess.Popen([str(it) for it in command], cwd=folder, stdin=text, stdout=out, stderr=log)
             _, status, used = os.wait4(child.pid, 0)
             wall = min(wall, time.monotonic() - began)
             child.returncode = os.waitstatus_to_exitcode(status)
@@ -272,6 +274,21 @@ class Table:
             print(f"{what}: status {found[1]}, output {found[0][:60]!r}; wanted {wanted[1]} and {wanted[0]!r}")
 
 
+def script(clients, names):
+    """Each client looks main up and runs it."""
+    files = "".join(f"object main all {name}\n" for name in names)
+    return "dylib main\ntracker main all\n" + files + f"client\nlookup ready main:all main\nrun main {1 << 30}\n" * clients
+
+
+def try_session(table, orc, folder, shape, count, runs, clients, names, answer):
+    (folder / "script").write_text(script(clients, names))
+    out, status, processor, wall = measured([orc, "session", "--workers", 4], folder, runs, "script")
+    ends = [line for line in out.splitlines() if line.startswith(b"c") and b" exited " in line]
+    wanted = [f"c{client} l2 exited {answer} {TEXT.hex()}".encode() for client in range(1, clients + 1)]
+    table.compare(f"{shape}, {count}, {clients} clients", (wanted, 0), (ends, status))
+    table.add(shape, f"orc, {clients} clients", count, processor, wall)
+
+
 def try_shape(table, orc, folder, shape, count, runs):
     objects, answer = SHAPES[shape](count)
     names = [f"{k}.o" for k in range(len(objects))]
@@ -287,6 +304,8 @@ def try_shape(table, orc, folder, shape, count, runs):
         end = (folder / "log").read_bytes().splitlines()[-1:]
         table.compare(f"{shape}, {count}, {workers} workers, end line", ([f"end exited {answer}".encode()], 0), (end, 0))
         table.add(shape, f"orc, {workers} workers", count, processor, wall)
+    for clients in CLIENTS:
+        try_session(table, orc, folder, shape, count, runs, clients, names, answer)
     if not shutil.which("ld.lld"):
         print("skipped: ld.lld, which isn't installed")
         return

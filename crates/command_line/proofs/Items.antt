@@ -4,7 +4,7 @@ use Rattle.std.specs.List.{list_any, position_or_len, before_first}
 use Rattle.std.specs.Bool.{then_some}
 use Rattle.std.proofs.lemmas.Bool.{cases_Bool}
 use Rattle.std.proofs.lemmas.Slice.Eq.{bytes_eq-Decides}
-use Rattle.command_line.specs.declared.option.RunOption.{RunOption}
+use Rattle.command_line.specs.declared.option.CommandOption.{CommandOption}
 use Rattle.command_line.specs.Words.{Given, File, is_option, is_end, is_equals, option_of, value_in, is_given, with_files, with_value, reads, given_by}
 
 none_passes : (p : ℕ → Bool) (word : List ℕ) → position_or_len p word ≡ length word → list_any p word ≡ false
@@ -38,7 +38,7 @@ pub end_given : (given : Given) (word : List ℕ) (words : List (List ℕ)) → 
 end_given given word words end = rw end (files_given given words)
 
 -- an option by its name, with its value in the next word
-pub named_given : (given new : Given) (word value : List ℕ) (words left : List (List ℕ)) (option : RunOption) → is_end word ≡ false → is_option word ≡ true → option_of (before_first is_equals word) ≡ Some option → value_in word ≡ None →
+pub named_given : (given new : Given) (word value : List ℕ) (words left : List (List ℕ)) (option : CommandOption) → is_end word ≡ false → is_option word ≡ true → option_of (before_first is_equals word) ≡ Some option → value_in word ≡ None →
     words ≡ value ∷ left → is_option value ≡ false → new ≡ with_value given option value →
     given_by given (word ∷ words) ≡ (if is_given given option then None else given_by new left)
 named_given given new word value words left option not_end is known named found file set =

@@ -6,13 +6,13 @@ use Rattle.command_line.specs.declared.error.UsageKind.TheVariants.{BadWords}
 use Rattle.command_line.specs.declared.error.CommandError.{CommandError}
 use Rattle.command_line.specs.declared.error.CommandError.TheVariants.{Usage, NoMemory}
 use Rattle.command_line.specs.declared.arguments.Arguments.{Arguments}
-use Rattle.command_line.specs.declared.command.RunWords.{RunWords}
-use Rattle.command_line.specs.Words.{Given, Request, request, is_option}
+use Rattle.command_line.specs.declared.command.Command.{Command}
+use Rattle.command_line.specs.Words.{Given, Asked, asked_of, is_option}
 
--- a request, or why there is none
-abbrev pub request_or : Result RunWords UsageKind → Result Request UsageKind
-request_or (Ok words) = Ok (request words)
-request_or (Err kind) = Err kind
+-- what is asked for, or why nothing is
+abbrev pub asked_or : Result Command UsageKind → Result Asked UsageKind
+asked_or (Ok command) = Ok (asked_of command)
+asked_or (Err kind) = Err kind
 
 -- words don't fit, unless memory ran out
 abbrev pub Refuses : Option Given → CommandError → Type 0

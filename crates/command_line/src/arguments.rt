@@ -1,9 +1,9 @@
 ghost use Rattle.std.specs.Prelude.{◌≡◌, ◌≤◌, ◌∷◌, [], not, length, true, false, OnOk, IfOk, IfErr, IfSome, IfNone, MatchOption};
-ghost use Rattle.command_line.specs.Words.{texts, is_option, is_end, is_given, with_files, with_value, nothing_given, given_by};
+ghost use Rattle.command_line.specs.Words.{texts, is_option, is_end, is_given, with_files, with_value, nothing_given, given_by, given_in};
 ghost use Rattle.command_line.specs.Answers.{given_of, lacks_value, Refuses};
 
 use crate::error::{CommandError, UsageKind};
-use crate::option::{RunOption, is_option, split_option};
+use crate::option::{CommandOption, is_option, split_option};
 use std::alloc::Global;
 use std::rc::RcStr;
 
@@ -18,8 +18,8 @@ pub struct Arguments<'a> {
 
 /// The arguments that words give.
 pub fn read_arguments(alloc: Global, words: &[RcStr]) -> Result<Arguments<'_>, CommandError>
-    ensures read { IfOk result (λ arguments. given_by nothing_given (texts words.now) ≡ Some (given_of arguments)) }
-    ensures refused { IfErr result (Refuses (given_by nothing_given (texts words.now))) }
+    ensures read { IfOk result (λ arguments. given_in (texts words.now) ≡ Some (given_of arguments)) }
+    ensures refused { IfErr result (Refuses (given_in (texts words.now))) }
 {
     let mut arguments = Arguments::new(alloc);
     let mut left = words;
@@ -82,7 +82,7 @@ impl<'a> Arguments<'a> {
         ensures shorter { IfSome result (λ left. length left.now ≤ length rest.now) }
     {
         let (name, value) = split_option(word);
-        let option = RunOption::named(name)?;
+        let option = CommandOption::named(name)?;
         match value {
             Some(value) => self.give(option, value).then_some(rest),
             None => {
@@ -93,14 +93,14 @@ impl<'a> Arguments<'a> {
     }
 
     /// Gives an option its value; false if it had one already.
-    fn give(&mut self, option: RunOption, value: &'a str) -> bool
+    fn give(&mut self, option: CommandOption, value: &'a str) -> bool
         ensures first { result ≡ not (is_given (given_of self.old) option) }
         ensures given { given_of self.new ≡ with_value (given_of self.old) option value.now }
     {
         let before = match option {
-            RunOption::Entry => self.entry.replace(value),
-            RunOption::Fuel => self.fuel.replace(value),
-            RunOption::Workers => self.workers.replace(value),
+            CommandOption::Entry => self.entry.replace(value),
+            CommandOption::Fuel => self.fuel.replace(value),
+            CommandOption::Workers => self.workers.replace(value),
         };
         before.is_none()
     }

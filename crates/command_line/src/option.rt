@@ -3,25 +3,25 @@ ghost use Rattle.std.specs.Option.{option_copied};
 ghost use Rattle.std.specs.List.{before_first};
 ghost use Rattle.command_line.specs.Words.{is_option, is_equals, value_in};
 
-/// The options of `run`.
+/// The options that commands have.
 #[derive(Clone, Copy)]
-pub enum RunOption {
+pub enum CommandOption {
     Entry,
     Fuel,
     Workers,
 }
 
-impl RunOption {
+impl CommandOption {
     ghost use Rattle.command_line.specs.Words.{option_of};
 
     /// The option of a name.
-    pub fn named(name: &str) -> Option<RunOption>
+    pub fn named(name: &str) -> Option<CommandOption>
         ensures { result ≡ option_of name.now }
     {
         match name {
-            "--entry" => Some(RunOption::Entry),
-            "--fuel" => Some(RunOption::Fuel),
-            "--workers" => Some(RunOption::Workers),
+            "--entry" => Some(CommandOption::Entry),
+            "--fuel" => Some(CommandOption::Fuel),
+            "--workers" => Some(CommandOption::Workers),
             _ => None,
         }
     }

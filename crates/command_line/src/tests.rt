@@ -13,6 +13,22 @@ fn words_in(alloc: Global, line: &str) -> Result<Vec<RcStr>, AllocError> {
     Ok(words)
 }
 
+/// The run that words ask for.
+fn asked_run(alloc: Global, words: &[RcStr]) -> Result<RunWords<'_>, Fail> {
+    match read_command(alloc, words)? {
+        Command::Run(run) => Ok(run),
+        Command::Session(_) => Err(Fail::new("a session")),
+    }
+}
+
+/// The session that words ask for.
+fn asked_session(alloc: Global, words: &[RcStr]) -> Result<SessionWords, Fail> {
+    match read_command(alloc, words)? {
+        Command::Run(_) => Err(Fail::new("a run")),
+        Command::Session(session) => Ok(session),
+    }
+}
+
 /// Why a line's words are refused, if they are.
 fn refusal(alloc: Global, words: &[RcStr]) -> Result<Option<UsageKind>, Fail> {
     match read_command(alloc, words) {
@@ -40,7 +56,7 @@ fn files_stand_before_between_and_after_options(rt: HostRuntime) -> Result<(), F
     let alloc = rt.alloc();
     let line = "orc run a.o --fuel 7 b.o c.o --entry start --workers 3 d.o";
     let words = words_in(alloc, line)?;
-    let asked = read_command(alloc, &words)?;
+    let asked = asked_run(alloc, &words)?;
     assert_eq!(rt;
         asked.files.as_slice(),
         ["a.o", "b.o", "c.o", "d.o"].as_slice()
@@ -55,7 +71,7 @@ fn files_stand_before_between_and_after_options(rt: HostRuntime) -> Result<(), F
 fn options_have_usual_values(rt: HostRuntime) -> Result<(), Fail> {
     let alloc = rt.alloc();
     let words = words_in(alloc, "orc run a.o")?;
-    let asked = read_command(alloc, &words)?;
+    let asked = asked_run(alloc, &words)?;
     assert_eq!(rt; asked.files.as_slice(), ["a.o"].as_slice());
     assert_eq!(rt; asked.entry, "main");
     assert_eq!(rt; asked.fuel, 1_000_000);
@@ -67,7 +83,7 @@ fn options_have_usual_values(rt: HostRuntime) -> Result<(), Fail> {
 fn every_word_after_two_dashes_is_a_file(rt: HostRuntime) -> Result<(), Fail> {
     let alloc = rt.alloc();
     let words = words_in(alloc, "orc run --fuel 9 -- a.o --entry -x -- --help")?;
-    let asked = read_command(alloc, &words)?;
+    let asked = asked_run(alloc, &words)?;
     assert_eq!(rt;
         asked.files.as_slice(),
         ["a.o", "--entry", "-x", "--", "--help"].as_slice()
@@ -81,7 +97,7 @@ fn every_word_after_two_dashes_is_a_file(rt: HostRuntime) -> Result<(), Fail> {
 fn a_dash_is_a_file_or_a_value(rt: HostRuntime) -> Result<(), Fail> {
     let alloc = rt.alloc();
     let words = words_in(alloc, "orc run - --entry - -")?;
-    let asked = read_command(alloc, &words)?;
+    let asked = asked_run(alloc, &words)?;
     assert_eq!(rt; asked.files.as_slice(), ["-", "-"].as_slice());
     assert_eq!(rt; asked.entry, "-");
     Ok(())
@@ -94,7 +110,7 @@ fn a_value_after_equals_may_be_anything(rt: HostRuntime) -> Result<(), Fail> {
         alloc,
         "orc run --entry=--x=y --fuel=1099511627776 --workers=16 a=b",
     )?;
-    let asked = read_command(alloc, &words)?;
+    let asked = asked_run(alloc, &words)?;
     assert_eq!(rt; asked.files.as_slice(), ["a=b"].as_slice());
     assert_eq!(rt; asked.entry, "--x=y");
     assert_eq!(rt; asked.fuel, 1_099_511_627_776);
@@ -103,16 +119,21 @@ fn a_value_after_equals_may_be_anything(rt: HostRuntime) -> Result<(), Fail> {
 }
 
 #[test]
-fn the_command_is_run(rt: HostRuntime) -> Result<(), Fail> {
+fn word_1_is_the_command(rt: HostRuntime) -> Result<(), Fail> {
     let alloc = rt.alloc();
     assert_eq!(rt; refusal(alloc, &[])?, Some(UsageKind::NoCommand));
-    expect_refused(&rt, alloc, UsageKind::NoCommand, &["orc", "run"])?;
+    let alone = ["orc", "run", "session"];
+    expect_refused(&rt, alloc, UsageKind::NoCommand, &alone)?;
     let others = [
         "orc ",
         "orc Run a.o",
         "orc runs a.o",
+        "orc Session",
+        "orc sessions",
+        "orc sess",
         "orc --help",
         "orc -- run a.o",
+        "orc --workers 4 session",
     ];
     expect_refused(&rt, alloc, UsageKind::UnknownCommand, &others)
 }
@@ -194,7 +215,7 @@ fn numbers_are_plain_and_in_range(rt: HostRuntime) -> Result<(), Fail> {
 fn zero_is_a_number(rt: HostRuntime) -> Result<(), Fail> {
     let alloc = rt.alloc();
     let words = words_in(alloc, "orc run a.o --fuel 0 --workers 0")?;
-    let asked = read_command(alloc, &words)?;
+    let asked = asked_run(alloc, &words)?;
     assert_eq!(rt; asked.fuel, 0);
     assert_eq!(rt; asked.workers, 0);
     Ok(())
@@ -207,7 +228,7 @@ fn there_are_at_most_1024_files(rt: HostRuntime) -> Result<(), Fail> {
     for _ in 0..1_024 {
         words.push(RcStr::from_str(alloc, "a.o")?)?;
     }
-    assert_eq!(rt; read_command(alloc, &words)?.files.len(), 1_024);
+    assert_eq!(rt; asked_run(alloc, &words)?.files.len(), 1_024);
     words.push(RcStr::from_str(alloc, "a.o")?)?;
     assert_eq!(rt; refusal(alloc, &words)?, Some(UsageKind::BadWords));
     Ok(())
@@ -222,10 +243,67 @@ fn an_entry_has_at_most_4096_bytes(rt: HostRuntime) -> Result<(), Fail> {
     }
     let mut words = words_in(alloc, "orc run a.o --entry")?;
     words.push(RcStr::from_str(alloc, name.as_str())?)?;
-    assert_eq!(rt; read_command(alloc, &words)?.entry, name.as_str());
+    assert_eq!(rt; asked_run(alloc, &words)?.entry, name.as_str());
     name.push('x')?;
     words.pop();
     words.push(RcStr::from_str(alloc, name.as_str())?)?;
     assert_eq!(rt; refusal(alloc, &words)?, Some(UsageKind::BadWords));
     Ok(())
+}
+
+#[test]
+fn a_session_may_have_workers(rt: HostRuntime) -> Result<(), Fail> {
+    let alloc = rt.alloc();
+    let lines = [
+        ("orc session", 0),
+        ("orc session --", 0),
+        ("orc session --workers 0", 0),
+        ("orc session --workers 4", 4),
+        ("orc session --workers=4", 4),
+        ("orc session --workers 16 --", 16),
+    ];
+    for (line, workers) in lines {
+        let words = words_in(alloc, line)?;
+        assert_eq!(rt; asked_session(alloc, &words)?.workers, workers, "{line}");
+    }
+    Ok(())
+}
+
+#[test]
+fn a_session_has_nothing_but_workers(rt: HostRuntime) -> Result<(), Fail> {
+    let alloc = rt.alloc();
+    let lines = [
+        "orc session a.o",
+        "orc session -",
+        "orc session ",
+        "orc session --workers 4 a.o",
+        "orc session -- --workers=4",
+        "orc session --entry main",
+        "orc session --fuel=1000000",
+        "orc session --workers",
+        "orc session --workers -4",
+        "orc session --workers 4 --workers=4",
+        "orc session --worker 4",
+        "orc session --help",
+    ];
+    expect_refused(&rt, alloc, UsageKind::BadWords, &lines)
+}
+
+#[test]
+fn workers_of_a_session_are_a_number_in_range(rt: HostRuntime) -> Result<(), Fail> {
+    let alloc = rt.alloc();
+    let numbers = [
+        "orc session --workers 17",
+        "orc session --workers 04",
+        "orc session --workers +4",
+        "orc session --workers=-4",
+        "orc session --workers=",
+        "orc session --workers four",
+    ];
+    expect_refused(&rt, alloc, UsageKind::BadNumber, &numbers)?;
+    let words = [
+        "orc session --workers 17 a.o",
+        "orc session --workers=x --fuel 1",
+    ];
+    expect_refused(&rt, alloc, UsageKind::BadWords, &words)
 }

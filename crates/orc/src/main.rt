@@ -6,10 +6,10 @@
 
 ghost use Rattle.std.specs.Prelude.{◌≡◌, All, None, IfOk};
 
+use answers::{Answer, end_line};
 use command_line::UsageKind;
 use orc_cli::orc;
 use orc_io::{FolderFiles, Note, OpenGate, Sink, StdSink, StdSource, write_all};
-use run_answers::{Answer, end_line};
 use std::alloc::{AllocError, Global};
 use std::io::ErrorKind;
 use std::process::ExitCode;

@@ -12,8 +12,8 @@ use Rattle.run_laws.specs.declared.linked.Linked.{Linked}
 use Rattle.run_laws.specs.declared.linked.Linked.TheVariants as linked
 use Rattle.run_answers.specs.Lost.{lost_answer}
 use Rattle.run_answers.specs.Sessions.{HasRun, IsAnswerOf, Ran, NoEntry, NotReady, NotDefined, NoPlace}
-use Rattle.run_answers.specs.declared.answer.Answer.{Answer}
-use Rattle.run_answers.specs.declared.answer.Answer.TheVariants.{DefineRefused, JournalFull, Missing, NoMemory}
+use Rattle.answers.specs.declared.answer.Answer.{Answer}
+use Rattle.answers.specs.declared.answer.Answer.TheVariants.{DefineRefused, JournalFull, Missing, NoMemory}
 use Rattle.orc_cli.specs.declared.running.Answered.{Answered}
 use Rattle.orc_cli.proofs.LoadedRuns.{word_file}
 

@@ -5,6 +5,6 @@ mod NamedUnits
 mod RunNames
 mod LoadedRuns
 mod Finished
-mod FirstOf
 mod EndAnswers
 mod LoadedFiles
+mod Asked

@@ -19,7 +19,7 @@ use Rattle.run_laws.specs.Ended.{Ended, IsRun}
 use Rattle.run_laws.specs.declared.linked.Linked.{Linked}
 use Rattle.run_answers.specs.Answered.{HasSession}
 use Rattle.run_answers.specs.Sessions.{AreOfWords, IsAnswerOf, IsFileOf, IsWordOf}
-use Rattle.run_answers.specs.declared.answer.Answer.{Answer}
+use Rattle.answers.specs.declared.answer.Answer.{Answer}
 use Rattle.run_answers.proofs.Words.{plain_units}
 use Rattle.orc_cli.specs.Loading.{AreShared, IsLoaded}
 use Rattle.orc_cli.specs.declared.loading.Loaded.{Loaded}

@@ -1,39 +1,11 @@
 //! Why an entry could not be made ready, by the journal.
 ghost use Rattle.std.specs.Prelude.{◌≡◌};
 ghost use Rattle.session_model.specs.State.{plain_event, plain_history};
-ghost use Rattle.run_answers.specs.Lost.{gives_up, is_for_memory, lost_answer, made_in, refusal_in, refusal_of, refused_by, unit_of, wanted_memory};
+ghost use Rattle.run_answers.specs.Lost.{lost_answer, made_in, refusal_in, refusal_of, refused_by, unit_of};
 
+use answers::{Answer, wanted_memory};
 use orc_ids::{InstId, Place, UnitId};
-use run_answers::Answer;
 use session_model::{Entry, Event, Reply, UnitKind, Why};
-
-fn is_for_memory(why: &Why) -> bool
-    ensures { result ≡ is_for_memory why.now }
-{
-    matches!(why, Why::NoMemory)
-}
-
-/// A unit is given up for want of memory.
-fn gives_up<U: UnitKind>(event: &Event<U>) -> bool
-    ensures { result ≡ gives_up (plain_event U.meaning event.now) }
-{
-    match event {
-        Event::Fail(_, why) => is_for_memory(why),
-        _ => false,
-    }
-}
-
-/// A unit was given up for want of memory.
-fn wanted_memory<U: UnitKind>(journal: &[Entry<U>]) -> bool
-    ensures { result ≡ wanted_memory (plain_history U.meaning journal.now) }
-{
-    for entry in journal {
-        if gives_up(&entry.event) {
-            return true;
-        }
-    }
-    false
-}
 
 /// The unit of a definition that made the instance.
 fn made_in(instance: InstId, reply: &Reply) -> Option<UnitId>

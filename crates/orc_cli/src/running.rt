@@ -12,6 +12,7 @@ ghost use Rattle.run_answers.specs.Sessions.{HasRun, IsAnswerOf, IsWordOf, answe
 
 use crate::loading::Loaded;
 use crate::lost::lost_answer;
+use answers::Answer;
 use code_memory::Image;
 use command_line::RunWords;
 use exec_run::{Ran, RunEnd, run};
@@ -21,7 +22,6 @@ use linked_program::{LinkedProgram, link};
 use orc_ids::{Bytes, InstId, Stop};
 use orc_io::{Gate, Note};
 use orc_names::Names;
-use run_answers::Answer;
 use run_laws::Linked;
 use session_model::{Entry, UnitKind};
 use session_units::ObjectUnit;

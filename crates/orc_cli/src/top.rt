@@ -1,16 +1,19 @@
-ghost use Rattle.std.specs.Prelude.{◌≡◌, ◌≢◌, ◌≤◌, ℕ, map, take, All, None};
+ghost use Rattle.std.specs.Prelude.{◌≡◌, ◌≢◌, ◌≤◌, ℕ, map, All, None, Ok};
 ghost use Rattle.command_line.specs.Words.{asked_by};
-ghost use Rattle.run_answers.specs.Answers.{status_of};
-ghost use Rattle.run_answers.specs.Answered.{IsAnswered, held_by};
+ghost use Rattle.answers.specs.Answers.{status_of};
+ghost use Rattle.answers.specs.Written.{held_by};
+ghost use Rattle.noted.specs.Heard.{AllHaveHeard};
 ghost use Rattle.run_answers.specs.Clauses.{Answers, call_of};
+ghost use Rattle.session_answers.specs.Clauses.{SessionAnswers, session_call};
+ghost use Rattle.orc_cli.specs.Asking.{ForRun, ForSession};
 
-use crate::finding::find_answer;
-use crate::notes::{Noted, Notes};
+use crate::asking::{Asked, ask};
 use crate::writing::write_found;
+use answers::Answer;
 use execution_session::JOURNAL_LIMIT;
+use noted::{Noted, Notes};
 use orc_io::{Files, Gate, Notify, Sink, Source};
 use orc_names::NameHasher;
-use run_answers::Answer;
 use std::alloc::Global;
 use std::collections::hash_map::RandomState;
 use std::random::RandomSource;
@@ -28,12 +31,15 @@ pub struct Ended<N: Notify> {
     pub notes: Notes<N>,
 }
 
-/// Does what the words ask: reads the files, links their objects in a session, runs the program from the
-/// entry, writes the run's output on `out`, and on `log` the session's journal and the end line, and
-/// answers.
+/// Does what the words ask, and answers.
 ///
-/// Word 0 is the program's name, word 1 the command. The runtime gives the threads of the workers, and the
-/// seed by which names are hashed. The source and the notifiers are for commands that are not built yet.
+/// `run` reads the files, links their objects in a session, runs the program from the entry, writes the run's
+/// output on `out`, and on `log` the session's journal and the end line. `session` reads the script on the source
+/// and its files, runs its session, writes on `out` the journal and the result of each line, and on `log` the end
+/// line.
+///
+/// Word 0 is the program's name, word 1 the command. The runtime gives the threads of clients and workers, and the
+/// seed by which names are hashed. The notifiers are for the watch lines of a script.
 pub fn orc<
     S: Source,
     F: Files,
@@ -53,26 +59,35 @@ pub fn orc<
     gate: &G,
     notes: Vec<N>,
 ) -> Ended<N>
-    requires { All (λ n. N.heard n ≡ None) notes.items }
+    requires unheard { All (λ n. N.heard n ≡ None) notes.items }
     ensures status { result.status ≡ status_of result.answer }
-    // The journal has more places than a run has entries.
-    ensures never_full { (len : ℕ) → result.answer ≢ Answer.JournalFull len }
-    ensures answers { Answers JOURNAL_LIMIT (call_of (asked_by words.now)
+    // What a run, or words that ask for nothing, are answered.
+    ensures run { ForRun (asked_by words.now) (λ asked. Answers JOURNAL_LIMIT (call_of asked
         (F.holds files.old) (F.faults files.old) (F.faults files.new)
         (held_by (O.held out.old) (O.faults out.old)) (held_by (O.held out.new) (O.faults out.new))
-        (held_by (L.held log.old) (L.faults log.old)) (held_by (L.held log.new) (L.faults log.new))) result.answer }
+        (held_by (L.held log.old) (L.faults log.old)) (held_by (L.held log.new) (L.faults log.new))) result.answer) }
+    // The journal of as many places as one can have has more than a run has entries.
+    ensures never_full { ForRun (asked_by words.now) (λ asked. (len : ℕ) → result.answer ≢ Answer.JournalFull len) }
+    // What the session of a script is answered, by so many workers.
+    ensures session { ForSession (asked_by words.now) (λ workers. SessionAnswers N.heard JOURNAL_LIMIT
+        (session_call workers notes.items result.notes
+        (held_by (S.left source.old) (S.faults source.old)) (held_by (S.left source.new) (S.faults source.new))
+        (F.holds files.old) (F.faults files.old) (F.faults files.new)
+        (held_by (O.held out.old) (O.faults out.old)) (held_by (O.held out.new) (O.faults out.new))
+        (held_by (L.held log.old) (L.faults log.old)) (held_by (L.held log.new) (L.faults log.new))) result.answer) }
 
-    // The source is not read, and the files hold what they held. No count falls.
-    ensures source_left { S.left source.new ≡ S.left source.old }
-    ensures source_faults { S.faults source.new ≡ S.faults source.old }
+    // But for a session the source is not read. The files hold what they held. No count falls.
+    ensures source_left { ForRun (asked_by words.now) (λ asked. S.left source.new ≡ S.left source.old) }
+    ensures source_quiet { ForRun (asked_by words.now) (λ asked. S.faults source.new ≡ S.faults source.old) }
+    ensures source_counted { S.faults source.old ≤ S.faults source.new }
     ensures files_same { F.holds files.new ≡ F.holds files.old }
     ensures files_counted { F.faults files.old ≤ F.faults files.new }
     ensures out_counted { O.faults out.old ≤ O.faults out.new }
     ensures log_counted { L.faults log.old ≤ L.faults log.new }
 
-    // The notifiers come back in their order, and nothing was told them.
-    ensures notes { result.answer ≢ Answer.NoMemory → result.notes ≡ map Noted.Unfired notes.items }
-    ensures fewer_notes { (n : ℕ) × (result.notes ≡ take n (map Noted.Unfired notes.items)) }
+    // A notifier that was told has heard how its lookup ended, and any other one nothing. A run tells none: all come back in their order.
+    ensures heard { AllHaveHeard N.heard result.notes }
+    ensures notes { ForRun (asked_by words.now) (λ asked. result.notes ≡ map Noted.Unfired notes.items) }
 {
     orc_sized::<S, F, O, L, G, N, R, JOURNAL_LIMIT>(
         rt, alloc, words, source, files, out, log, gate, notes,
@@ -103,28 +118,44 @@ pub fn orc_sized<
     requires unheard { All (λ n. N.heard n ≡ None) notes.items }
     requires journal { JMAX ≤ JOURNAL_LIMIT }
     ensures status { result.status ≡ status_of result.answer }
-    // A journal of as many places as one can have is never full.
-    ensures never_full { JMAX ≡ JOURNAL_LIMIT → (len : ℕ) → result.answer ≢ Answer.JournalFull len }
-    ensures answers { Answers JMAX (call_of (asked_by words.now)
+    // What a run, or words that ask for nothing, are answered.
+    ensures run { ForRun (asked_by words.now) (λ asked. Answers JMAX (call_of asked
         (F.holds files.old) (F.faults files.old) (F.faults files.new)
         (held_by (O.held out.old) (O.faults out.old)) (held_by (O.held out.new) (O.faults out.new))
-        (held_by (L.held log.old) (L.faults log.old)) (held_by (L.held log.new) (L.faults log.new))) result.answer }
+        (held_by (L.held log.old) (L.faults log.old)) (held_by (L.held log.new) (L.faults log.new))) result.answer) }
+    // The journal of as many places as one can have has more than a run has entries.
+    ensures never_full { JMAX ≡ JOURNAL_LIMIT → ForRun (asked_by words.now) (λ asked. (len : ℕ) → result.answer ≢ Answer.JournalFull len) }
+    // What the session of a script is answered, by so many workers.
+    ensures session { ForSession (asked_by words.now) (λ workers. SessionAnswers N.heard JMAX
+        (session_call workers notes.items result.notes
+        (held_by (S.left source.old) (S.faults source.old)) (held_by (S.left source.new) (S.faults source.new))
+        (F.holds files.old) (F.faults files.old) (F.faults files.new)
+        (held_by (O.held out.old) (O.faults out.old)) (held_by (O.held out.new) (O.faults out.new))
+        (held_by (L.held log.old) (L.faults log.old)) (held_by (L.held log.new) (L.faults log.new))) result.answer) }
 
-    // The source is not read, and the files hold what they held. No count falls.
-    ensures source_left { S.left source.new ≡ S.left source.old }
-    ensures source_faults { S.faults source.new ≡ S.faults source.old }
+    // But for a session the source is not read. The files hold what they held. No count falls.
+    ensures source_left { ForRun (asked_by words.now) (λ asked. S.left source.new ≡ S.left source.old) }
+    ensures source_quiet { ForRun (asked_by words.now) (λ asked. S.faults source.new ≡ S.faults source.old) }
+    ensures source_counted { S.faults source.old ≤ S.faults source.new }
     ensures files_same { F.holds files.new ≡ F.holds files.old }
     ensures files_counted { F.faults files.old ≤ F.faults files.new }
     ensures out_counted { O.faults out.old ≤ O.faults out.new }
     ensures log_counted { L.faults log.old ≤ L.faults log.new }
 
-    // The notifiers come back in their order, and nothing was told them.
-    ensures notes { result.answer ≢ Answer.NoMemory → result.notes ≡ map Noted.Unfired notes.items }
-    ensures fewer_notes { (n : ℕ) × (result.notes ≡ take n (map Noted.Unfired notes.items)) }
+    // A notifier that was told has heard how its lookup ended, and any other one nothing. A run tells none: all come back in their order.
+    ensures heard { AllHaveHeard N.heard result.notes }
+    ensures notes { ForRun (asked_by words.now) (λ asked. result.notes ≡ map Noted.Unfired notes.items) }
 {
-    let _ = source;
     let hasher = name_hasher(rt);
-    perform::<F, O, L, G, N, R, JMAX>(rt, alloc, hasher, words, files, out, log, gate, notes)
+    let Asked { found, notes } = ask::<S, F, G, N, R, JMAX>(
+        rt, alloc, hasher, words, source, files, gate, notes,
+    );
+    let answer = write_found(alloc, found, out, log);
+    Ended {
+        status: answer.status(),
+        answer,
+        notes,
+    }
 }
 
 /// How names are hashed: by a seed of the runtime, so that strangers can't choose names that collide;
@@ -133,55 +164,5 @@ fn name_hasher<R: RandomSource>(rt: &R) -> NameHasher {
     match RandomState::new(rt) {
         Ok(state) => NameHasher::Seeded(state),
         Err(_) => NameHasher::Fixed,
-    }
-}
-
-/// What the words ask: it is found, and then written.
-fn perform<
-    F: Files,
-    O: Sink,
-    L: Sink,
-    G: Gate + Sync,
-    N: Notify,
-    R: Threads + Wait + Sync,
-    const JMAX: usize,
->(
-    rt: &R,
-    alloc: Global,
-    hasher: NameHasher,
-    words: &[RcStr],
-    files: &mut F,
-    out: &mut O,
-    log: &mut L,
-    gate: &G,
-    notes: Vec<N>,
-) -> Ended<N>
-    requires { JMAX ≤ JOURNAL_LIMIT }
-    ensures answered { IsAnswered JMAX (asked_by words.now)
-        (F.holds files.old) (F.faults files.old) (F.faults files.new)
-        (held_by (O.held out.old) (O.faults out.old)) (held_by (O.held out.new) (O.faults out.new))
-        (held_by (L.held log.old) (L.faults log.old)) (held_by (L.held log.new) (L.faults log.new))
-        result.answer }
-    ensures status { result.status ≡ status_of result.answer }
-    ensures files_counted { F.faults files.old ≤ F.faults files.new }
-    ensures files_same { F.holds files.new ≡ F.holds files.old }
-    ensures out_counted { O.faults out.old ≤ O.faults out.new }
-    ensures log_counted { L.faults log.old ≤ L.faults log.new }
-    ensures notes { result.answer ≢ Answer.NoMemory → result.notes ≡ map Noted.Unfired notes.items }
-    ensures fewer_notes { (n : ℕ) × (result.notes ≡ take n (map Noted.Unfired notes.items)) }
-{
-    let Ok(notes) = Notes::unfired(alloc, notes) else {
-        return Ended {
-            status: Answer::NoMemory.status(),
-            answer: Answer::NoMemory,
-            notes: Notes::new(alloc),
-        };
-    };
-    let found = find_answer::<F, G, R, JMAX>(rt, alloc, hasher, words, files, gate);
-    let answer = write_found(alloc, found, out, log);
-    Ended {
-        status: answer.status(),
-        answer,
-        notes,
     }
 }

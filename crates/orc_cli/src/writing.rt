@@ -1,10 +1,10 @@
 ghost use Rattle.std.specs.Prelude.{◌≡◌, ◌≤◌, ◌++◌, ℕ, List, IfOk};
-ghost use Rattle.run_answers.specs.EndLine.{end_line_of};
-ghost use Rattle.run_answers.specs.Answered.{IsWritten, IsFinished, held_by};
+ghost use Rattle.answers.specs.EndLine.{end_line_of};
+ghost use Rattle.answers.specs.Written.{IsWritten, IsFinished, held_by};
 
 use crate::running::Found;
+use answers::{Answer, end_line};
 use orc_io::{Sink, write_all};
-use run_answers::{Answer, end_line};
 use std::alloc::{AllocError, Global};
 
 /// Writes what was found, and answers it.

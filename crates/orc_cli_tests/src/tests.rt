@@ -320,7 +320,7 @@ fn patched_copies_end_as_their_words_say(rt: HostRuntime) -> Result<(), Fail> {
     Ok(())
 }
 
-const CALLS: [(&[&str], u8, &[u8]); 28] = [
+const CALLS: [(&[&str], u8, &[u8]); 29] = [
     (
         &["orc", "run", "hello.o", "--entry", "main"],
         0,
@@ -340,7 +340,12 @@ const CALLS: [(&[&str], u8, &[u8]); 28] = [
     (&["orc", "run", "nofile.o"], 102, b"end file fault 0\n"),
     (&["orc"], 100, b"end usage no command\n"),
     (&["orc", "frob"], 100, b"end usage unknown command\n"),
-    (&["orc", "session"], 100, b"end usage unknown command\n"),
+    (
+        &["orc", "session", "hello.o"],
+        100,
+        b"end usage bad words\n",
+    ),
+    (&["orc", "session"], 104, b"end script refused 1 word\n"),
     (&["orc", "run"], 100, b"end usage bad words\n"),
     (&["orc", "run", "--help"], 100, b"end usage bad words\n"),
     (
@@ -594,6 +599,6 @@ fn a_write_that_fails_is_answered(rt: HostRuntime) -> Result<(), Fail> {
     assert_eq!(rt; ended.status, 103);
     assert_eq!(rt; out.bytes(), b"hello\n".as_slice());
     assert_eq!(rt; narrow.bytes(), b"1 s0 ".as_slice());
-    assert_eq!(rt; ended.notes.as_slice().len(), 2);
+    assert_eq!(rt; ended.notes.len(), 2);
     Ok(())
 }

@@ -3,7 +3,6 @@ use Rattle.std.proofs.Common.{◌≡◌, ◌≢◌, ◌<◌, ℕ, Bool, true, fa
 use Rattle.std.specs.Bool.{if◌then◌else◌, ⊤}
 use Rattle.std.specs.Prelude.{option_and_then}
 use Rattle.std.specs.Option.{option_map_or}
-use Rattle.std.proofs.Math.Seq.{take-length}
 use Rattle.orc_ids.specs.declared.ids.InstId.{InstId}
 use Rattle.orc_io.specs.Causes.{Rose}
 use Rattle.exec_run.specs.declared.ran.RunEnd.{RunEnd}
@@ -12,18 +11,23 @@ use Rattle.session_model.specs.Meaning.{Meaning, Refusal}
 use Rattle.session_model.specs.declared.entry.Entry.{Entry}
 use Rattle.command_line.specs.Words.{Request}
 use Rattle.command_line.specs.declared.error.UsageKind.{UsageKind}
-use Rattle.object_files.specs.Files.{AreLoaded, HasStopped, InReading, InLength, InTotal, InObject, Wanting, Told, distinct}
+use Rattle.object_files.specs.Files.{AreLoaded, HasStopped, Told, distinct}
 use Rattle.object_files.specs.declared.error.LoadError.{LoadError}
 use Rattle.object_files.specs.declared.error.LoadError.TheVariants as load
 use Rattle.run_laws.specs.declared.linked.Linked.{Linked}
-use Rattle.run_answers.specs.Answered.{HasSession, Held, HoldsWhole, HoldsPart, HoldsAsBefore, HasFailed as FailedOn, IsFound, in_words, in_files, in_session, wanting, IsWritten, whole, out_failed, log_failed, IsAnswered, IsFinished, found, unwritten, file_answer}
-use Rattle.run_answers.specs.Clauses.{HasFailed, HasFault, IsBefore, IsCut, IsInSession, IsOfContents, IsQuiet, IsWanting, OfSession, call_of}
-use Rattle.run_answers.specs.EndLine.{end_line_of}
-use Rattle.run_answers.specs.Lost.{lost_answer, refusal_of, unit_of, wanted_memory}
+use Rattle.answers.specs.Written.{Held, HoldsWhole, HoldsAsBefore, HasFailed as FailedOn, whole, out_failed, log_failed, IsFinished}
+use Rattle.answers.specs.Files.{file_answer}
+use Rattle.run_answers.specs.Answered.{HasSession, IsFound, in_words, in_files, in_session, wanting, IsAnswered, found}
+use Rattle.answers.specs.Files.{IsOfContents}
+use Rattle.run_answers.specs.Clauses.{HasFailed, HasFault, IsBefore, IsCut, IsInSession, IsQuiet, IsWanting, OfSession, call_of}
+use Rattle.answers.specs.EndLine.{end_line_of}
+use Rattle.answers.specs.Memory.{wanted_memory}
+use Rattle.run_answers.specs.Lost.{lost_answer, refusal_of, unit_of}
 use Rattle.run_answers.specs.Sessions.{IsAnswerOf, Ran, NoEntry, NotReady, NotDefined, NoPlace, answer_of}
-use Rattle.run_answers.specs.declared.answer.Answer.{Answer}
-use Rattle.run_answers.specs.declared.answer.Answer.TheVariants.{Exited, Usage, ReadFault, FileFault, WriteFault, ObjectRefused, TooLong, Missing, LinkRefused, DepFailed, Trap, OutOfFuel, OutputFull, JournalFull, NoMemory, DefineRefused}
-use Rattle.run_answers.proofs.Stops.{loaded_never_stops, stops_so}
+use Rattle.answers.specs.declared.answer.Answer.{Answer}
+use Rattle.answers.specs.declared.answer.Answer.TheVariants.{Done, Exited, Usage, ReadFault, FileFault, WriteFault, ScriptRefused, ObjectRefused, TooLong, Missing, LinkRefused, DepFailed, Trap, OutOfFuel, OutputFull, JournalFull, NoMemory, DefineRefused}
+use Rattle.answers.proofs.Sinks.{kept_as, whole_part}
+use Rattle.answers.proofs.Stops.{fault_parts, file_cases, loaded_never_stops, stops_so}
 
 -- Answers of a session
 
@@ -59,11 +63,13 @@ answers_in_session = session_as IsInSession end_in_session (λ name. tt) (λ r. 
 
 -- no answer is one of a session and one from before
 not_both : {P : Type 0} (a : Answer) → IsInSession a → IsBefore a → P
+not_both Done i b = absurd i
 not_both (Exited code) i b = absurd b
 not_both (Usage kind) i b = absurd i
 not_both ReadFault i b = absurd i
 not_both (FileFault k) i b = absurd i
 not_both WriteFault i b = absurd i
+not_both (ScriptRefused line why) i b = absurd i
 not_both (ObjectRefused k why) i b = absurd i
 not_both (TooLong k) i b = absurd i
 not_both (Missing name) i b = absurd b
@@ -83,14 +89,6 @@ file_no_session (load.TooLong k) i = absurd i
 file_no_session (load.Refused k why) i = absurd i
 file_no_session load.NoMemory i = absurd i
 
--- where a file couldn't be read, the count of faults rose
-fault_parts : (told : Told) (before after : ℕ) (files : List (List ℕ)) (e : LoadError) → HasStopped told before after files e → (k : ℕ) → e ≡ load.Fault k → (k < length files) × Rose before after
-fault_parts told before after files e (InReading j contents read at few rose) k q = let same : j ≡ k = cc in (subst (λ n. n < length files) same few, rose)
-fault_parts told before after files e (InLength j contents name read at there longer) k q = absurd (cc)
-fault_parts told before after files e (InTotal j contents name bytes read at there content short many) k q = absurd (cc)
-fault_parts told before after files e (InObject j contents name bytes why read at there content short few refused) k q = absurd (cc)
-fault_parts told before after files e Wanting k q = absurd (cc)
-
 -- What was found
 
 -- the first file that isn't taken in, of those that the words name
@@ -102,11 +100,13 @@ FaultsAt asked before after k = (run : Request) × (asked ≡ Ok run) × (k < le
 
 -- when each answer may be found, with which output
 abbrev Cause : Result Request UsageKind → Told → ℕ → ℕ → Answer → List ℕ → Type 0
+Cause asked told before after Done output = ⊥
 Cause asked told before after (Exited code) output = ⊤
 Cause asked told before after (Usage kind) output = (asked ≡ Err kind) × (output ≡ [])
 Cause asked told before after ReadFault output = ⊥
 Cause asked told before after (FileFault k) output = FaultsAt asked before after k × (output ≡ [])
 Cause asked told before after WriteFault output = ⊥
+Cause asked told before after (ScriptRefused line why) output = ⊥
 Cause asked told before after (ObjectRefused k why) output = Stops asked told before after (load.Refused k why) × (output ≡ [])
 Cause asked told before after (TooLong k) output = Stops asked told before after (load.TooLong k) × (output ≡ [])
 Cause asked told before after (Missing name) output = output ≡ []
@@ -146,6 +146,24 @@ cause_of jmax asked told before after answer output journal (in_files run d q st
 cause_of jmax asked told before after answer output journal (in_session run q s) = session_cause asked told before after run s.history s.end answer output s.answers
 cause_of jmax asked told before after answer output journal (wanting e s _) = subst (λ a. Cause asked told before after a output) (sym e) s
 
+-- what is found is one of these
+form_of : (asked : Result Request UsageKind) (told : Told) (before after : ℕ) (answer : Answer) (output : List ℕ) → Cause asked told before after answer output → IsBefore answer ⊎ IsInSession answer ⊎ HasFailed answer
+form_of asked told before after (Exited _) output c = inr (inl tt)
+form_of asked told before after (Usage _) output c = inl tt
+form_of asked told before after (FileFault _) output c = inl tt
+form_of asked told before after (ObjectRefused _ _) output c = inl tt
+form_of asked told before after (TooLong _) output c = inl tt
+form_of asked told before after (Missing _) output c = inr (inl tt)
+form_of asked told before after (LinkRefused _ _ _) output c = inr (inl tt)
+form_of asked told before after (DepFailed _) output c = inr (inl tt)
+form_of asked told before after (Trap _ _) output c = inr (inl tt)
+form_of asked told before after OutOfFuel output c = inr (inl tt)
+form_of asked told before after OutputFull output c = inr (inl tt)
+form_of asked told before after (JournalFull _) output c = inr (inl tt)
+form_of asked told before after NoMemory output c = inr (inr (inr refl))
+form_of asked told before after (DefineRefused _) output c = inr (inl tt)
+form_of asked told before after _ output c = absurd c
+
 -- where no session was begun, there is no journal
 no_journal : (jmax : ℕ) (asked : Result Request UsageKind) (told : Told) (before after : ℕ) (answer : Answer) (output journal : List ℕ) → IsFound jmax asked told before after answer output journal → (IsInSession answer → ⊥) → journal ≡ []
 no_journal jmax asked told before after answer output journal (in_words _ _ _ _ j) b = j
@@ -182,56 +200,49 @@ not_found : {P : Type 0} (jmax : ℕ) (asked : Result Request UsageKind) (told :
     → IsFound jmax asked told before after f output journal → f ≡ WriteFault → P
 not_found jmax asked told before after f output journal is e = absurd (subst (λ a. Cause asked told before after a output) e (cause_of jmax asked told before after f output journal is))
 
--- a whole text is a first part of itself
-whole_part : (old new : Held) (text : List ℕ) → HoldsWhole old new text → HoldsPart old new text
-whole_part old new text h = (length text, subst (λ t. HoldsWhole old new t) (sym (take-length text)) h)
-
 module _ (jmax : ℕ) (asked : Result Request UsageKind) (told : Told) (before after : ℕ) (out out' log log' : Held) (answer : Answer) where
   abbrev Is : Type 0
   Is = IsAnswered jmax asked told before after out out' log log' answer
 
-  wholly : Is → answer ≢ WriteFault → (answer ≡ NoMemory) ⊎ Wholly jmax asked told before after out out' log log' answer
-  wholly (unwritten e _ _) _ = inl e
-  wholly (found f output journal is (whole e ho hl)) _ =
-      inr (record {
-        output = output;
-        journal = journal;
-        is_found = subst (λ a. IsFound jmax asked told before after a output journal) (sym e) is;
-        out_holds = ho;
-        log_holds = subst (λ a. HoldsWhole log log' (journal ++ end_line_of a)) (sym e) hl;
-      })
+  -- an answer but that of a write that failed was written whole
+  pub wholly : Is → answer ≢ WriteFault → Wholly jmax asked told before after out out' log log' answer
+  wholly (found f output journal is (whole e ho hl)) _ = record {
+    output = output;
+    journal = journal;
+    is_found = subst (λ a. IsFound jmax asked told before after a output journal) (sym e) is;
+    out_holds = ho;
+    log_holds = subst (λ a. HoldsWhole log log' (journal ++ end_line_of a)) (sym e) hl;
+  }
   wholly (found f output journal is (out_failed e _ _ _)) nw = absurd (nw e)
   wholly (found f output journal is (log_failed e _ _ _)) nw = absurd (nw e)
 
-  -- an answer that is neither of these two was written whole
-  pub wholly_but : Is → answer ≢ WriteFault → answer ≢ NoMemory → Wholly jmax asked told before after out out' log log' answer
-  wholly_but is nw nm = elim (wholly is nw) [ inl n ↦ absurd (nm n) | inr w ↦ w ]
+  cause_at : Is → answer ≢ WriteFault → (output : List ℕ) × Cause asked told before after answer output
+  cause_at is nw = let w = wholly is nw in (w.output, cause_of jmax asked told before after answer w.output w.journal w.is_found)
 
-  cause_at : Is → answer ≢ WriteFault → answer ≢ NoMemory → (output : List ℕ) × Cause asked told before after answer output
-  cause_at is nw nm = let w = wholly_but is nw nm in (w.output, cause_of jmax asked told before after answer w.output w.journal w.is_found)
-
-  caused : (a : Answer) → answer ≡ a → a ≢ WriteFault → a ≢ NoMemory → Is → (output : List ℕ) × Cause asked told before after a output
-  caused a e nw nm is = let c = cause_at is (λ w. nw (sym e ∙ w)) (λ n. nm (sym e ∙ n)) in (c.0, subst (λ x. Cause asked told before after x c.0) e c.1)
+  caused : (a : Answer) → answer ≡ a → a ≢ WriteFault → Is → (output : List ℕ) × Cause asked told before after a output
+  caused a e nw is = let c = cause_at is (λ w. nw (sym e ∙ w)) in (c.0, subst (λ x. Cause asked told before after x c.0) e c.1)
 
   -- The clauses
 
   pub usage_only : Is → (kind : UsageKind) → answer ≡ Usage kind → asked ≡ Err kind
-  usage_only is kind e = (caused (Usage kind) e (λ w. cc) (λ w. cc) is).1.0
+  usage_only is kind e = (caused (Usage kind) e (λ w. cc) is).1.0
 
-  pub no_read_fault : Is → answer ≢ ReadFault
-  no_read_fault is e = (caused ReadFault e (λ w. cc) (λ w. cc) is).1
+  pub in_form : Is → IsBefore answer ⊎ IsInSession answer ⊎ HasFailed answer
+  in_form (found f output journal is (whole e _ _)) = subst (λ x. IsBefore x ⊎ IsInSession x ⊎ HasFailed x) (sym e) (form_of asked told before after f output (cause_of jmax asked told before after f output journal is))
+  in_form (found f output journal is (out_failed e _ _ _)) = inr (inr (inl e))
+  in_form (found f output journal is (log_failed e _ _ _)) = inr (inr (inl e))
 
   pub file_fault : Is → (k : ℕ) → answer ≡ FileFault k → FaultsAt asked before after k
-  file_fault is k e = (caused (FileFault k) e (λ w. cc) (λ w. cc) is).1.0
+  file_fault is k e = (caused (FileFault k) e (λ w. cc) is).1.0
 
   pub file_only : Is → (e : LoadError) → IsOfContents e → answer ≡ file_answer e → Stops asked told before after e
   file_only is (load.Fault k) of e = absurd of
-  file_only is (load.TooLong k) of e = (caused (TooLong k) e (λ w. cc) (λ w. cc) is).1.0
-  file_only is (load.Refused k why) of e = (caused (ObjectRefused k why) e (λ w. cc) (λ w. cc) is).1.0
+  file_only is (load.TooLong k) of e = (caused (TooLong k) e (λ w. cc) is).1.0
+  file_only is (load.Refused k why) of e = (caused (ObjectRefused k why) e (λ w. cc) is).1.0
   file_only is load.NoMemory of e = absurd of
 
   in_session_wholly : Is → IsInSession answer → Wholly jmax asked told before after out out' log log' answer
-  in_session_wholly is i = wholly_but is (λ e. absurd (subst IsInSession e i)) (λ e. absurd (subst IsInSession e i))
+  in_session_wholly is i = wholly is (λ e. absurd (subst IsInSession e i))
 
   pub session : Is → IsInSession answer → OfSession jmax (call_of asked told before after out out' log log') answer
   session is i =
@@ -252,17 +263,15 @@ module _ (jmax : ℕ) (asked : Result Request UsageKind) (told : Told) (before a
 
   pub log_line : Is → IsBefore answer → HoldsWhole log log' (end_line_of answer)
   log_line is b =
-      let w = wholly_but is (λ e. absurd (subst IsBefore e b)) (λ e. absurd (subst IsBefore e b)) in
+      let w = wholly is (λ e. absurd (subst IsBefore e b)) in
       subst (λ text. HoldsWhole log log' (text ++ end_line_of answer)) (no_journal jmax asked told before after answer w.output w.journal w.is_found (λ i. not_both answer i b)) w.log_holds
 
   pub write_fault : Is → answer ≡ WriteFault → FailedOn out out' ⊎ FailedOn log log'
-  write_fault (unwritten n _ _) e = absurd (cc)
   write_fault (found f output journal is (whole a _ _)) e = not_found jmax asked told before after f output journal is (sym a ∙ e)
   write_fault (found f output journal is (out_failed _ r _ _)) e = inl r
   write_fault (found f output journal is (log_failed _ r _ _)) e = inr r
 
   pub cut : Is → answer ≡ WriteFault → IsCut jmax (call_of asked told before after out out' log log')
-  cut (unwritten n _ _) e = absurd (cc)
   cut (found f output journal is (whole a _ _)) e = not_found jmax asked told before after f output journal is (sym a ∙ e)
   cut (found f output journal is (out_failed _ _ ho hl)) e =
       record { found = f; output = output; journal = journal; is_found = is; out_part = ho; log_part = (0, hl); out_first = inl hl }
@@ -270,24 +279,25 @@ module _ (jmax : ℕ) (asked : Result Request UsageKind) (told : Told) (before a
       record { found = f; output = output; journal = journal; is_found = is; out_part = whole_part out out' output ho; log_part = hl; out_first = inr ho }
 
   pub memory_wanting : Is → answer ≡ NoMemory → IsWanting (call_of asked told before after out out' log log')
-  memory_wanting (unwritten _ ho hl) e = record { out_same = ho; log_part = (0, hl) }
   memory_wanting (found f output journal is (whole a ho hl)) e =
       let n : f ≡ NoMemory = sym a ∙ e in
       let none = no_journal jmax asked told before after f output journal is (λ i. absurd (subst IsInSession n i)) in
       record {
         out_same = subst (λ text. HoldsWhole out out' text) (subst (λ x. Cause asked told before after x output) n (cause_of jmax asked told before after f output journal is)) ho;
-        log_part = whole_part log log' (end_line_of NoMemory) (subst (λ text. HoldsWhole log log' (text ++ end_line_of NoMemory)) none (subst (λ x. HoldsWhole log log' (journal ++ end_line_of x)) n hl));
+        logged = subst (λ text. HoldsWhole log log' (text ++ end_line_of NoMemory)) none (subst (λ x. HoldsWhole log log' (journal ++ end_line_of x)) n hl);
       }
   memory_wanting (found f output journal is (out_failed a _ _ _)) e = absurd (cc)
   memory_wanting (found f output journal is (log_failed a _ _ _)) e = absurd (cc)
 
 -- an answer without a run has no output
 quiet_output : (asked : Result Request UsageKind) (told : Told) (before after : ℕ) (answer : Answer) (output : List ℕ) → IsQuiet answer → Cause asked told before after answer output → output ≡ []
+quiet_output asked told before after Done output q c = absurd c
 quiet_output asked told before after (Exited _) output q c = absurd q
 quiet_output asked told before after (Usage _) output q c = c.1
 quiet_output asked told before after ReadFault output q c = absurd c
 quiet_output asked told before after (FileFault _) output q c = c.1
 quiet_output asked told before after WriteFault output q c = absurd q
+quiet_output asked told before after (ScriptRefused _ _) output q c = absurd c
 quiet_output asked told before after (ObjectRefused _ _) output q c = c.1
 quiet_output asked told before after (TooLong _) output q c = c.1
 quiet_output asked told before after (Missing _) output q c = c
@@ -300,12 +310,6 @@ quiet_output asked told before after (JournalFull _) output q c = c
 quiet_output asked told before after NoMemory output q c = c
 quiet_output asked told before after (DefineRefused _) output q c = c
 
--- what was found is what is answered, unless a write failed
-kept_or : (out out' log log' : Held) (f : Answer) (output journal : List ℕ) (answer : Answer) → IsWritten out out' log log' f output journal answer → (answer ≡ f) ⊎ (answer ≡ WriteFault)
-kept_or out out' log log' f output journal answer (whole e _ _) = inl e
-kept_or out out' log log' f output journal answer (out_failed e _ _ _) = inr e
-kept_or out out' log log' f output journal answer (log_failed e _ _ _) = inr e
-
 -- what the words tell of what was found
 
 usage_found : (jmax : ℕ) (asked : Result Request UsageKind) (told : Told) (before after : ℕ) (f : Answer) (output journal : List ℕ) (kind : UsageKind)
@@ -315,24 +319,16 @@ usage_found jmax asked told before after f output journal kind (in_files run d q
 usage_found jmax asked told before after f output journal kind (in_session run q _) h = absurd (cc)
 usage_found jmax asked told before after f output journal kind (wanting e _ _) h = inr (inr e)
 
--- a file that isn't taken in, for what the files hold or not
-file_cases : (e : LoadError) (f : Answer) → f ≡ file_answer e → IsOfContents e ⊎ HasFault f
-file_cases (load.Fault k) f q = inr (inl (k, q))
-file_cases (load.TooLong k) f q = inl tt
-file_cases (load.Refused k why) f q = inl tt
-file_cases load.NoMemory f q = inr (inr (inr q))
-
 files_found : (jmax : ℕ) (asked : Result Request UsageKind) (told : Told) (before after : ℕ) (f : Answer) (output journal : List ℕ) (contents : List ℕ → Option (List ℕ)) (run : Request) (e : LoadError)
     → told ≡ Some contents → asked ≡ Ok run → IsOfContents e → HasStopped told 0 0 (distinct run.files) e → IsFound jmax asked told before after f output journal → (f ≡ file_answer e) ⊎ HasFault f
 files_found jmax asked told before after f output journal contents run e t a of stopped (in_words k q _ _ _) = absurd (cc)
-files_found jmax asked told before after f output journal contents run e t a of stopped (in_files other d q there is _ _) = split (file_cases d f is)
+files_found jmax asked told before after f output journal contents run e t a of stopped (in_files other d q there is _ _) = file_cases d f is by_contents (λ k p. inr (inl (k, p))) (λ p. inr (inr (inr p)))
   where
     same : other ≡ run
     same = cc
 
-    split : IsOfContents d ⊎ HasFault f → (f ≡ file_answer e) ⊎ HasFault f
-    split (inr fault) = inr fault
-    split (inl by) = inl (is ∙ ap file_answer (stops_so contents (distinct run.files) before after 0 0 d e by of
+    by_contents : IsOfContents d → (f ≡ file_answer e) ⊎ HasFault f
+    by_contents by = inl (is ∙ ap file_answer (stops_so contents (distinct run.files) before after 0 0 d e by of
         (subst (λ x. HasStopped x before after (distinct run.files) d) t (subst (λ (r : Request). HasStopped told before after (distinct r.files) d) same there))
         (subst (λ x. HasStopped x 0 0 (distinct run.files) e) t stopped)))
 files_found jmax asked told before after f output journal contents run e t a of stopped (in_session other q s) =
@@ -346,14 +342,13 @@ files_found jmax asked told before after f output journal contents run e t a of 
 loaded_found : (jmax : ℕ) (asked : Result Request UsageKind) (told : Told) (before after : ℕ) (f : Answer) (output journal : List ℕ) (contents : List ℕ → Option (List ℕ)) (run : Request) (names : List (List ℕ)) (units : List Meaning)
     → told ≡ Some contents → asked ≡ Ok run → AreLoaded told (distinct run.files) names units → IsFound jmax asked told before after f output journal → IsInSession f ⊎ HasFault f
 loaded_found jmax asked told before after f output journal contents run names units t a loaded (in_words k q _ _ _) = absurd (cc)
-loaded_found jmax asked told before after f output journal contents run names units t a loaded (in_files other d q there is _ _) = split (file_cases d f is)
+loaded_found jmax asked told before after f output journal contents run names units t a loaded (in_files other d q there is _ _) = file_cases d f is by_contents (λ k p. inr (inl (k, p))) (λ p. inr (inr (inr p)))
   where
     same : other ≡ run
     same = cc
 
-    split : IsOfContents d ⊎ HasFault f → IsInSession f ⊎ HasFault f
-    split (inr fault) = inr fault
-    split (inl by) = loaded_never_stops contents (distinct run.files) names units before after d by
+    by_contents : IsOfContents d → IsInSession f ⊎ HasFault f
+    by_contents by = loaded_never_stops contents (distinct run.files) names units before after d by
         (subst (λ x. HasStopped x before after (distinct run.files) d) t (subst (λ (r : Request). HasStopped told before after (distinct r.files) d) same there))
         (subst (λ x. AreLoaded x (distinct run.files) names units) t loaded)
 loaded_found jmax asked told before after f output journal contents run names units t a loaded (in_session other q s) = inl (answers_in_session other s.history s.end f output s.answers)
@@ -365,28 +360,18 @@ module _ (jmax : ℕ) (asked : Result Request UsageKind) (told : Told) (before a
   IsNow = IsAnswered jmax asked told before after out out' log log' answer
 
   pub usage_told : IsNow → (kind : UsageKind) → asked ≡ Err kind → (answer ≡ Usage kind) ⊎ HasFailed answer
-  usage_told (unwritten e _ _) kind h = inr (inr e)
-  usage_told (found f output journal is w) kind h = elim (kept_or out out' log log' f output journal answer w) [
-    | inl e ↦ subst (λ a. (a ≡ Usage kind) ⊎ HasFailed a) (sym e) (usage_found jmax asked told before after f output journal kind is h)
-    | inr e ↦ inr (inl e)
-  ]
+  usage_told (found f output journal is w) kind h = kept_as (λ a. (a ≡ Usage kind) ⊎ HasFailed a) out out' log log' f output journal answer w
+      (usage_found jmax asked told before after f output journal kind is h) (inr (inl refl))
 
   pub file_told : IsNow → (run : Request) (e : LoadError) → asked ≡ Ok run → (contents : List ℕ → Option (List ℕ)) × (told ≡ Some contents) → IsOfContents e → HasStopped told 0 0 (distinct run.files) e → (answer ≡ file_answer e) ⊎ HasFault answer
-  file_told (unwritten q _ _) run e a t of stopped = inr (inr (inr q))
-  file_told (found f output journal is w) run e a t of stopped = elim (kept_or out out' log log' f output journal answer w) [
-    | inl q ↦ subst (λ x. (x ≡ file_answer e) ⊎ HasFault x) (sym q) (files_found jmax asked told before after f output journal t.0 run e t.1 a of stopped is)
-    | inr q ↦ inr (inr (inl q))
-  ]
+  file_told (found f output journal is w) run e a t of stopped = kept_as (λ x. (x ≡ file_answer e) ⊎ HasFault x) out out' log log' f output journal answer w
+      (files_found jmax asked told before after f output journal t.0 run e t.1 a of stopped is) (inr (inr (inl refl)))
 
   pub session_told : IsNow → (run : Request) (names : List (List ℕ)) (units : List Meaning) → asked ≡ Ok run → (contents : List ℕ → Option (List ℕ)) × (told ≡ Some contents) → AreLoaded told (distinct run.files) names units → IsInSession answer ⊎ HasFault answer
-  session_told (unwritten q _ _) run names units a t loaded = inr (inr (inr q))
-  session_told (found f output journal is w) run names units a t loaded = elim (kept_or out out' log log' f output journal answer w) [
-    | inl q ↦ subst (λ x. IsInSession x ⊎ HasFault x) (sym q) (loaded_found jmax asked told before after f output journal t.0 run names units t.1 a loaded is)
-    | inr q ↦ inr (inr (inl q))
-  ]
+  session_told (found f output journal is w) run names units a t loaded = kept_as (λ x. IsInSession x ⊎ HasFault x) out out' log log' f output journal answer w
+      (loaded_found jmax asked told before after f output journal t.0 run names units t.1 a loaded is) (inr (inr (inl refl)))
 
   pub out_quiet : IsNow → IsQuiet answer → HoldsAsBefore out out'
-  out_quiet (unwritten _ ho _) q = ho
   out_quiet (found f output journal is (whole e ho hl)) q =
       subst (λ text. HoldsWhole out out' text) (quiet_output asked told before after f output (subst IsQuiet e q) (cause_of jmax asked told before after f output journal is)) ho
   out_quiet (found f output journal is (out_failed e _ _ _)) q = absurd (subst IsQuiet e q)

@@ -36,8 +36,8 @@ use Rattle.run_laws.proofs.Short.{run_is_short}
 use Rattle.run_answers.specs.Clauses.{IsInSession, OfSession, call_of}
 use Rattle.run_answers.specs.Laws.{NeverFull}
 use Rattle.run_answers.specs.Sessions.{IsAnswerOf, Ran, NoEntry, NotReady, NotDefined, NoPlace, answer_of}
-use Rattle.run_answers.specs.declared.answer.Answer.{Answer}
-use Rattle.run_answers.specs.declared.answer.Answer.TheVariants.{JournalFull}
+use Rattle.answers.specs.declared.answer.Answer.{Answer}
+use Rattle.answers.specs.declared.answer.Answer.TheVariants.{JournalFull}
 use Rattle.run_answers.proofs.Clauses.{lost_as, session}
 use Rattle.run_answers.proofs.Words.{plain_units}
 

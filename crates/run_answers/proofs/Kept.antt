@@ -30,13 +30,14 @@ use Rattle.run_laws.specs.Ended.{AreMemory, Ended, IsRun}
 use Rattle.run_laws.specs.Runs.{IsRunBy, IsSetUp, lookup_of}
 use Rattle.run_laws.specs.declared.linked.Linked.{Linked}
 use Rattle.run_laws.specs.declared.linked.Linked.TheVariants as linked
-use Rattle.run_answers.specs.Answered.{Held, IsAnswered}
+use Rattle.answers.specs.Written.{Held}
+use Rattle.run_answers.specs.Answered.{IsAnswered}
 use Rattle.run_answers.specs.ByNames.{IsProgramRun}
 use Rattle.run_answers.specs.Clauses.{Answers, Call, IsCopyAt, IsInSession, IsRunOfProgram, OfSession, call_of}
 use Rattle.run_answers.specs.Laws.{AnswersAreKept}
 use Rattle.run_answers.specs.Sessions.{HasRun, IsAnswerOf, Ran, NoEntry, NotReady, NotDefined, NoPlace, answer_of}
-use Rattle.run_answers.specs.declared.answer.Answer.{Answer}
-use Rattle.run_answers.specs.declared.answer.Answer.TheVariants.{DefineRefused, DepFailed, JournalFull, LinkRefused, Missing, NoMemory}
+use Rattle.answers.specs.declared.answer.Answer.{Answer}
+use Rattle.answers.specs.declared.answer.Answer.TheVariants.{DefineRefused, DepFailed, JournalFull, LinkRefused, Missing, NoMemory}
 use Rattle.run_answers.proofs.ByNames.{program_agrees}
 use Rattle.run_answers.proofs.Clauses as clauses
 use Rattle.run_answers.proofs.Clauses.{end_in_session, lost_as}
@@ -220,7 +221,7 @@ module _ (holds : MemoryHoldsProgram) (jmax : ℕ) (asked : Result Request Usage
   answers = record {
     usage_only = clauses.usage_only jmax asked told before after out out' log log' answer answered;
     usage_told = clauses.usage_told jmax asked told before after out out' log log' answer answered;
-    no_read_fault = clauses.no_read_fault jmax asked told before after out out' log log' answer answered;
+    answers = clauses.in_form jmax asked told before after out out' log log' answer answered;
     file_fault = clauses.file_fault jmax asked told before after out out' log log' answer answered;
     write_fault = clauses.write_fault jmax asked told before after out out' log log' answer answered;
     file_only = clauses.file_only jmax asked told before after out out' log log' answer answered;

@@ -1,4 +1,3 @@
-pub mod Stops
 pub mod Words
 pub mod Clauses
 pub mod Full

@@ -1,5 +1,5 @@
 -- What the top call promises: when each answer comes, and what the sinks have then gained.
-use Rattle.std.specs.Prelude.{◌≡◌, ◌≢◌, ◌<◌, ◌++◌, ℕ, ◌⊎◌, List, [], ◌∷◌, length, take, Option, Some, Result, Ok, Err}
+use Rattle.std.specs.Prelude.{◌≡◌, ◌<◌, ◌++◌, ℕ, ◌⊎◌, List, [], ◌∷◌, length, take, Option, Some, Result, Ok, Err}
 use Rattle.std.specs.Io.KnownBytes.{Appends}
 use Rattle.orc_io.specs.Causes.{Rose}
 use Rattle.exec_run.specs.declared.ran.RunEnd.{RunEnd}
@@ -11,14 +11,15 @@ use Rattle.session_model.specs.declared.entry.Event.TheVariants as event
 use Rattle.journal_text.specs.Journal.{text_of_history}
 use Rattle.object_files.specs.Files.{AreLoaded, HasStopped, Told, distinct}
 use Rattle.object_files.specs.declared.error.LoadError.{LoadError}
-use Rattle.object_files.specs.declared.error.LoadError.TheVariants as load
 use Rattle.run_laws.specs.declared.linked.Linked.{Linked}
-use Rattle.run_answers.specs.Answered.{AppendsPart, Held, IsFound, file_answer}
+use Rattle.answers.specs.Written.{AppendsPart, Held}
+use Rattle.answers.specs.Files.{IsOfContents, file_answer}
+use Rattle.run_answers.specs.Answered.{IsFound}
 use Rattle.run_answers.specs.ByNames.{IsProgramRun}
-use Rattle.run_answers.specs.EndLine.{end_line_of}
+use Rattle.answers.specs.EndLine.{end_line_of}
 use Rattle.run_answers.specs.Sessions.{IsAnswerOf, IsSession, answer_of}
-use Rattle.run_answers.specs.declared.answer.Answer.{Answer}
-use Rattle.run_answers.specs.declared.answer.Answer.TheVariants.{Exited, Usage, ReadFault, FileFault, WriteFault, ObjectRefused, TooLong, Missing, LinkRefused, DepFailed, Trap, OutOfFuel, OutputFull, JournalFull, NoMemory, DefineRefused}
+use Rattle.answers.specs.declared.answer.Answer.{Answer}
+use Rattle.answers.specs.declared.answer.Answer.TheVariants.{Exited, Usage, FileFault, WriteFault, ObjectRefused, TooLong, Missing, LinkRefused, DepFailed, Trap, OutOfFuel, OutputFull, JournalFull, NoMemory, DefineRefused}
 
 -- What a call was handed and what it left: what the words ask for, the files with their count of faults, out and log.
 pub record Call : Type 0 where
@@ -54,7 +55,6 @@ IsQuiet _ = Unit {0}
 -- no session was begun
 abbrev pub IsBefore : Answer → Type 0
 IsBefore (Usage _) = Unit {0}
-IsBefore ReadFault = Unit {0}
 IsBefore (FileFault _) = Unit {0}
 IsBefore (ObjectRefused _ _) = Unit {0}
 IsBefore (TooLong _) = Unit {0}
@@ -114,29 +114,22 @@ pub record IsCut (jmax : ℕ) (c : Call) : Type 0 where
   pub log_part : AppendsPart c.log_before.bytes c.log_after.bytes (journal ++ end_line_of found)
   pub out_first : Appends c.log_before.bytes c.log_after.bytes [] ⊎ Appends c.out_before.bytes c.out_after.bytes output
 
--- where memory ran out: out is as before, and log has gained a first part of the end line
+-- where memory ran out: out is as before, and log has gained the end line alone
 pub record IsWanting (c : Call) : Type 0 where
   pub out_same : Appends c.out_before.bytes c.out_after.bytes []
-  pub log_part : AppendsPart c.log_before.bytes c.log_after.bytes (end_line_of NoMemory)
+  pub logged : Appends c.log_before.bytes c.log_after.bytes (end_line_of NoMemory)
 
 -- the files tell what they hold
 abbrev pub TellFiles : Call → Type 0
 TellFiles c = (contents : List ℕ → Option (List ℕ)) × (c.told ≡ Some contents)
 
--- one of these comes by what the files hold alone
-abbrev pub IsOfContents : LoadError → Type 0
-IsOfContents (load.Fault k) = ⊥
-IsOfContents (load.TooLong k) = Unit {0}
-IsOfContents (load.Refused k why) = Unit {0}
-IsOfContents load.NoMemory = ⊥
-
 -- The clauses of a call that answers so, with a journal of at most so many entries.
 pub record Answers (jmax : ℕ) (c : Call) (answer : Answer) : Type 0 where
+  -- no other command's answer comes
+  pub answers : IsBefore answer ⊎ IsInSession answer ⊎ HasFailed answer
   -- the words don't fit exactly where the answer says so
   pub usage_only : (kind : UsageKind) → answer ≡ Usage kind → c.asked ≡ Err kind
   pub usage_told : (kind : UsageKind) → c.asked ≡ Err kind → (answer ≡ Usage kind) ⊎ HasFailed answer
-  -- no source is read
-  pub no_read_fault : answer ≢ ReadFault
   -- a fault comes only where its count rose
   pub file_fault : (k : ℕ) → answer ≡ FileFault k → (run : Request) × (c.asked ≡ Ok run) × (k < length (distinct run.files)) × Rose c.faults_before c.faults_after
   pub write_fault : answer ≡ WriteFault → Rose c.out_before.faults c.out_after.faults ⊎ Rose c.log_before.faults c.log_after.faults
@@ -153,6 +146,6 @@ pub record Answers (jmax : ℕ) (c : Call) (answer : Answer) : Type 0 where
   -- out has gained nothing where nothing ran, and log the end line alone where no session was begun
   pub out_quiet : IsQuiet answer → Appends c.out_before.bytes c.out_after.bytes []
   pub log_line : IsBefore answer → Appends c.log_before.bytes c.log_after.bytes (end_line_of answer)
-  -- after a write that failed, and where memory ran out, each sink has gained a first part of its text
+  -- after a write that failed each sink has gained a first part of its text, and where memory ran out log the end line alone
   pub cut : answer ≡ WriteFault → IsCut jmax c
   pub wanting : answer ≡ NoMemory → IsWanting c

@@ -4,10 +4,11 @@ use Rattle.orc_ids.specs.declared.limits.TheConstants.{ENTRY_LIMIT}
 use Rattle.command_line.specs.Words.{Request}
 use Rattle.command_line.specs.declared.error.UsageKind.{UsageKind}
 use Rattle.object_files.specs.Files.{Told}
-use Rattle.run_answers.specs.Answered.{Held, IsAnswered}
+use Rattle.answers.specs.Written.{Held}
+use Rattle.run_answers.specs.Answered.{IsAnswered}
 use Rattle.run_answers.specs.Clauses.{Answers, call_of}
-use Rattle.run_answers.specs.declared.answer.Answer.{Answer}
-use Rattle.run_answers.specs.declared.answer.Answer.TheVariants.{JournalFull}
+use Rattle.answers.specs.declared.answer.Answer.{Answer}
+use Rattle.answers.specs.declared.answer.Answer.TheVariants.{JournalFull}
 
 -- what was found and written is promised
 abbrev pub AnswersAreKept : Type 0

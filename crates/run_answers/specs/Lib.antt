@@ -1,5 +1,3 @@
-pub mod Answers
-pub mod EndLine
 pub mod Lost
 pub mod Sessions
 pub mod ByNames

@@ -1,6 +1,5 @@
 -- What a program answers whose entry could not be made ready, by its journal.
-use Rattle.std.specs.Prelude.{ℕ, ◌+◌, Bool, true, false, ◌&&◌, ◌==◌, nat_le, nat_lt, List, Option, Some, None, option_and_then, if◌then◌else◌}
-use Rattle.std.specs.List.{list_any}
+use Rattle.std.specs.Prelude.{ℕ, ◌+◌, ◌&&◌, ◌==◌, nat_le, nat_lt, List, Option, Some, None, option_and_then, if◌then◌else◌}
 use Rattle.std.specs.Option.{option_map_or}
 use Rattle.orc_ids.specs.declared.ids.InstId.{InstId}
 use Rattle.orc_ids.specs.declared.ids.UnitId.{UnitId}
@@ -13,20 +12,9 @@ use Rattle.session_model.specs.declared.entry.Reply.{Reply}
 use Rattle.session_model.specs.declared.entry.Reply.TheVariants as reply
 use Rattle.session_model.specs.declared.entry.Why.{Why}
 use Rattle.session_model.specs.declared.entry.Why.TheVariants as why
-use Rattle.run_answers.specs.declared.answer.Answer.{Answer}
-use Rattle.run_answers.specs.declared.answer.Answer.TheVariants.{LinkRefused, DepFailed, NoMemory}
-
--- a unit was given up for want of memory
-abbrev pub is_for_memory : Why → Bool
-is_for_memory why.NoMemory = true
-is_for_memory w = false
-
-abbrev pub gives_up : Event Meaning → Bool
-gives_up (event.Fail u w) = is_for_memory w
-gives_up e = false
-
-abbrev pub wanted_memory : List (Entry Meaning) → Bool
-wanted_memory h = list_any (λ (e : Entry Meaning). gives_up e.event) h
+use Rattle.answers.specs.Memory.{wanted_memory}
+use Rattle.answers.specs.declared.answer.Answer.{Answer}
+use Rattle.answers.specs.declared.answer.Answer.TheVariants.{LinkRefused, DepFailed, NoMemory}
 
 -- the unit whose definition made an instance
 abbrev pub made_in : ℕ → Reply → Option UnitId

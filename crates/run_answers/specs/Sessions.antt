@@ -17,8 +17,8 @@ use Rattle.run_laws.specs.Ended.{IsRun}
 use Rattle.run_laws.specs.declared.linked.Linked.{Linked}
 use Rattle.run_laws.specs.declared.linked.Linked.TheVariants as linked
 use Rattle.run_answers.specs.Lost.{lost_answer}
-use Rattle.run_answers.specs.declared.answer.Answer.{Answer}
-use Rattle.run_answers.specs.declared.answer.Answer.TheVariants.{Exited, Missing, Trap, OutOfFuel, OutputFull, JournalFull, NoMemory, DefineRefused}
+use Rattle.answers.specs.declared.answer.Answer.{Answer}
+use Rattle.answers.specs.declared.answer.Answer.TheVariants.{Exited, Missing, Trap, OutOfFuel, OutputFull, JournalFull, NoMemory, DefineRefused}
 
 -- the file of a word: its place among the distinct words
 abbrev pub IsFileOf : List (List ℕ) → ℕ → ℕ → Type 0

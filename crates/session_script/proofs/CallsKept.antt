@@ -9,7 +9,7 @@ use Rattle.session_script.specs.declared.client.ClientWord.TheVariants as word
 use Rattle.session_script.specs.declared.limits.TheConstants.{ARG_LIMIT, CLIENT_LIMIT, FUEL_LIMIT}
 use Rattle.session_script.specs.declared.script.ClientLine.TheVariants as line
 use Rattle.session_script.specs.declared.script.LookupLine.{LookupLine}
-use Rattle.session_script.specs.Texts.{has, mentioned, all_mentioned}
+use Rattle.session_script.specs.Texts.{has, all_mentioned}
 use Rattle.session_script.specs.Words.{parts, comma, is_empty, unmarked, is_name, is_symbol, at_most, number_in}
 use Rattle.session_script.specs.Forms.{are_items, are_declared, item_in, order_of, is_level, level_of, are_wanted, wanted_in, fuel_in, argument_in, are_arguments}
 use Rattle.session_script.specs.Known.{Known, tracker_in, name_in, with_name, with_call}
@@ -27,6 +27,7 @@ begun_next k = record k { begun = true; earlier = if k.begun then k.earlier ++ k
 next_kept : (notes : ℕ) (k : Known) → nat_lt (client_count k) CLIENT_LIMIT ≡ true → IsGoodSoFar notes k → IsGoodSoFar notes (begun_next k)
 next_kept notes k room good = record {
   setup = good.setup;
+  dylibs = good.dylibs;
   clients = elim (cases_Bool k.begun) [
     | inl t ↦
         let less : length k.earlier + 1 < CLIENT_LIMIT = ltb-true (length k.earlier + 1) CLIENT_LIMIT (rw t at room) in
@@ -56,7 +57,7 @@ define_kept notes k new operands begun good read =
 
 -- a lookup that was read, where a note was left or none was needed
 record IsLookedUp (k : Known) (leave : Bool) (p : Known × LookupLine) : Type 0 where
-  known : (names : List (List ℕ)) × (record k { names = names } ≡ p.0)
+  known : (names : List (List ℕ)) × (with_names k names ≡ p.0)
   fits : IsLookup p.1
   noted : leave ≡ true
 
@@ -68,14 +69,15 @@ looked_up_well k noted level items words p read =
     let left = passed noted _ _ p declared.1 in
     let room = passed (nat_le (length items) ORDER_LIMIT && nat_le (length words) WANTED_LIMIT) _ _ p left.1 in
     let few = and_parts (nat_le (length items) ORDER_LIMIT) (nat_le (length words) WANTED_LIMIT) room.0 in
-    let names = all_mentioned (map unmarked words) k.names in
-    let lookup : LookupLine = record { level = level_of level; order = order_of k.dylibs items; wanted = map (wanted_in names) words } in
-    let made : (with_names k (map unmarked words), lookup) ≡ p = cc room.1 in
+    let names = map unmarked words in
+    let table = all_mentioned names k.names in
+    let lookup : LookupLine = record { level = level_of level; order = order_of k.dylibs items; wanted = map (wanted_in table) words } in
+    let made : (with_names k names, lookup) ≡ p = cc room.1 in
     subst (IsLookedUp k noted) made (record {
       known = (names, refl);
       fits = record {
         order = omega (arith, length-map items (item_in k.dylibs), leb-true (length items) ORDER_LIMIT few.0);
-        wanted = omega (arith, length-map words (wanted_in names), leb-true (length words) WANTED_LIMIT few.1);
+        wanted = omega (arith, length-map words (wanted_in table), leb-true (length words) WANTED_LIMIT few.1);
       };
       noted = left.0;
     })
@@ -92,8 +94,8 @@ lookup_kept notes k new operands begun good read =
     let part = good_part (looking_up k true operands) _ new read in
     let well = looking_up_well k true operands part.0 part.1 in
     let lookup = part.0.1 in
-    let named : Known = record k { names = well.known.0 } in
-    let tables = tables_grown notes k k.dylibs k.trackers k.files well.known.0 (le_refl (length k.files)) good in
+    let named : Known = with_names k well.known.0 in
+    let tables = tables_grown notes k k.trackers k.files well.known.0 (le_refl (length k.files)) good in
     let made : with_call named (line.Lookup lookup) ≡ new = ap (λ (q : Known). with_call q (line.Lookup lookup)) well.known.1 ∙ cc part.2 in
     subst (IsGoodSoFar notes) made (call_pushed notes named (line.Lookup lookup) begun well.fits refl tables)
 
@@ -102,8 +104,8 @@ watch_kept notes k new operands begun good read =
     let part = good_part (looking_up k (nat_lt k.watches k.notes) operands) _ new read in
     let well = looking_up_well k (nat_lt k.watches k.notes) operands part.0 part.1 in
     let lookup = part.0.1 in
-    let named : Known = record k { names = well.known.0 } in
-    let tables = tables_grown notes k k.dylibs k.trackers k.files well.known.0 (le_refl (length k.files)) good in
+    let named : Known = with_names k well.known.0 in
+    let tables = tables_grown notes k k.trackers k.files well.known.0 (le_refl (length k.files)) good in
     let made : with_call (record named { watches = k.watches + 1 }) (line.Watch k.watches lookup) ≡ new = ap (λ (q : Known). with_call (record q { watches = k.watches + 1 }) (line.Watch k.watches lookup)) well.known.1 ∙ cc part.2 in
     subst (IsGoodSoFar notes) made (watch_pushed notes named lookup begun well.fits (ltb-true k.watches k.notes well.noted) tables)
 
@@ -142,7 +144,7 @@ run_by_kept notes k new name fuel words few begun good read =
     let named : Known = with_name k name in
     let args = map (λ word. unwrap_or (argument_in word) 0) words in
     let run = line.Run (name_in named name) (unwrap_or (fuel_in fuel) 0) args in
-    let tables = tables_grown notes k k.dylibs k.trackers k.files (mentioned name k.names) (le_refl (length k.files)) good in
+    let tables = tables_grown notes k k.trackers k.files (name ∷ []) (le_refl (length k.files)) good in
     let made : with_call named run ≡ new = cc numbers.1 in
     let few_args : length args ≤ ARG_LIMIT = omega (arith, length-map words (λ word. unwrap_or (argument_in word) 0)) in
     subst (IsGoodSoFar notes) made (call_pushed notes named run begun (within_most FUEL_LIMIT (number_in 10 fuel), few_args) refl tables)

@@ -3,6 +3,7 @@ pub mod Checks
 pub mod Counts
 pub mod Cuts
 pub mod Digits
+pub mod DylibsKept
 pub mod FileNames
 pub mod LinesNext
 pub mod LinesRead

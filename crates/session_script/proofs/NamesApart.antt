@@ -24,7 +24,7 @@ text_there t texts there =
     let found : bytes_eq t (get_or texts (position_or_len (bytes_eq t) texts) []) ≡ true = passes_at_first (bytes_eq t) texts [] (within (bytes_eq t) texts there) in
     same_text t _ (sym found) ∙ ap (λ n. get_or texts n []) (sym (number_there t texts there))
 
-same_number : (t u : List ℕ) (texts : List (List ℕ)) → has t texts ≡ true → has u texts ≡ true → number_of t texts ≡ number_of u texts → t ≡ u
+pub same_number : (t u : List ℕ) (texts : List (List ℕ)) → has t texts ≡ true → has u texts ≡ true → number_of t texts ≡ number_of u texts → t ≡ u
 same_number t u texts t_there u_there same = text_there t texts t_there ∙ ap (λ n. get_or texts n []) same ∙ sym (text_there u texts u_there)
 
 pub grown : (t : List ℕ) (texts : List (List ℕ)) → length texts ≤ length (mentioned t texts)
@@ -33,7 +33,7 @@ grown t texts = elim (cases_Bool (has t texts)) [
   | inr new ↦ rw new (omega (arith, length_push texts t))
 ]
 
-has_all_mentioned : (t : List ℕ) (more texts : List (List ℕ)) → has t texts ≡ true → has t (all_mentioned more texts) ≡ true
+pub has_all_mentioned : (t : List ℕ) (more texts : List (List ℕ)) → has t texts ≡ true → has t (all_mentioned more texts) ≡ true
 has_all_mentioned t [] texts there = there
 has_all_mentioned t (u ∷ more) texts there = has_all_mentioned t more (mentioned u texts) (has_mentioned t u texts there)
 

@@ -5,14 +5,17 @@ use Rattle.std.proofs.lemmas.List.{length_push}
 use Rattle.std.proofs.lemmas.List.Concat.{flat_map-append}
 use Rattle.std.proofs.lemmas.List.Elements.{All-nil, All-cons, All-head, All-tail, All-push, All-weaker}
 use Rattle.std.proofs.lemmas.List.FromFn.{map-range_with_len_more}
+use Rattle.orc_ids.specs.declared.limits.TheConstants.{DYLIB_LIMIT}
 use Rattle.session_script.specs.declared.limits.TheConstants.{CLIENT_LIMIT}
 use Rattle.session_script.specs.declared.script.SetupLine.{SetupLine}
 use Rattle.session_script.specs.declared.script.SetupLine.TheVariants as setup
 use Rattle.session_script.specs.declared.script.ClientLine.{ClientLine}
 use Rattle.session_script.specs.declared.script.ClientLine.TheVariants as client
 use Rattle.session_script.specs.declared.script.LookupLine.{LookupLine}
-use Rattle.session_script.specs.Known.{Known, clients_of, with_setup, with_call}
-use Rattle.session_script.specs.WellFormed.{IsLookup, IsSetupLine, IsClientLine, note_of, notes_of}
+use Rattle.session_script.specs.Known.{Known, clients_of, name_in, with_setup, with_call}
+use Rattle.session_script.specs.Texts.{has, all_mentioned}
+use Rattle.session_script.specs.WellFormed.{IsLookup, IsSetupLine, IsClientLine, dylib_of, note_of, notes_of}
+use Rattle.session_script.proofs.DylibsKept.{AreDylibs, HasSource, names_grown, line_read, dylib_read}
 
 -- the clients' lines, where there are so many files and notes and so many lines watch
 pub record AreClients (files notes watches : ℕ) (clients : List (List ClientLine)) : Type 0 where
@@ -23,6 +26,7 @@ pub record AreClients (files notes watches : ℕ) (clients : List (List ClientLi
 
 pub record IsGoodSoFar (notes : ℕ) (k : Known) : Type 0 where
   pub setup : All (IsSetupLine (length k.files)) k.setup
+  pub dylibs : AreDylibs k.names k.dylibs k.setup
   pub clients : AreClients (length k.files) k.notes k.watches (clients_of k)
   pub noted : k.notes ≡ notes
   pub unbegun : k.begun ≡ false → k.earlier ≡ []
@@ -45,13 +49,14 @@ client_line_stays m n (client.Move t to) more good = good
 client_line_stays m n (client.Remove t) more good = good
 client_line_stays m n (client.Run name fuel args) more good = good
 
--- once other names are known, and more files
-abbrev pub with_tables : Known → List (List ℕ) → List (List ℕ) → List (List ℕ) → List (List ℕ) → Known
-with_tables k dylibs trackers files names = record k { dylibs = dylibs; trackers = trackers; files = files; names = names }
+-- once other trackers and files are known, and more names are mentioned
+abbrev pub with_tables : Known → List (List ℕ) → List (List ℕ) → List (List ℕ) → Known
+with_tables k trackers files names = record k { trackers = trackers; files = files; names = all_mentioned names k.names }
 
-pub tables_grown : (notes : ℕ) (k : Known) (dylibs trackers files names : List (List ℕ)) → length k.files ≤ length files → IsGoodSoFar notes k → IsGoodSoFar notes (with_tables k dylibs trackers files names)
-tables_grown notes k dylibs trackers files names more good = record {
+pub tables_grown : (notes : ℕ) (k : Known) (trackers files names : List (List ℕ)) → length k.files ≤ length files → IsGoodSoFar notes k → IsGoodSoFar notes (with_tables k trackers files names)
+tables_grown notes k trackers files names more good = record {
   setup = All-weaker (IsSetupLine (length k.files)) (IsSetupLine (length files)) (λ line. setup_line_stays (length k.files) (length files) line more) k.setup good.setup;
+  dylibs = names_grown names k.names k.dylibs k.setup good.dylibs;
   clients = record {
     lines = All-weaker (All (IsClientLine (length k.files))) (All (IsClientLine (length files)))
         (All-weaker (IsClientLine (length k.files)) (IsClientLine (length files)) (λ line. client_line_stays (length k.files) (length files) line more))
@@ -64,9 +69,21 @@ tables_grown notes k dylibs trackers files names more good = record {
   unbegun = good.unbegun;
 }
 
-pub setup_pushed : (notes : ℕ) (k : Known) (line : SetupLine) → IsSetupLine (length k.files) line → IsGoodSoFar notes k → IsGoodSoFar notes (with_setup k line)
-setup_pushed notes k line fits good = record {
+-- a line of the setup that declares no dylib
+pub setup_pushed : (notes : ℕ) (k : Known) (line : SetupLine) → IsSetupLine (length k.files) line → dylib_of line ≡ [] → HasSource (length k.dylibs) line → IsGoodSoFar notes k → IsGoodSoFar notes (with_setup k line)
+setup_pushed notes k line fits none source good = record {
   setup = All-push (IsSetupLine (length k.files)) k.setup line good.setup fits;
+  dylibs = line_read k.names k.dylibs k.setup line none source good.dylibs;
+  clients = good.clients;
+  noted = good.noted;
+  unbegun = good.unbegun;
+}
+
+-- one more dylib, whose name is known
+pub dylib_pushed : (notes : ℕ) (k : Known) (d : List ℕ) → has d k.names ≡ true → has d k.dylibs ≡ false → length k.dylibs < DYLIB_LIMIT → IsGoodSoFar notes k → IsGoodSoFar notes (with_setup (record k { dylibs = k.dylibs ++ d ∷ [] }) (setup.Dylib (name_in k d)))
+dylib_pushed notes k d named new room good = record {
+  setup = All-push (IsSetupLine (length k.files)) k.setup (setup.Dylib (name_in k d)) good.setup tt;
+  dylibs = dylib_read k.names k.dylibs k.setup d named new room good.dylibs;
   clients = good.clients;
   noted = good.noted;
   unbegun = good.unbegun;
@@ -102,6 +119,7 @@ line_pushed files notes watches more earlier current line fits watched enough go
 pub call_pushed : (notes : ℕ) (k : Known) (line : ClientLine) → k.begun ≡ true → IsClientLine (length k.files) line → note_of line ≡ [] → IsGoodSoFar notes k → IsGoodSoFar notes (with_call k line)
 call_pushed notes k line begun fits unnoted good = record {
   setup = good.setup;
+  dylibs = good.dylibs;
   clients =
       let same : range_with_len 0 k.watches ++ note_of line ≡ range_with_len 0 k.watches = rw unnoted (append-nil (range_with_len 0 k.watches)) in
       rw begun (line_pushed (length k.files) k.notes k.watches k.watches k.earlier k.current line fits same good.clients.enough (rw begun at good.clients));
@@ -115,6 +133,7 @@ one_more n = sym (simp map-id at (map-range_with_len_more (λ (x : ℕ). x) 0 n 
 pub watch_pushed : (notes : ℕ) (k : Known) (lookup : LookupLine) → k.begun ≡ true → IsLookup lookup → k.watches < k.notes → IsGoodSoFar notes k → IsGoodSoFar notes (with_call (record k { watches = k.watches + 1 }) (client.Watch k.watches lookup))
 watch_pushed notes k lookup begun fits room good = record {
   setup = good.setup;
+  dylibs = good.dylibs;
   clients = rw begun (line_pushed (length k.files) k.notes k.watches (k.watches + 1) k.earlier k.current (client.Watch k.watches lookup) fits (one_more k.watches) (omega arith) (rw begun at good.clients));
   noted = good.noted;
   unbegun = λ other. absurd cc;

@@ -63,7 +63,8 @@ number_mentioned t u texts h = elim (cases_Bool (has u texts)) [
   | inr new ↦ rw new (number_there t (texts ++ u ∷ []) (any_stays (bytes_eq t) texts u h) ∙ first_stays (bytes_eq t) texts u h ∙ sym (number_there t texts h))
 ]
 
-number_of_known : (t : List ℕ) (more texts : List (List ℕ)) → has t texts ≡ true → number_of t (all_mentioned more texts) ≡ number_of t texts
+-- more texts leave the number of one that is there
+pub number_of_known : (t : List ℕ) (more texts : List (List ℕ)) → has t texts ≡ true → number_of t (all_mentioned more texts) ≡ number_of t texts
 number_of_known t [] texts h = refl
 number_of_known t (u ∷ more) texts h = number_of_known t more (mentioned u texts) (has_mentioned t u texts h) ∙ number_mentioned t u texts h
 

@@ -10,14 +10,17 @@ use Rattle.std.proofs.lemmas.List.FromFn.{length-range_with_len}
 use Rattle.session_script.specs.declared.error.ScriptError.{ScriptError}
 use Rattle.session_script.specs.declared.limits.TheConstants.{LINE_LIMIT, SIZE_LIMIT}
 use Rattle.session_script.specs.declared.script.Script.{Script}
+use Rattle.session_script.specs.declared.script.SetupLine.TheVariants as setup
 use Rattle.session_script.specs.Client.{client_word, call_line}
 use Rattle.session_script.specs.Known.{Known, nothing_known, clients_of}
 use Rattle.session_script.specs.Scripts.{worded_line, line_in, numbered_line, lines_from, script_of_known, finished, script_of}
 use Rattle.session_script.specs.Setup.{setup_word, setup_line}
+use Rattle.session_script.specs.Texts.{has}
 use Rattle.session_script.specs.WellFormed.{IsSetupLine, IsWellFormed, notes_of}
 use Rattle.session_script.specs.Words.{is_byte, newline, space, parts, lines_of, text_of_line, is_skipped, is_barred, is_spaced}
 use Rattle.session_script.proofs.CallsKept.{client_kept, call_kept}
 use Rattle.session_script.proofs.Checks.{passed, good_line}
+use Rattle.session_script.proofs.DylibsKept.{dylibs_differ, dylibs_few}
 use Rattle.session_script.proofs.ScriptSoFar.{IsGoodSoFar}
 use Rattle.session_script.proofs.SetupKept.{setup_kept}
 use Rattle.session_script.proofs.WordSizes.{size_of, size_of_words}
@@ -63,6 +66,13 @@ lines_kept notes k last number size (line ∷ lines) good read =
 nothing_good : (notes : ℕ) → IsGoodSoFar notes (nothing_known notes)
 nothing_good notes = record {
   setup = All-nil (IsSetupLine 0);
+  dylibs = record {
+    numbers = refl;
+    there = All-nil (λ d. has d [] ≡ true);
+    differ = λ i j d less below. absurd (omega arith);
+    few = omega arith;
+    sources = λ k line at. absurd cc;
+  };
   clients = record {
     lines = λ k d less. absurd (omega arith);
     few = omega arith;
@@ -78,6 +88,9 @@ good_script notes k good =
     let count : length (notes_of (clients_of k)) ≡ k.watches = ap length good.clients.watched ∙ length-range_with_len 0 k.watches in
     record {
       setup = good.setup;
+      dylibs = dylibs_differ k.names k.dylibs k.setup good.dylibs;
+      few_dylibs = dylibs_few k.names k.dylibs k.setup good.dylibs;
+      sources = λ at alias. good.dylibs.sources at (setup.Alias alias);
       clients = good.clients.lines;
       few_clients = good.clients.few;
       watches = good.clients.watched ∙ ap (range_with_len 0) (sym count);

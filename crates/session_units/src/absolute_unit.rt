@@ -1,6 +1,6 @@
 ghost use Rattle.std.specs.Prelude.{◌≡◌, ◌∷◌, ◌<◌, ◌≤◌, [], length, slice_get, Some, IfOk};
 ghost use Rattle.block_groups.specs.Groups.{group_of};
-ghost use Rattle.link_model.specs.Sound.{MAX_SYMBOLS};
+ghost use Rattle.orc_ids.specs.declared.limits.TheConstants.{INSTANCE_LIMIT};
 ghost use Rattle.session_model.specs.Meaning.{IsLawful};
 ghost use Rattle.session_units.specs.AbsoluteUnits.{absolute_unit_meaning};
 ghost use Rattle.session_units.specs.Names.{NamesDiffer};
@@ -27,7 +27,7 @@ pub(crate) struct Absolutes {
 
 impl Model for Absolutes {
     ghost use Rattle.std.specs.Prelude.{ℕ, List, length, ◌≤◌};
-    ghost use Rattle.link_model.specs.Sound.{MAX_SYMBOLS};
+    ghost use Rattle.orc_ids.specs.declared.limits.TheConstants.{INSTANCE_LIMIT};
     ghost use Rattle.orc_ids.specs.declared.ids.NameId.{NameId};
     ghost use Rattle.session_units.specs.Names.{NamesDiffer};
 
@@ -35,13 +35,13 @@ impl Model for Absolutes {
 
     ghost view = { λ a. a.symbols.items };
 
-    ghost invariant = { λ a. NamesDiffer a.symbols.items × (length a.symbols.items ≤ MAX_SYMBOLS) };
+    ghost invariant = { λ a. NamesDiffer a.symbols.items × (length a.symbols.items ≤ INSTANCE_LIMIT) };
 }
 
 impl Absolutes {
     fn of_list(alloc: Global, list: &[(NameId, u64)]) -> Result<Absolutes, AllocError>
         requires differ { NamesDiffer list.now }
-        requires few { length list.now ≤ MAX_SYMBOLS }
+        requires few { length list.now ≤ INSTANCE_LIMIT }
         ensures { IfOk result (λ made. made ≡ list.now) }
     {
         Ok(Absolutes {
@@ -84,7 +84,7 @@ impl AbsoluteUnit {
         list: &[(NameId, u64)],
     ) -> Result<AbsoluteUnit, AllocError>
         requires differ { NamesDiffer list.now }
-        requires few { length list.now ≤ MAX_SYMBOLS }
+        requires few { length list.now ≤ INSTANCE_LIMIT }
         ensures { IfOk result (λ unit. absolute_unit_meaning unit ≡ absolutes_meaning name list.now) }
     {
         let list = Arc::new(alloc, Absolutes::of_list(alloc, list)?)?;

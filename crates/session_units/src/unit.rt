@@ -1,7 +1,8 @@
 ghost use Rattle.std.specs.Prelude.{◌≡◌, ◌≤◌, ◌↔◌, ℕ, Bool, List, length, IsTrue, IfOk};
 ghost use Rattle.unit_fixups.specs.Sound.{Alone};
 ghost use Rattle.link_model.specs.Layout.{layout_of};
-ghost use Rattle.link_model.specs.Sound.{Sound, IsSized, OffersDiffer, MAX_SYMBOLS};
+ghost use Rattle.link_model.specs.Sound.{Sound, IsSized, OffersDiffer};
+ghost use Rattle.orc_ids.specs.declared.limits.TheConstants.{INSTANCE_LIMIT};
 ghost use Rattle.session_units.specs.Meaning.{graph_meaning};
 ghost use Rattle.session_units.specs.Names.{NamesDiffer};
 ghost use Rattle.session_units.specs.Others.{absolutes_meaning, alias_meaning};
@@ -35,14 +36,15 @@ impl ObjectUnit {
         Ok(ObjectUnit::Graph(GraphUnit::of_graph(alloc, name, g)?))
     }
 
-    /// The unit of absolute symbols, each with its address, whose names differ.
+    /// The unit of absolute symbols, each with its address, whose names differ: no more than a session has
+    /// instances.
     pub fn of_absolutes(
         alloc: Global,
         name: UnitName,
         list: &[(NameId, u64)],
     ) -> Result<ObjectUnit, AllocError>
         requires differ { NamesDiffer list.now }
-        requires few { length list.now ≤ MAX_SYMBOLS }
+        requires few { length list.now ≤ INSTANCE_LIMIT }
         ensures { IfOk result (λ unit. meaning_of unit ≡ absolutes_meaning name list.now) }
     {
         Ok(ObjectUnit::Absolutes(AbsoluteUnit::of_list(alloc, name, list)?))

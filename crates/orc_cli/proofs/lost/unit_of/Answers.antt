@@ -3,7 +3,7 @@ use Rattle.session_model.specs.Meaning.{Meaning}
 use Rattle.session_model.specs.State.{plain_entry}
 use Rattle.session_model.specs.declared.entry.Entry.{Entry}
 use Rattle.run_answers.specs.Lost.{made_in}
-use Rattle.orc_cli.proofs.FirstOf.{found_first, found_none}
+use Rattle.answers.proofs.FirstOf.{found_first, found_none}
 use Rattle.orc_cli.proofs.lost.unit_of.Goals as goal
 
 pub returns-in-Some : goal.returns-in-Some

@@ -5,7 +5,7 @@ use Rattle.std.proofs.lemmas.Option.{slice_get-get_or}
 use Rattle.command_line.specs.Words.{request}
 use Rattle.session_model.specs.State.{plain_history}
 use Rattle.run_answers.specs.Sessions.{IsWordOf}
-use Rattle.run_answers.specs.declared.answer.Answer.TheVariants.{Missing, NoMemory}
+use Rattle.answers.specs.declared.answer.Answer.TheVariants.{Missing, NoMemory}
 use Rattle.orc_cli.proofs.EndAnswers.{ran_as, missing_as, lost_as, refused_as, full_as}
 use Rattle.orc_cli.proofs.running.answer_end.Goals as goal
 use Rattle.orc_cli.proofs.running.answer_end.Goals.{in-Missing+in_ok-copy_of-in-Missing, in-Failed+in_ok-answer-in-Failed, in-Refused, in-Stopped-JournalFull}

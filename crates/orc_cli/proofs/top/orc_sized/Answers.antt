@@ -1,11 +1,16 @@
 -- The promise is kept by what was found and written.
 use Rattle.command_line.specs.Words.{texts}
 use Rattle.run_answers.proofs.Kept.{answers_are_kept}
-use Rattle.orc_cli.proofs.Finished.{never_full_at}
+use Rattle.session_answers.proofs.Kept.{session_answers_are_kept}
+use Rattle.orc_cli.proofs.Finished.{answered, never_full_at, without_journal}
 use Rattle.orc_cli.proofs.top.orc_sized.Goals as goal
 
-pub returns-clause-answers : goal.returns-clause-answers
-returns-clause-answers g c = answers_are_kept _ _ _ _ _ _ _ _ _ _ c.perform.ensures.answered
+pub returns-clause-run : goal.returns-clause-run
+returns-clause-run g c asked asks = answers_are_kept _ _ _ _ _ _ _ _ _ _ (answered _ _ _ _ _ _ _ _ _ _ _ _ _ (c.ask-found.ensures.run asked asks) c.write_found-answer.ensures.written)
 
 pub returns-clause-never_full : goal.returns-clause-never_full
-returns-clause-never_full g c = never_full_at _ (texts c.args.words.now) _ _ _ _ _ _ _ _ c.perform.ensures.answered
+returns-clause-never_full g c e asked asks = never_full_at _ (texts c.args.words.now) asked asks _ _ _ _ _ _ _ _ (answered _ _ _ _ _ _ _ _ _ _ _ _ _ (c.ask-found.ensures.run asked asks) c.write_found-answer.ensures.written) e
+
+pub returns-clause-session : goal.returns-clause-session
+returns-clause-session g c workers asks = session_answers_are_kept g.N.Notify.heard _ _ _ _ _ (c.ask-found.ensures.session workers asks)
+    (without_journal _ _ _ _ _ _ _ _ (c.ask-found.ensures.session_log workers asks) c.write_found-answer.ensures.written)

@@ -1,0 +1,3 @@
+pub mod FirstOf
+pub mod Stops
+pub mod Sinks

@@ -1,0 +1,5 @@
+pub mod Answers
+pub mod EndLine
+pub mod Files
+pub mod Memory
+pub mod Written

@@ -1,0 +1,3 @@
+mod Prefixes
+mod Telling
+pub mod Told

@@ -1,0 +1,111 @@
+//! What the words of a call ask for, and what is found.
+ghost use Rattle.std.specs.Prelude.{◌≡◌, ◌≤◌, [], map, All, None, Ok};
+ghost use Rattle.command_line.specs.Words.{Session, asked_by};
+ghost use Rattle.noted.specs.Heard.{AllHaveHeard};
+ghost use Rattle.run_answers.specs.Answered.{IsFound};
+ghost use Rattle.session_answers.specs.Found.{IsFound as IsSessionFound};
+ghost use Rattle.orc_cli.specs.Asking.{ForRun, ForSession};
+
+use crate::finding::{find_run, silent};
+use crate::running::Found;
+use answers::Answer;
+use command_line::{Command, CommandError, RunWords, SessionWords, read_command};
+use execution_session::JOURNAL_LIMIT;
+use noted::{Noted, Notes};
+use orc_ids::Bytes;
+use orc_io::{Files, Gate, Notify, Source};
+use orc_names::NameHasher;
+use session_command::{SessionFound, find_session};
+use std::alloc::Global;
+use std::rc::RcStr;
+use std::sync::Wait;
+use std::thread::Threads;
+
+/// What was found, and the notifiers that were handed in.
+#[derive(Drop)]
+pub(crate) struct Asked<N: Notify> {
+    pub(crate) found: Found,
+    pub(crate) notes: Notes<N>,
+}
+
+/// What was found by a call that tells nobody.
+fn untold<N: Notify>(found: Found, notes: Vec<N>) -> Asked<N>
+    requires { All (λ n. N.heard n ≡ None) notes.items }
+    ensures found { result.found ≡ found }
+    ensures notes { result.notes ≡ map Noted.Unfired notes.items }
+    ensures heard { AllHaveHeard N.heard result.notes }
+{
+    Asked {
+        found,
+        notes: Notes::unfired(notes),
+    }
+}
+
+/// What a session found: all of its text is output, and the log has the end line alone.
+fn of_session<N: Notify>(alloc: Global, session: SessionFound<N>) -> Asked<N>
+    ensures answer { result.found.answer ≡ session.answer }
+    ensures output { result.found.output ≡ session.output }
+    ensures journal { result.found.journal ≡ [] }
+    ensures notes { result.notes ≡ session.notes }
+{
+    Asked {
+        found: Found {
+            answer: session.answer,
+            output: session.output,
+            journal: Bytes::new(alloc),
+        },
+        notes: session.notes,
+    }
+}
+
+/// What the words ask for is found.
+pub(crate) fn ask<
+    S: Source,
+    F: Files,
+    G: Gate + Sync,
+    N: Notify + Send,
+    R: Threads + Wait + Sync,
+    const JMAX: usize,
+>(
+    rt: &R,
+    alloc: Global,
+    hasher: NameHasher,
+    words: &[RcStr],
+    source: &mut S,
+    files: &mut F,
+    gate: &G,
+    notes: Vec<N>,
+) -> Asked<N>
+    requires journal { JMAX ≤ JOURNAL_LIMIT }
+    requires unheard { All (λ n. N.heard n ≡ None) notes.items }
+    ensures run { ForRun (asked_by words.now) (λ asked. IsFound JMAX asked
+        (F.holds files.old) (F.faults files.old) (F.faults files.new)
+        result.found.answer result.found.output result.found.journal) }
+    ensures session { ForSession (asked_by words.now) (λ workers. IsSessionFound N.heard JMAX workers notes.items
+        (S.left source.old) (S.faults source.old) (S.faults source.new)
+        (F.holds files.old) (F.faults files.old) (F.faults files.new)
+        result.found.answer result.found.output result.notes) }
+    ensures session_log { ForSession (asked_by words.now) (λ workers. result.found.journal ≡ []) }
+    ensures heard { AllHaveHeard N.heard result.notes }
+    ensures notes { ForRun (asked_by words.now) (λ asked. result.notes ≡ map Noted.Unfired notes.items) }
+    ensures source_left { ForRun (asked_by words.now) (λ asked. S.left source.new ≡ S.left source.old) }
+    ensures source_quiet { ForRun (asked_by words.now) (λ asked. S.faults source.new ≡ S.faults source.old) }
+    ensures source_counted { S.faults source.old ≤ S.faults source.new }
+    ensures counted { F.faults files.old ≤ F.faults files.new }
+    ensures same { F.holds files.new ≡ F.holds files.old }
+{
+    match read_command(alloc, words) {
+        Ok(Command::Run(run)) => {
+            let found = find_run::<F, G, R, JMAX>(rt, alloc, hasher, &run, files, gate);
+            untold(found, notes)
+        }
+        Ok(Command::Session(SessionWords { workers })) => {
+            let found = find_session::<S, F, G, N, R, JMAX>(
+                rt, alloc, hasher, workers, source, files, gate, notes,
+            );
+            of_session(alloc, found)
+        }
+        Err(CommandError::Usage(kind)) => untold(silent(alloc, Answer::Usage(kind)), notes),
+        Err(CommandError::NoMemory) => untold(silent(alloc, Answer::NoMemory), notes),
+    }
+}

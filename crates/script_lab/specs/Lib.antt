@@ -1,0 +1,4 @@
+pub mod Plans
+pub mod Played
+pub mod SettingUp
+pub mod Units

@@ -1,0 +1,89 @@
+-- Which calls can be made, by what they ask for.
+use Rattle.std.proofs.Common.{◌≡◌, ◌<◌, ◌≤◌, ℕ, List, [], ◌∷◌, ◌++◌, length, take, map, Option, Some, None, ap, ◌∙◌}
+use Rattle.std.specs.Prelude.{⊤, All, IfSome, flat_map, option_map, slice_get}
+use Rattle.std.proofs.lemmas.List.{map-append, take-map}
+use Rattle.std.proofs.lemmas.Option.{slice_get-map}
+use Rattle.std.proofs.lemmas.List.Elements.{All-nil, All-cons, All-head, All-tail}
+use Rattle.orc_ids.specs.declared.limits.TheConstants.{ORDER_LIMIT, WANTED_LIMIT}
+use Rattle.orc_ids.specs.declared.lookup.Outcome.{Outcome}
+use Rattle.script_calls.specs.Dylibs.{dylib_names}
+use Rattle.script_calls.specs.Lines.{Line, One, LookUp, Run}
+use Rattle.script_calls.specs.Plans.{CanSetUp, CanCall, event_of, line_of}
+use Rattle.script_calls.specs.declared.calls.ClientCall.{ClientCall}
+use Rattle.script_calls.specs.declared.calls.ClientCall.TheVariants as client
+use Rattle.script_calls.specs.declared.calls.SetUpCall.{SetUpCall}
+use Rattle.script_calls.specs.declared.calls.SetUpCall.TheVariants as set_up
+use Rattle.session_model.specs.Meaning.{Meaning}
+use Rattle.session_model.specs.declared.entry.Event.{Event}
+use Rattle.session_model.specs.declared.entry.Event.TheVariants as event
+use Rattle.script_plan.specs.Notes.{watch_of, watches_of}
+use Rattle.script_plan.proofs.Lists.{all_front, all_back}
+
+-- an event of a set-up, where so many dylibs are made
+abbrev pub CanHappen : ℕ → Event Meaning → Type 0
+CanHappen made (event.SetOrder d order) = length order ≤ ORDER_LIMIT
+CanHappen made (event.Define d t unit) = IfSome unit.source (λ source. source.0 < made)
+CanHappen made (event.Attach d t unit) = IfSome unit.source (λ source. source.0 < made)
+CanHappen made _ = ⊤
+
+-- each can happen after those before it
+abbrev pub AllCanHappen : List (Event Meaning) → Type 0
+AllCanHappen events = (k : ℕ) (event : Event Meaning) → slice_get events k ≡ Some event → CanHappen (length (dylib_names (take k events))) event
+
+-- a client's definition is of no alias
+abbrev pub IsNoAlias : Event Meaning → Type 0
+IsNoAlias (event.Define d t unit) = unit.source ≡ None
+IsNoAlias _ = ⊤
+
+abbrev pub CanDo : Line → Type 0
+CanDo (One event) = IsNoAlias event
+CanDo (LookUp lookup) = (length lookup.order ≤ ORDER_LIMIT) × (length lookup.wanted ≤ WANTED_LIMIT)
+CanDo (Run name fuel args) = length args ≤ 8
+
+module _ {U : Type 0} (means : U → Meaning) where
+  can_set_up : (made : ℕ) (call : SetUpCall U) → CanHappen made (event_of means call) → CanSetUp means made call
+  can_set_up made (set_up.Dylib name) can = can
+  can_set_up made (set_up.Order d order) can = can
+  can_set_up made (set_up.Tracker d) can = can
+  can_set_up made (set_up.Define d t unit) can = can
+  can_set_up made (set_up.Attach d t unit) can = can
+
+  pub can_set_up_each : (calls : List (SetUpCall U)) → AllCanHappen (map (event_of means) calls) → (k : ℕ) (call : SetUpCall U) → slice_get calls k ≡ Some call → CanSetUp means (length (dylib_names (map (event_of means) (take k calls)))) call
+  can_set_up_each calls can k call at =
+      let there = slice_get-map (event_of means) calls k ∙ ap (option_map (event_of means)) at in
+      can_set_up (length (dylib_names (map (event_of means) (take k calls)))) call (rw (← take-map (event_of means) k calls) (can k (event_of means call) there))
+
+  module _ {N : Type 0} (heard : N → Option Outcome) where
+    abbrev AreUnheard : List N → Type 0
+    AreUnheard notes = All (λ n. heard n ≡ None) notes
+
+    can_call : (call : ClientCall U N) → CanDo (line_of means call) → AreUnheard (map (λ w. w.1) (watch_of call)) → CanCall means heard call
+    can_call (client.Define d t unit) can unheard = can
+    can_call (client.LookUp names None) can unheard = (can.0, can.1, tt)
+    can_call (client.LookUp names (Some w)) can unheard = (can.0, can.1, All-head (λ n. heard n ≡ None) w.1 [] unheard)
+    can_call (client.Move t to) can unheard = can
+    can_call (client.Remove t) can unheard = can
+    can_call (client.Run name fuel args) can unheard = can
+
+    -- what is unheard of two lists is so of each
+    parts : (first next : List (ℕ × N)) → AreUnheard (map (λ w. w.1) (first ++ next)) → AreUnheard (map (λ w. w.1) first) × AreUnheard (map (λ w. w.1) next)
+    parts first next unheard =
+        let both : AreUnheard (map (λ w. w.1) first ++ map (λ w. w.1) next) = rw (← map-append (λ (w : ℕ × N). w.1) first next) unheard in
+        (all_front (λ n. heard n ≡ None) _ _ both, all_back (λ n. heard n ≡ None) _ _ both)
+
+    can_call_all : (calls : List (ClientCall U N)) → All CanDo (map (line_of means) calls) → AreUnheard (map (λ w. w.1) (flat_map watch_of calls)) → All (CanCall means heard) calls
+    can_call_all [] can unheard = All-nil (CanCall means heard)
+    can_call_all (call ∷ calls) can unheard =
+        let each = parts (watch_of call) (flat_map watch_of calls) unheard in
+        All-cons (CanCall means heard) call calls
+        (can_call call (All-head CanDo (line_of means call) (map (line_of means) calls) can) each.0)
+        (can_call_all calls (All-tail CanDo (line_of means call) (map (line_of means) calls) can) each.1)
+
+    pub can_all : {C : Type 0} (items : C → List (ClientCall U N)) (clients : List C) → All (All CanDo) (map (λ c. map (line_of means) (items c)) clients) → AreUnheard (map (λ w. w.1) (watches_of (map items clients))) → All (λ c. All (CanCall means heard) (items c)) clients
+    can_all items [] can unheard = All-nil (λ c. All (CanCall means heard) (items c))
+    can_all {C} items (c ∷ clients) can unheard =
+        let lines : C → List Line = λ c. map (line_of means) (items c) in
+        let each = parts (flat_map watch_of (items c)) (watches_of (map items clients)) unheard in
+        All-cons (λ c. All (CanCall means heard) (items c)) c clients
+        (can_call_all (items c) (All-head (All CanDo) (lines c) (map lines clients) can) each.0)
+        (can_all items clients (All-tail (All CanDo) (lines c) (map lines clients) can) each.1)

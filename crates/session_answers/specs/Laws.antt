@@ -1,0 +1,10 @@
+-- What is found and then written keeps the promise of the call.
+use Rattle.std.specs.Prelude.{ℕ, List, [], Option}
+use Rattle.orc_ids.specs.declared.lookup.Outcome.{Outcome}
+use Rattle.answers.specs.declared.answer.Answer.{Answer}
+use Rattle.answers.specs.Written.{IsFinished}
+use Rattle.session_answers.specs.Clauses.{Call, Finds, SessionAnswers}
+
+abbrev pub SessionAnswersAreKept : Type 0 → Type 0
+SessionAnswersAreKept N = (heard : N → Option Outcome) (jmax : ℕ) (c : Call N) (found answer : Answer) (output : List ℕ) →
+    Finds heard jmax c found output → IsFinished c.out_before c.out_after c.log_before c.log_after found output [] answer → SessionAnswers heard jmax c answer

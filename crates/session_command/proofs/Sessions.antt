@@ -1,0 +1,90 @@
+-- What the session of a script that was loaded is.
+use Rattle.std.proofs.Common.{◌≡◌, ◌≢◌, ℕ, ◌+◌, ◌++◌, List, length, map, Option, Result, Ok, Err, IfOk, sym, subst, ap, ◌∙◌}
+use Rattle.orc_ids.specs.declared.lookup.Outcome.{Outcome}
+use Rattle.orc_ids.specs.declared.lookup.Wanted.{Wanted}
+use Rattle.session_model.specs.Meaning.{Meaning}
+use Rattle.session_model.specs.State.{plain_history}
+use Rattle.session_model.specs.declared.entry.Entry.{Entry}
+use Rattle.journal_text.specs.Journal.{text_of_history}
+use Rattle.result_text.specs.Results.{text_of_ends}
+use Rattle.object_files.specs.Files.{Told}
+use Rattle.noted.specs.Heard.{AllHaveHeard}
+use Rattle.noted.specs.declared.notes.Noted.{Noted}
+use Rattle.session_script.specs.declared.script.Script.{Script}
+use Rattle.session_units.specs.Units.{meaning_of}
+use Rattle.session_units.specs.declared.unit.ObjectUnit.{ObjectUnit}
+use Rattle.script_calls.specs.Plans.{script_of}
+use Rattle.script_calls.specs.declared.calls.Plan.{Plan}
+use Rattle.script_laws.specs.Scripts.{IsScriptRun}
+use Rattle.script_laws.specs.declared.line_end.LineEnd.{LineEnd}
+use Rattle.script_laws.specs.declared.line_end.ScriptEnd.{ScriptEnd}
+use Rattle.script_plan.specs.Asked.{asked_script}
+use Rattle.script_session.specs.Leaving.{AreNotified}
+use Rattle.script_session.specs.declared.session.Notified.{Notified}
+use Rattle.answers.specs.declared.answer.Answer.{Answer}
+use Rattle.answers.specs.declared.answer.Answer.TheVariants.{NoMemory}
+use Rattle.session_answers.specs.Ends.{session_answer}
+use Rattle.session_answers.specs.Found.{HasSession}
+use Rattle.session_answers.specs.Texts.{counted, wanted_by}
+use Rattle.session_command.specs.Loading.{IsLoaded}
+use Rattle.session_command.specs.Places.{ArePut}
+use Rattle.session_command.specs.declared.command.Loaded.{Loaded}
+use Rattle.session_command.specs.declared.command.SessionFound.{SessionFound}
+use Rattle.session_command.proofs.AllTold.{all_were_told, were_told}
+use Rattle.session_command.proofs.Placing.{are_back}
+
+module _ {N : Type 0} (heard : N → Option Outcome) (jmax workers : ℕ) (handed : List N) (loaded : Loaded) (plan : Plan ObjectUnit N) (journal : List (Entry ObjectUnit)) (end : ScriptEnd) (notified : Notified N) where
+  abbrev pub History : List (Entry Meaning)
+  History = plain_history meaning_of journal
+
+  abbrev pub Ends : List (List LineEnd)
+  Ends = map (λ c. c.items) end.clients.items
+
+  -- what was found of the session that was run
+  pub record WasRun (wanted : List (List (List Wanted))) (answer : Answer) (output : List ℕ) (back : List (Noted N)) : Type 0 where
+    pub asked : script_of meaning_of plan ≡ asked_script (map meaning_of loaded.units.items) loaded.script
+    pub run : IsScriptRun jmax workers (script_of meaning_of plan) end.set_up Ends History
+    pub notified_are : AreNotified heard (length plan.clients.items + workers) History notified
+    pub wanted_are : wanted ≡ map (map wanted_by) loaded.script.clients
+    pub answers : answer ≡ session_answer History end.set_up Ends
+    pub text : output ≡ text_of_history loaded.script.names History ++ text_of_ends loaded.script.names wanted Ends
+    pub put : ArePut heard (length handed) notified.told.items back
+    pub all : answer ≢ NoMemory → length back ≡ length handed
+
+  has_session : (left : Option (List ℕ)) (told : Told) → IsLoaded left (counted (length handed)) told loaded → (wanted : List (List (List Wanted))) (answer : Answer) (output : List ℕ) (back : List (Noted N)) →
+      WasRun wanted answer output back → HasSession heard jmax workers handed left told answer output back
+  has_session left told is wanted answer output back w = record {
+    script = is.asked;
+    asked = is.is;
+    names = loaded.script.names;
+    history = History;
+    stopped = end.set_up;
+    ends = Ends;
+    session = record {
+      units = map meaning_of loaded.units.items;
+      loaded = is.has.units;
+      named = is.has.named;
+      run = subst (λ s. IsScriptRun jmax workers s end.set_up Ends History) (subst (λ (s : Script). script_of meaning_of plan ≡ asked_script (map meaning_of loaded.units.items) s) is.has.script w.asked) w.run;
+    };
+    answers = w.answers;
+    text = w.text ∙ ap (λ l. text_of_history loaded.script.names History ++ text_of_ends loaded.script.names l Ends) (w.wanted_are ∙ ap (λ (s : Script). map (map wanted_by) s.clients) is.has.script);
+    notes = λ quiet. are_back heard History (length handed) notified.told.items back w.put
+        (were_told meaning_of heard jmax workers plan end.set_up Ends History w.run notified w.notified_are)
+        (all_were_told meaning_of heard jmax workers plan end.set_up Ends History w.run notified w.notified_are)
+        (w.all quiet);
+  }
+
+  pub session_found : {E : Type 0} (r : Result (SessionFound N) E) (wanted : List (List (List Wanted))) (answer : Answer) (output : List ℕ) (back : List (Noted N)) →
+      IfOk r (λ f. f.answer ≡ answer) → IfOk r (λ f. f.output ≡ output) → IfOk r (λ f. f.notes ≡ back) → IfOk r (λ f. answer ≢ NoMemory → length back ≡ length handed) →
+      ((answer ≢ NoMemory → length back ≡ length handed) → WasRun wanted answer output back) →
+      (left : Option (List ℕ)) (told : Told) → IsLoaded left (counted (length handed)) told loaded → IfOk r (λ f. HasSession heard jmax workers handed left told f.answer f.output f.notes)
+  session_found (Ok f) wanted answer output back a o n all w left told is =
+      let s = has_session left told is wanted answer output back (w all) in
+      subst (λ x. HasSession heard jmax workers handed left told x f.output f.notes) (sym a)
+      (subst (λ x. HasSession heard jmax workers handed left told answer x f.notes) (sym o) (subst (λ x. HasSession heard jmax workers handed left told answer output x) (sym n) s))
+  session_found (Err e) wanted answer output back a o n all w left told is = tt
+
+-- what came back has heard what it says
+pub heard_kept : {N E : Type 0} (heard : N → Option Outcome) (r : Result (SessionFound N) E) (back : List (Noted N)) → IfOk r (λ f. f.notes ≡ back) → AllHaveHeard heard back → IfOk r (λ f. AllHaveHeard heard f.notes)
+heard_kept heard (Ok f) back is all = subst (AllHaveHeard heard) (sym is) all
+heard_kept heard (Err e) back is all = tt

@@ -1,0 +1,25 @@
+-- What is found where a script isn't loaded.
+use Rattle.std.proofs.Common.{ℕ, ◌≡◌, inl, inr, List, [], length, map, Option, Result, Ok, Err, IfErr, ◌∙◌}
+use Rattle.orc_ids.specs.declared.lookup.Outcome.{Outcome}
+use Rattle.noted.specs.declared.notes.Noted.{Noted}
+use Rattle.noted.specs.declared.notes.Noted.TheVariants.{Unfired}
+use Rattle.object_files.specs.Files.{Told}
+use Rattle.session_script.specs.declared.script.Script.{Script}
+use Rattle.answers.specs.declared.answer.Answer.{Answer}
+use Rattle.session_answers.specs.Found as found
+use Rattle.session_answers.specs.Found.{IsFound, refused, unread, in_source, in_script, wanting}
+use Rattle.session_answers.specs.Texts.{IsScriptOn, counted}
+use Rattle.session_command.specs.Loading.{HasStoppedAt, HasStoppedIn, in_files, unasked}
+use Rattle.session_command.specs.declared.command.Loaded.{Loaded}
+
+pub stopped_in_files : (left : Option (List ℕ)) (notes first read : ℕ) (told : Told) (before after : ℕ) (script : Script) (r : Result Loaded Answer) →
+    IsScriptOn left notes script → IfErr r (HasStoppedAt told before after script) → IfErr r (HasStoppedIn left notes first read told before after)
+stopped_in_files left notes first read told before after script (Ok loaded) on stopped = tt
+stopped_in_files left notes first read told before after script (Err answer) on stopped = in_files script on stopped
+
+pub silent_found : {N : Type 0} (heard : N → Option Outcome) (jmax workers : ℕ) (handed : List N) (left : Option (List ℕ)) (first read : ℕ) (told : Told) (before after : ℕ) (why answer : Answer) (output : List ℕ) (back : List (Noted N)) →
+    HasStoppedIn left (counted (length handed)) first read told before after why → answer ≡ why → output ≡ [] → back ≡ map Unfired handed → IsFound heard jmax workers handed left first read told before after answer output back
+silent_found heard jmax workers handed left first read told before after why answer output back (unasked (unread (inl p))) a o b = in_source p.0 (a ∙ p.1) o b
+silent_found heard jmax workers handed left first read told before after why answer output back (unasked (unread (inr e))) a o b = wanting (a ∙ e) o
+silent_found heard jmax workers handed left first read told before after why answer output back (unasked (refused line cause is e)) a o b = in_script line cause is (a ∙ e) o b
+silent_found heard jmax workers handed left first read told before after why answer output back (in_files script on s) a o b = found.in_files script s.error on s.stopped (a ∙ s.answers) o b

@@ -1,0 +1,7 @@
+use Rattle.std.proofs.lemmas.List.Elements.{All-map}
+use Rattle.noted.specs.Heard.{HasHeard}
+use Rattle.noted.specs.declared.notes.Noted.TheVariants.{Unfired}
+use Rattle.session_command.proofs.command.silent.Goals as goal
+
+pub returns-clause-heard : goal.returns-clause-heard
+returns-clause-heard g c = rw c.unfired.ensures (All-map (HasHeard g.N.Notify.heard) Unfired c.args.notes.items c.requires)
