@@ -14,11 +14,11 @@ use Rattle.session_laws.specs.Placements.{AreApart}
 use Rattle.session_model.specs.Lists.{first_some, or_else}
 use Rattle.session_model.specs.Meaning.{Meaning}
 use Rattle.session_model.specs.Memory.{is_done, memory, unit_byte, unit_image}
-use Rattle.session_model.specs.Plain.{Plain, UnitRow, placement}
+use Rattle.session_model.specs.Plain.{Plain, UnitRow, placement, unit_shape}
 use Rattle.session_model.specs.declared.rows.Range.{Range}
 use Rattle.session_model.specs.declared.rows.UnitPhase.TheVariants as stage
 use Rattle.session_units.specs.Meaning.{addresses}
-use Rattle.closures.specs.Closures.{AreGraphs, IsGraphUnit}
+use Rattle.closures.specs.Closures.{AreObjects, IsGraphUnit, IsObject, NeedsNoMemory}
 use Rattle.closures.proofs.Units.{graph_there}
 
 -- Lists of bytes
@@ -103,6 +103,25 @@ other_holds m u v place base x y g k apart is other there here differ at lt =
     off start le (inl before) = absurd (omega (arith, le, before, lt))
     off start le (inr after) = omega (arith, after)
 
+either_none : (t : Bool) → ◌≡◌ {A = Option Shape} (if t then None else None) None
+either_none true = refl
+either_none false = refl
+
+-- a unit without memory has no range
+no_range : (address : ℕ) (x : UnitRow) → NeedsNoMemory x.meaning → unit_byte address x ≡ None
+no_range address x bare = ap (option_and_then (byte_in address x)) (by x.base)
+  where
+    shapeless : unit_shape x ≡ None
+    shapeless = ap (λ (o : Option Shape). if is_some x.meaning.source then None else o) (bare.shape x.live) ∙ either_none (is_some x.meaning.source)
+
+    by : (o : Option ℕ) → ◌≡◌ {A = Option Range} (option_and_then (λ base. option_map (λ (shape : Shape). record { base = base; need = shape.need }) (unit_shape x)) o) None
+    by None = refl
+    by (Some base) = ap (option_map (λ (shape : Shape). record { base = base; need = shape.need })) shapeless
+
+any_other_holds : (m : Plain) (u v place base : ℕ) (x y : UnitRow) (g k : LinkGraph) → AreApart m.units → IsGraphUnit x.meaning g → slice_get m.units u ≡ Some x → slice_get m.units v ≡ Some y → (u ≡ v → ⊥) → x.base ≡ Some base → place < unit_need g x.live → IsObject y.meaning k → unit_byte (base + place) y ≡ None
+any_other_holds m u v place base x y g k apart is there here differ at lt (inl other) = other_holds m u v place base x y g k apart is other there here differ at lt
+any_other_holds m u v place base x y g k apart is there here differ at lt (inr bare) = no_range (base + place) y bare.0
+
 -- The memory
 
 -- what one element alone has to choose is what is chosen
@@ -114,7 +133,7 @@ only_one f (z ∷ zs) (suc u) x y e is others =
     ∙ only_one f zs u x y e is (λ v w there differ. others (suc v) w there (λ q. differ (omega (arith, q))))
 
 -- memory has a unit's byte
-pub memory_holds : (m : Plain) (graphs : List LinkGraph) (u base place : ℕ) (x : UnitRow) (g : LinkGraph) → AreApart m.units → AreGraphs m.units graphs → IsGraphUnit x.meaning g → slice_get m.units u ≡ Some x → x.phase ≡ stage.Done → x.base ≡ Some base → place < unit_need g x.live → memory m (base + place) ≡ Some (unit_bytes x g place)
+pub memory_holds : (m : Plain) (graphs : List LinkGraph) (u base place : ℕ) (x : UnitRow) (g : LinkGraph) → AreApart m.units → AreObjects m.units graphs → IsGraphUnit x.meaning g → slice_get m.units u ≡ Some x → x.phase ≡ stage.Done → x.base ≡ Some base → place < unit_need g x.live → memory m (base + place) ≡ Some (unit_bytes x g place)
 memory_holds m graphs u base place x g apart are is there done at lt =
     only_one (unit_byte (base + place)) m.units u x (unit_bytes x g place) there (unit_holds x g base place is done at lt)
-    (λ v y here differ. let k = graph_there m.units graphs v y are here in other_holds m u v place base x y g k.0 apart is k.2 there here differ at lt)
+    (λ v y here differ. let k = graph_there m.units graphs v y are here in any_other_holds m u v place base x y g k.0 apart is there here differ at lt k.2)

@@ -24,7 +24,7 @@ use Rattle.static_links.proofs.Lists.{any_found, filtered}
 use Rattle.static_links.proofs.Mapped.{mapped_inside}
 use Rattle.static_links.specs.Laws.{HasLabels, ImageIsLinked, IsToldSo}
 use Rattle.static_links.specs.Links.{Member, Spots, Pairs, IsMapped, InBlock, InCell, InStub, IsLinkedProgram, chosen_edges, linked_byte, uses_cell, uses_stub}
-use Rattle.closures.specs.Closures.{IsGraphUnit, block_at, member_of, members_of}
+use Rattle.closures.specs.Closures.{IsBlockOf, IsGraphUnit, member_of, members_of}
 use Rattle.closures.specs.Laws.{IntactHoldsClosure}
 use Rattle.closures.proofs.Held.{memory_holds, wants_one}
 use Rattle.closures.proofs.Reached.{IsGiven, IsMember, member_parts, needed_more, needed_reached, target_unfailed}
@@ -66,32 +66,33 @@ mapped_chosen n chosen place (InStub p here on low high) = stub_chosen chosen n 
 -- The program
 
 -- memory has what the program has at a mapped place of a unit
-holds_at : ImageIsLinked → (m : Plain) (graphs : List LinkGraph) (spots : Spots) (i u place : ℕ) (x : UnitRow) (g : LinkGraph) (closure : ℕ → Option ℕ) → IsGiven m graphs spots i → (linked : IsLinkedProgram (members_of m.units graphs) spots (block_at graphs m.rows i) closure) →
+holds_at : ImageIsLinked → (m : Plain) (graphs : List LinkGraph) (spots : Spots) (i u place : ℕ) (x : UnitRow) (g : LinkGraph) (first : Option (ℕ × ℕ)) (closure : ℕ → Option ℕ) → IsGiven m graphs spots i → IsBlockOf m graphs i first → (linked : IsLinkedProgram (members_of m.units graphs) spots first closure) →
     slice_get m.units u ≡ Some x → slice_get graphs u ≡ Some g → slice_get (members_of m.units graphs) u ≡ Some (member_of x g) → IsMapped (member_of x g) (linked.chosen u) place →
     memory m (unwrap_or x.base 0 + place) ≡ Some (linked_byte (member_of x g) (linked.chosen u) (λ s. (spots u s).address) place)
-holds_at image m graphs spots i u place x g closure given linked there seen member mapped =
+holds_at image m graphs spots i u place x g first closure given starts linked there seen member mapped =
     let members : List Member = members_of m.units graphs in
-    let first : Option (ℕ × ℕ) = block_at graphs m.rows i in
     let chosen : ℕ → Bool = linked.chosen u in
     let address : ℕ → ℕ = λ s. (spots u s).address in
     let some_block = mapped_chosen (member_of x g) chosen place mapped in
-    let r = needed_reached m graphs spots i u some_block.0 given (linked.needed u some_block.0 some_block.1) in
+    let r = needed_reached m graphs spots i u some_block.0 first given starts (linked.needed u some_block.0 some_block.1) in
     let done : x.phase ≡ stage.Done = ap (λ (y : UnitRow). y.phase) (same_element (slice_get m.units u) x r.done.unit there r.done.there) ∙ r.done.done in
-    let is : IsGraphUnit x.meaning g = given.graphs_are.each u x g there seen in
+    let unit = same_element (slice_get m.units u) r.done.unit x r.done.there there in
+    let graph = same_element (slice_get graphs u) r.done.lies.graph g r.done.lies.seen seen in
+    let is : IsGraphUnit x.meaning g = subst (λ (y : UnitRow). IsGraphUnit y.meaning g) unit (subst (IsGraphUnit r.done.unit.meaning) graph r.done.is) in
     let all : HasAll x = (given.kept.bound u x there).done done in
     let base = all.base (wants_one x g is) in
     let inside : place < unit_need g x.live = mapped_inside g x.live (unwrap_or x.base 0) chosen place (lies_apart g x.live is.sound) mapped in
     let labels : HasLabels g chosen = λ e block offset c on paired label.
     linked.closed u block (needed_more members spots first (u, e.block) (u, block) (linked.needed u e.block on) (Pairs (member_of x g) e offset member c refl paired label refl)) in
     let told : IsToldSo g x.live (unwrap_or x.base 0) (addresses (unwrap_or x.bound [])) chosen address = λ e c on.
-    told_so m graphs spots u x g e given.map_is there seen done is all c (target_unfailed m graphs spots i u x g e given (needed_reached m graphs spots i u e.block given (linked.needed u e.block on)) there seen c) in
+    told_so m graphs spots u x g e given.map_is there seen done is all c (target_unfailed m graphs spots i u x g e given (needed_reached m graphs spots i u e.block first given starts (linked.needed u e.block on)) there seen c) in
     ap (λ n. memory m (n + place)) (ap (λ o. unwrap_or o 0) base.1)
     ∙ memory_holds m graphs u base.0 place x g given.kept.apart given.graphs_are is there done base.1 inside
     ∙ ap Some (image g x.live (unwrap_or x.base 0) (addresses (unwrap_or x.bound [])) chosen address is.sound labels told place mapped)
 
 -- memory has what the program has at each address that it maps
-program_held : ImageIsLinked → (m : Plain) (graphs : List LinkGraph) (spots : Spots) (i at byte : ℕ) (closure : ℕ → Option ℕ) → IsGiven m graphs spots i → IsLinkedProgram (members_of m.units graphs) spots (block_at graphs m.rows i) closure → closure at ≡ Some byte → memory m at ≡ Some byte
-program_held image m graphs spots i at byte closure given linked e =
+program_held : ImageIsLinked → (m : Plain) (graphs : List LinkGraph) (spots : Spots) (i at byte : ℕ) (first : Option (ℕ × ℕ)) (closure : ℕ → Option ℕ) → IsGiven m graphs spots i → IsBlockOf m graphs i first → IsLinkedProgram (members_of m.units graphs) spots first closure → closure at ≡ Some byte → memory m at ≡ Some byte
+program_held image m graphs spots i at byte first closure given starts linked e =
     let here = linked.only at (ap is_some e) in
     let u : ℕ = here.number in
     let p : IsMember m.units graphs u here.member = member_parts m.units graphs u here.member here.there in
@@ -100,12 +101,12 @@ program_held image m graphs spots i at byte closure given linked e =
     let mapped : IsMapped n (linked.chosen u) here.place = subst (λ (z : Member). IsMapped z (linked.chosen u) here.place) p.is here.mapped in
     let place : at ≡ n.base + here.place = here.is ∙ ap (λ (z : Member). z.base + here.place) p.is in
     ap (memory m) place
-    ∙ holds_at image m graphs spots i u here.place p.unit p.graph closure given linked p.there p.seen member mapped
+    ∙ holds_at image m graphs spots i u here.place p.unit p.graph first closure given starts linked p.there p.seen member mapped
     ∙ sym (linked.has u here.place n member mapped)
     ∙ ap closure (sym place)
     ∙ e
 
 -- in every legal history, where images are linked
 pub intact_holds : ImageIsLinked → IntactHoldsClosure
-intact_holds image jmax h legal graphs are spots map_is i intact closure linked at byte e =
-    program_held image (state h) graphs spots i at byte closure (record { kept = kept_by jmax h legal; graphs_are = are; map_is = map_is; intact = intact }) linked e
+intact_holds image jmax h legal graphs are spots map_is i intact first starts closure linked at byte e =
+    program_held image (state h) graphs spots i at byte first closure (record { kept = kept_by jmax h legal; graphs_are = are; map_is = map_is; intact = intact }) starts linked e

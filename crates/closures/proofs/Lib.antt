@@ -1,3 +1,4 @@
+pub mod Aliases
 pub mod Blocks
 pub mod Held
 pub mod Holding

@@ -27,8 +27,9 @@ use Rattle.session_model.specs.declared.rows.InstRow.{InstRow}
 use Rattle.session_model.specs.declared.rows.Phase.{Phase}
 use Rattle.session_model.specs.declared.rows.Phase.TheVariants as phase
 use Rattle.static_links.specs.Links.{Member, Spots, Spot, Leads, Refers, Pairs, Way, Here, On, IsNeeded}
-use Rattle.closures.specs.Closures.{AreGraphs, IsGraphUnit, IsMapOf, block_at, bound_spot, member_of, members_of}
+use Rattle.closures.specs.Closures.{AreObjects, IsBlockOf, IsBoundAt, IsGraphUnit, IsMapOf, block_at, member_of, members_of}
 use Rattle.closures.proofs.Blocks.{own_leads, pair_leads, symbol_needed, walk_on}
+use Rattle.closures.proofs.Aliases.{end_reached}
 use Rattle.closures.proofs.Lists.{pair_parts, some_below}
 use Rattle.closures.proofs.Symbols.{external_there, target_referred}
 use Rattle.closures.proofs.Units.{IsDone, IsKept, depends_on, done_at}
@@ -58,7 +59,7 @@ pub record IsReached (m : Plain) (graphs : List LinkGraph) (i u b : ℕ) : Type 
 -- an intact instance, in a session whose units are those of the graphs, and a map of their symbols
 pub record IsGiven (m : Plain) (graphs : List LinkGraph) (spots : Spots) (i : ℕ) : Type 0 where
   pub kept : IsKept m
-  pub graphs_are : AreGraphs m.units graphs
+  pub graphs_are : AreObjects m.units graphs
   pub map_is : IsMapOf m graphs spots
   pub intact : IsIntact m.rows i
 
@@ -67,6 +68,12 @@ pub entered : (m : Plain) (graphs : List LinkGraph) (spots : Spots) (i j u b : �
 entered m graphs spots i j u b given reaches at =
     let done = done_at m graphs j u b given.kept given.graphs_are (given.intact.ready.each j reaches) (given.intact.present j reaches) at in
     record { number = j; reaches = reaches; first = b; done = done; walk = paths.reaches_self (next_blocks done.lies.graph done.unit.live) b }
+
+-- the block of the end of a reached instance
+entered_end : (m : Plain) (graphs : List LinkGraph) (spots : Spots) (i j u b : ℕ) (block : Option (ℕ × ℕ)) → IsGiven m graphs spots i → Reaches m.rows i j → IsBlockOf m graphs j block → block ≡ Some (u, b) → IsReached m graphs i u b
+entered_end m graphs spots i j u b block given reaches is e =
+    let end = (is (u, b)).0 e in
+    entered m graphs spots i end.0 u b given (end_reached m graphs i j end.0 given.kept given.graphs_are given.intact reaches end.1) end.2
 
 -- further on within the unit
 stepped : (m : Plain) (graphs : List LinkGraph) (i u a b : ℕ) (r : IsReached m graphs i u a) → walks.Reaches (next_blocks r.done.lies.graph r.done.unit.live) r.first b → IsReached m graphs i u b
@@ -104,9 +111,9 @@ bound_reached m graphs spots i u a k s p given r external at needed =
 
 -- the block of what an external is bound to is reached
 followed : (m : Plain) (graphs : List LinkGraph) (spots : Spots) (i u a k s v b : ℕ) (item : Option (InstId × ℕ)) → IsGiven m graphs spots i → (r : IsReached m graphs i u a) → slice_get (external_symbols r.done.lies.graph r.done.unit.live) k ≡ Some s → slice_get (unwrap_or r.done.unit.bound []) k ≡ Some item → needs r.done.lies.graph r.done.unit.live s r.first ≡ true →
-    (bound_spot graphs m.rows item).block ≡ Some (v, b) → IsReached m graphs i v b
-followed m graphs spots i u a k s v b None given r external at needed e = absurd (none-some (v, b) e)
-followed m graphs spots i u a k s v b (Some p) given r external at needed e = entered m graphs spots i p.0.0 v b given (bound_reached m graphs spots i u a k s p given r external at needed) e
+    (spot : Spot) → IsBoundAt m graphs item spot → spot.block ≡ Some (v, b) → IsReached m graphs i v b
+followed m graphs spots i u a k s v b None given r external at needed spot is e = absurd (none-some (v, b) (ap (λ (z : Spot). z.block) (sym is) ∙ e))
+followed m graphs spots i u a k s v b (Some p) given r external at needed spot is e = entered_end m graphs spots i p.0.0 v b spot.block given (bound_reached m graphs spots i u a k s p given r external at needed) is.1 e
 
 -- an emitted instance hasn't failed
 emitted_unfailed : (rows : List InstRow) (i : ℕ) → emitted_at rows i ≡ true → failed_at rows i ≡ false
@@ -160,7 +167,7 @@ refers_other m graphs spots i u a v b e given r c at other leads =
     let external = bound_external x g e r.done.is ((given.kept.bound u x r.done.there).done r.done.done) c other in
     let needed = symbol_needed g x.live e r.first a r.done.is.sound r.walk c at in
     let spot = given.map_is.bound u e.target external.number x g external.item r.done.there r.done.lies.seen r.done.done external.there external.is (unfailed m graphs spots i u a external.number e.target external.item given r external.there external.is needed) in
-    followed m graphs spots i u a external.number e.target v b external.item given r external.there external.is needed (ap (λ (z : Spot). z.block) (sym spot) ∙ leads)
+    followed m graphs spots i u a external.number e.target v b external.item given r external.there external.is needed (spots u e.target) spot leads
 
 refers_on : (m : Plain) (graphs : List LinkGraph) (spots : Spots) (i u a v b : ℕ) (e : Edge) (t : Bool) → IsGiven m graphs spots i → (r : IsReached m graphs i u a) → Contains r.done.lies.graph.edges e → e.block ≡ a → is_own r.done.lies.graph r.done.unit.live e.target ≡ t → (spots u e.target).block ≡ Some (v, b) → IsReached m graphs i v b
 refers_on m graphs spots i u a v b e true given r c at own leads = refers_own m graphs spots i u a v b e given r c at own leads
@@ -194,13 +201,10 @@ way_on m graphs spots i from to given (On first next last leads way) r = way_on 
 
 -- Needed blocks
 
-needed_from : (m : Plain) (graphs : List LinkGraph) (spots : Spots) (i u b : ℕ) (first : Option (ℕ × ℕ)) → IsGiven m graphs spots i → block_at graphs m.rows i ≡ first → IsNeeded (members_of m.units graphs) spots first (u, b) → IsReached m graphs i u b
-needed_from m graphs spots i u b None given at needed = absurd needed
-needed_from m graphs spots i u b (Some block) given at way = way_on m graphs spots i block (u, b) given way (entered m graphs spots i i block.0 block.1 given (reaches_self m.rows i) at)
-
 -- each block that the program of an intact instance needs is reached
-pub needed_reached : (m : Plain) (graphs : List LinkGraph) (spots : Spots) (i u b : ℕ) → IsGiven m graphs spots i → IsNeeded (members_of m.units graphs) spots (block_at graphs m.rows i) (u, b) → IsReached m graphs i u b
-needed_reached m graphs spots i u b given needed = needed_from m graphs spots i u b (block_at graphs m.rows i) given refl needed
+pub needed_reached : (m : Plain) (graphs : List LinkGraph) (spots : Spots) (i u b : ℕ) (first : Option (ℕ × ℕ)) → IsGiven m graphs spots i → IsBlockOf m graphs i first → IsNeeded (members_of m.units graphs) spots first (u, b) → IsReached m graphs i u b
+needed_reached m graphs spots i u b None given at needed = absurd needed
+needed_reached m graphs spots i u b (Some block) given at way = way_on m graphs spots i block (u, b) given way (entered_end m graphs spots i i block.0 block.1 (Some block) given (reaches_self m.rows i) at refl)
 
 -- a way, and a step more
 way_more : (members : List Member) (spots : Spots) (from by to : ℕ × ℕ) → Way members spots from by → Leads members spots by to → Way members spots from to

@@ -16,7 +16,7 @@ use Rattle.session_model.specs.declared.rows.InstRow.{InstRow}
 use Rattle.session_model.specs.declared.rows.UnitPhase.TheVariants as stage
 use Rattle.session_units.specs.Meaning.{addresses}
 use Rattle.static_links.specs.Links.{Spot, Spots}
-use Rattle.closures.specs.Closures.{IsGraphUnit, IsMapOf, bound_spot}
+use Rattle.closures.specs.Closures.{IsBoundAt, IsGraphUnit, IsMapOf}
 use Rattle.closures.proofs.Reached.{IsUnfailed, bindings_whole, bound_external}
 use Rattle.closures.proofs.Symbols.{external_other}
 
@@ -66,9 +66,9 @@ first_of_list (x ∷ xs) [] s k whole e = absurd (omega (arith, whole))
 first_of_list (x ∷ xs) (b ∷ bs) s zero whole e = first_one x s xs b bs (x == s) refl (λ off. absurd (both_ways (x == s) off (eq-eqb x s (same_Some x s e))))
 first_of_list (x ∷ xs) (b ∷ bs) s (suc k) whole e = first_one x s xs b bs (x == s) refl (λ off. first_of_list xs bs s k (omega (arith, whole)) e)
 
-spot_address : (graphs : List LinkGraph) (rows : List InstRow) (item : Option (InstId × ℕ)) → (bound_spot graphs rows item).address ≡ unwrap_or (address_of item) 0
-spot_address graphs rows None = refl
-spot_address graphs rows (Some p) = refl
+spot_address : (m : Plain) (graphs : List LinkGraph) (item : Option (InstId × ℕ)) (spot : Spot) → IsBoundAt m graphs item spot → spot.address ≡ unwrap_or (address_of item) 0
+spot_address m graphs None spot is = ap (λ (z : Spot). z.address) is
+spot_address m graphs (Some p) spot is = is.0
 
 abbrev told : UnitRow → LinkGraph → ℕ → ℕ
 told x g = told_address g (layout_of g x.live) (unwrap_or x.base 0) (addresses (unwrap_or x.bound []))
@@ -84,8 +84,7 @@ told_other m graphs spots u x g e map_is there seen done is all c other unfailed
     let external = bound_external x g e is all c other in
     let first = first_of_list (external_symbols g x.live) (unwrap_or x.bound []) e.target external.number (bindings_whole x g is all) external.there in
     ap (λ (o : Option ℕ). unwrap_or o (own_address (layout_of g x.live) (unwrap_or x.base 0) (place_of g e.target))) first.address
-    ∙ sym (spot_address graphs m.rows first.item)
-    ∙ ap (λ (z : Spot). z.address) (sym (map_is.bound u e.target first.number x g first.item there seen done first.there first.is (unfailed first.number first.item first.there first.is)))
+    ∙ sym (spot_address m graphs first.item (spots u e.target) (map_is.bound u e.target first.number x g first.item there seen done first.there first.is (unfailed first.number first.item first.there first.is)))
 
 -- the address that a unit was told of the symbol of an edge is the map's, unless what it is bound to failed
 pub told_so : (m : Plain) (graphs : List LinkGraph) (spots : Spots) (u : ℕ) (x : UnitRow) (g : LinkGraph) (e : Edge) → IsMapOf m graphs spots → slice_get m.units u ≡ Some x → slice_get graphs u ≡ Some g → x.phase ≡ stage.Done → IsGraphUnit x.meaning g → HasAll x → Contains g.edges e → IsUnfailed m.rows x g e.target → told x g e.target ≡ (spots u e.target).address

@@ -1,5 +1,5 @@
 -- The units of an intact instance's blocks: they are done, and depend on what their blocks need.
-use Rattle.std.proofs.Common.{◌≡◌, ℕ, true, false, ◌==◌, List, [], length, map, slice_get, Contains, subst, sym, refl, ap, ◌∙◌, arith, Option, Some, None, option_map, unwrap_or}
+use Rattle.std.proofs.Common.{◌≡◌, ℕ, true, false, ◌==◌, List, [], length, map, slice_get, Contains, subst, inl, inr, sym, refl, ap, ◌∙◌, arith, Option, Some, None, option_map, unwrap_or}
 use Rattle.std.specs.Prelude.{option_and_then}
 use Rattle.std.specs.Option.{option_map_or}
 use Rattle.std.proofs.lemmas.Bool.{both_ways, and_from, eq-eqb}
@@ -22,7 +22,7 @@ use Rattle.session_model.specs.declared.rows.Phase.{Phase}
 use Rattle.session_model.specs.declared.rows.Phase.TheVariants as phase
 use Rattle.session_model.specs.declared.rows.UnitPhase.TheVariants as stage
 use Rattle.session_units.specs.Meaning.{instances}
-use Rattle.closures.specs.Closures.{AreGraphs, IsGraphUnit, block_at, offer_place}
+use Rattle.closures.specs.Closures.{AreObjects, IsGraphUnit, IsObject, block_at, offer_place}
 use Rattle.closures.proofs.Lists.{map_here, some_below}
 use Rattle.closures.proofs.Members.{block_deps, bound_needed, instance_deps, owned_here, place_at, places_offered}
 
@@ -34,7 +34,7 @@ pub record IsKept (m : Plain) : Type 0 where
   pub apart : AreApart m.units
 
 -- each unit has its graph
-pub graph_there : (units : List UnitRow) (graphs : List LinkGraph) (u : ℕ) (x : UnitRow) → AreGraphs units graphs → slice_get units u ≡ Some x → (g : LinkGraph) × (slice_get graphs u ≡ Some g) × IsGraphUnit x.meaning g
+pub graph_there : (units : List UnitRow) (graphs : List LinkGraph) (u : ℕ) (x : UnitRow) → AreObjects units graphs → slice_get units u ≡ Some x → (g : LinkGraph) × (slice_get graphs u ≡ Some g) × IsObject x.meaning g
 graph_there units graphs u x are e =
     let p = some_below graphs u (omega (arith, are.whole, element_below units u x e)) in
     (p.0, p.1, are.each u x p.0 e p.1)
@@ -72,12 +72,17 @@ lies_in graphs rows i u b e =
 
 -- Instances that are emitted and present
 
-emitted_parts : (p : Phase) → is_emitted p ≡ true → (address : ℕ) × (deps : List InstId) × (p ≡ phase.Emitted address deps)
+pub emitted_parts : (p : Phase) → is_emitted p ≡ true → (address : ℕ) × (deps : List InstId) × (p ≡ phase.Emitted address deps)
 emitted_parts (phase.Emitted address deps) e = (address, deps, refl)
 emitted_parts phase.Unsearched e = absurd (both_ways false refl e)
 emitted_parts phase.Claimed e = absurd (both_ways false refl e)
 emitted_parts (phase.Resolved address) e = absurd (both_ways false refl e)
 emitted_parts phase.Failed e = absurd (both_ways false refl e)
+
+-- a unit of whose object a symbol lies in a block is that of the object
+block_of_graph : (unit : Meaning) (g : LinkGraph) (k b : ℕ) → block_of (offer_place g k) ≡ Some b → IsObject unit g → IsGraphUnit unit g
+block_of_graph unit g k b e (inl is) = is
+block_of_graph unit g k b e (inr bare) = absurd (none-some b (ap (λ (f : LinkGraph). block_of (offer_place f k)) (sym bare.1) ∙ e))
 
 -- the unit of an instance is done, and has its group's dependencies for the instance
 pub record IsDone (m : Plain) (graphs : List LinkGraph) (i u b : ℕ) : Type 0 where
@@ -89,7 +94,7 @@ pub record IsDone (m : Plain) (graphs : List LinkGraph) (i u b : ℕ) : Type 0 w
   pub owned : is_owned u lies.row ≡ true
   pub deps : deps_at m.rows i ≡ map (λ (j : InstId). j.0) (deps_in (unit_groups m.rows u unit) i)
 
-emitted_in : (m : Plain) (graphs : List LinkGraph) (i u b address : ℕ) (deps : List InstId) → IsKept m → AreGraphs m.units graphs → (lies : LiesIn graphs m.rows i u b) → lies.row.present ≡ true → lies.row.phase ≡ phase.Emitted address deps → IsDone m graphs i u b
+emitted_in : (m : Plain) (graphs : List LinkGraph) (i u b address : ℕ) (deps : List InstId) → IsKept m → AreObjects m.units graphs → (lies : LiesIn graphs m.rows i u b) → lies.row.present ≡ true → lies.row.phase ≡ phase.Emitted address deps → IsDone m graphs i u b
 emitted_in m graphs i u b address deps kept are lies present emitted =
     let depends : DependsSo m.rows m.units u i deps = subst (λ (n : ℕ). DependsSo m.rows m.units n i deps) lies.unit (kept.depends i lies.row address deps lies.here present emitted) in
     let recorded : deps_at m.rows i ≡ map (λ (j : InstId). j.0) deps = ap (λ o. option_map_or (λ (x : InstRow). phase_deps x.phase) o []) lies.here ∙ ap phase_deps emitted in
@@ -98,12 +103,12 @@ emitted_in m graphs i u b address deps kept are lies present emitted =
       unit = depends.unit;
       there = depends.there;
       done = depends.done;
-      is = are.each u depends.unit lies.graph depends.there lies.seen;
+      is = block_of_graph depends.unit.meaning lies.graph lies.row.offer b lies.place (are.each u depends.unit lies.graph depends.there lies.seen);
       owned = and_from lies.row.present (lies.row.unit.0 == u) present (eq-eqb lies.row.unit.0 u lies.unit);
       deps = recorded ∙ ap (map (λ (j : InstId). j.0)) depends.same;
     }
 
-pub done_at : (m : Plain) (graphs : List LinkGraph) (i u b : ℕ) → IsKept m → AreGraphs m.units graphs → emitted_at m.rows i ≡ true → present_at m.rows i ≡ true → block_at graphs m.rows i ≡ Some (u, b) → IsDone m graphs i u b
+pub done_at : (m : Plain) (graphs : List LinkGraph) (i u b : ℕ) → IsKept m → AreObjects m.units graphs → emitted_at m.rows i ≡ true → present_at m.rows i ≡ true → block_at graphs m.rows i ≡ Some (u, b) → IsDone m graphs i u b
 done_at m graphs i u b kept are emitted present at =
     let lies = lies_in graphs m.rows i u b at in
     let p = emitted_parts lies.row.phase (ap (λ o. option_map_or (λ (x : InstRow). is_emitted x.phase) o false) (sym lies.here) ∙ emitted) in

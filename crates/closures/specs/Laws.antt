@@ -8,12 +8,12 @@ use Rattle.session_model.specs.Owed.{IsIntact}
 use Rattle.session_model.specs.State.{state}
 use Rattle.session_model.specs.declared.entry.Entry.{Entry}
 use Rattle.static_links.specs.Links.{Spots, IsLinkedProgram}
-use Rattle.closures.specs.Closures.{AreGraphs, IsMapOf, block_at, members_of}
+use Rattle.closures.specs.Closures.{AreObjects, IsBlockOf, IsMapOf, members_of}
 
 -- in every legal history: the memory has, at every address that the closure maps, what the closure has there
 abbrev pub IntactHoldsClosure : Type 0
 IntactHoldsClosure = (jmax : ℕ) (h : List (Entry Meaning)) → IsLegal jmax h →
-    (graphs : List LinkGraph) → AreGraphs (state h).units graphs → (spots : Spots) → IsMapOf (state h) graphs spots →
-    (i : ℕ) → IsIntact (state h).rows i →
-    (closure : ℕ → Option ℕ) → IsLinkedProgram (members_of (state h).units graphs) spots (block_at graphs (state h).rows i) closure →
+    (graphs : List LinkGraph) → AreObjects (state h).units graphs → (spots : Spots) → IsMapOf (state h) graphs spots →
+    (i : ℕ) → IsIntact (state h).rows i → (first : Option (ℕ × ℕ)) → IsBlockOf (state h) graphs i first →
+    (closure : ℕ → Option ℕ) → IsLinkedProgram (members_of (state h).units graphs) spots first closure →
     (at byte : ℕ) → closure at ≡ Some byte → memory (state h) at ≡ Some byte

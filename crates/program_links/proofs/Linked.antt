@@ -43,7 +43,7 @@ use Rattle.closure_laws.proofs.Linking.{done_is_bound}
 use Rattle.closure_laws.specs.Bindings.{IsAt}
 use Rattle.closure_laws.specs.Dependencies.{unit_groups}
 use Rattle.static_links.specs.Links.{IsLinkedProgram, Member, Spot, Spots}
-use Rattle.closures.specs.Closures.{IsMapOf, block_at, bound_spot, member_of, members_of, nowhere, own_spot}
+use Rattle.closures.specs.Closures.{IsBlockOf, IsBoundAt, IsMapOf, block_at, member_of, members_of, nowhere, own_spot}
 use Rattle.closures.specs.Laws.{IntactHoldsClosure}
 use Rattle.program_names.specs.Laws.{HasRow, IsObjectUnit, IsOfObjects, IsOfSymbol, NamesAreDefined}
 use Rattle.program_names.specs.Names.{definition}
@@ -51,7 +51,7 @@ use Rattle.program_names.specs.Programs.{IsProgram}
 use Rattle.program_links.specs.Laws.{IsLinkedByNames, MemoryHoldsProgram, ProgramIsLinkedByNames}
 use Rattle.program_links.specs.Programs.{HasAddresses, bases_of, name_spot, program_members, spot_in, spots_by_name}
 use Rattle.program_links.proofs.Binding.{IsDefinition, WasMatched, bound_defined, instance_bound, unbound_undefined, was_matched}
-use Rattle.program_links.proofs.Members.{graphs_are, member_there, members_are}
+use Rattle.program_links.proofs.Members.{graphs_are, member_there, members_are, own_ends}
 use Rattle.program_links.proofs.Owners.{definition_spot, external_by_name, own_by_name}
 use Rattle.program_links.proofs.Standing.{stands}
 
@@ -63,6 +63,10 @@ record IsRun (jmax : ℕ) (h : List (Entry Meaning)) (graphs : List LinkGraph) :
   addresses : All HasAddresses graphs
 
 -- The map
+
+-- a spot with an instance's address, in its block, is where that is bound
+bound_there : (m : Plain) (graphs : List LinkGraph) (i address : ℕ) (spot : Spot) → IsBlockOf m graphs i (block_at graphs m.rows i) → spot ≡ record { address = address; block = block_at graphs m.rows i } → (spot.address ≡ address) × IsBlockOf m graphs i spot.block
+bound_there m graphs i address spot own is = (ap (λ (z : Spot). z.address) is, subst (λ (z : Spot). IsBlockOf m graphs i z.block) (sym is) own)
 
 -- where the definition of a name is that has an instance with its address
 defined_stands : (jmax : ℕ) (h : List (Entry Meaning)) (graphs : List LinkGraph) → IsRun jmax h graphs → (name k s i address : ℕ) (r : InstRow) → definition graphs name ≡ Some (k, s) →
@@ -91,26 +95,27 @@ map_of names jmax h graphs run = record { own = own; bound = bound }
 
     -- by what the external is bound to
     spot : (u k : ℕ) (x : UnitRow) (bs : Bindings) (b : Option (InstId × ℕ)) → slice_get m.units u ≡ Some x → x.bound ≡ Some bs → slice_get bs k ≡ Some b →
-        (a : WasMatched graphs h run.program x k b) → IfSome b (λ p. failed_at m.rows p.0.0 ≡ false) → name_spot graphs members a.wanted.name.0 ≡ bound_spot graphs m.rows b
+        (a : WasMatched graphs h run.program x k b) → IfSome b (λ p. failed_at m.rows p.0.0 ≡ false) → IsBoundAt m graphs b (name_spot graphs members a.wanted.name.0)
     spot u k x bs None t e f a unfailed = ap (λ o. option_map_or (spot_in members) o nowhere) (unbound_undefined names jmax h run.legal graphs run.program x k a)
     spot u k x bs (Some (i, address)) t e f a unfailed = at (bound_addresses_are_kept jmax h run.legal u x bs t e k i address f)
       where
         d : IsDefinition graphs m.rows a.wanted.name.0 i.0
         d = bound_defined names jmax h run.legal graphs run.program x k address i a
 
-        at : IsAt m.rows i.0 address → name_spot graphs members a.wanted.name.0 ≡ bound_spot graphs m.rows (Some (i, address))
-        at (inl has) = defined_stands jmax h graphs run a.wanted.name.0 d.object d.symbol i.0 address d.row d.defined d.there d.present d.of has
+        at : IsAt m.rows i.0 address → IsBoundAt m graphs (Some (i, address)) (name_spot graphs members a.wanted.name.0)
+        at (inl has) = bound_there m graphs i.0 address (name_spot graphs members a.wanted.name.0) (own_ends graphs m run.objects run.program.are.sound i.0)
+            (defined_stands jmax h graphs run a.wanted.name.0 d.object d.symbol i.0 address d.row d.defined d.there d.present d.of has)
         at (inr failed) = absurd (both_ways (failed_at m.rows i.0) unfailed failed)
 
     bound : (u s k : ℕ) (x : UnitRow) (g : LinkGraph) (b : Option (InstId × ℕ)) → slice_get m.units u ≡ Some x → slice_get graphs u ≡ Some g → x.phase ≡ stage.Done →
-        slice_get (external_symbols g x.live) k ≡ Some s → slice_get (unwrap_or x.bound []) k ≡ Some b → IfSome b (λ p. failed_at m.rows p.0.0 ≡ false) → spots_by_name graphs members u s ≡ bound_spot graphs m.rows b
+        slice_get (external_symbols g x.live) k ≡ Some s → slice_get (unwrap_or x.bound []) k ≡ Some b → IfSome b (λ p. failed_at m.rows p.0.0 ≡ false) → IsBoundAt m graphs b (spots_by_name graphs members u s)
     bound u s k x g b t e done external there unfailed =
         let has = ((done_is_bound jmax h run.legal u x t).done done).bound in
         let its : slice_get has.0 k ≡ Some b = ap (λ o. slice_get (unwrap_or o []) k) (sym has.1) ∙ there in
         let unit = run.objects.units u x g t e in
         let a = was_matched names jmax h run.legal graphs run.program u k x g has.0 b t e has.1 its in
-        external_by_name graphs members u k s (member_of x g) (member_there m.units graphs u x g t e) (ap (λ ls. slice_get (external_symbols g ls) k) (sym unit.keeps) ∙ external)
-        ∙ (ap (λ n. name_spot graphs members n.0) (sym (wanted_name graphs m u s k x g a.wanted unit external a.looked)) ∙ spot u k x has.0 b t has.1 its a unfailed)
+        subst (IsBoundAt m graphs b) (sym (external_by_name graphs members u k s (member_of x g) (member_there m.units graphs u x g t e) (ap (λ ls. slice_get (external_symbols g ls) k) (sym unit.keeps) ∙ external)
+        ∙ ap (λ n. name_spot graphs members n.0) (sym (wanted_name graphs m u s k x g a.wanted unit external a.looked)))) (spot u k x has.0 b t has.1 its a unfailed)
 
 -- What is reached
 
@@ -211,6 +216,7 @@ linked_by_names names jmax h l graphs p sized = record {
   graphs_are = graphs_are graphs m objects p.are.sound;
   members = members;
   map = subst (λ ms. IsMapOf m graphs (spots_by_name graphs ms)) members (map_of names jmax h graphs run);
+  own = own_ends graphs m objects p.are.sound;
   intact = λ name row e ready. ready_intact names jmax h graphs run row.inst.0 (row_here m.rows 0 name row e) ready;
   stands = λ name address row e f. ap (λ ms. name_spot graphs ms name) (sym members) ∙ row_stands jmax h graphs run name address row e f;
 }
@@ -229,7 +235,7 @@ linked_by_names names jmax h l graphs p sized = record {
 
 pub holds_program : ProgramIsLinkedByNames → IntactHoldsClosure → MemoryHoldsProgram
 holds_program linked closures jmax h l graphs p sized name row e ready program is at byte f =
-    closures jmax h l graphs by.graphs_are spots by.map row.inst.0 (by.intact name row e ready) program closure at byte f
+    closures jmax h l graphs by.graphs_are spots by.map row.inst.0 (by.intact name row e ready) (block_at graphs m.rows row.inst.0) (by.own row.inst.0) program closure at byte f
   where
     m : Plain
     m = state h

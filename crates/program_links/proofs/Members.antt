@@ -1,5 +1,5 @@
 -- The units of a session of a program's objects are the members of the program.
-use Rattle.std.proofs.Common.{◌≡◌, ℕ, zero, suc, ◌+◌, List, [], ◌∷◌, length, slice_get, arith, subst, sym, refl, ap, ap₂, ◌∙◌, Some, unwrap_or}
+use Rattle.std.proofs.Common.{◌≡◌, ℕ, zero, suc, ◌+◌, List, [], ◌∷◌, length, slice_get, arith, inl, subst, sym, refl, ap, ap₂, ◌∙◌, Some, unwrap_or}
 use Rattle.std.specs.List.{All}
 use Rattle.std.proofs.lemmas.List.Elements.{All-head, All-tail}
 use Rattle.std.proofs.lemmas.Option.{none-some, same_Some}
@@ -9,7 +9,8 @@ use Rattle.link_model.specs.declared.graph.LinkGraph.{LinkGraph}
 use Rattle.session_laws.proofs.Elements.{mapped_some}
 use Rattle.session_model.specs.Plain.{Plain, UnitRow}
 use Rattle.static_links.specs.Laws.{laid_out}
-use Rattle.closures.specs.Closures.{AreGraphs, member_of, members_of}
+use Rattle.closures.specs.Closures.{AreObjects, IsGraphUnit, IsBlockOf, block_at, member_of, members_of}
+use Rattle.closures.proofs.Aliases.{own_block}
 use Rattle.program_names.specs.Laws.{IsOfObjects}
 use Rattle.program_names.specs.Names.{kept_names}
 use Rattle.program_links.specs.Programs.{bases_of, members_from, program_members}
@@ -49,8 +50,12 @@ members_are graphs m o = units_are graphs (bases_of m.units) 0 m.units graphs o.
     each k j x g e t s = let is : j ≡ k = omega (arith, e) in at k x g (ap (slice_get m.units) (sym is) ∙ t) (ap (slice_get graphs) (sym is) ∙ s)
 
 -- the units are those of sound graphs
-pub graphs_are : (graphs : List LinkGraph) (m : Plain) → IsOfObjects graphs m → All (λ g. Sound g) graphs → AreGraphs m.units graphs
-graphs_are graphs m o sound = record {
-  whole = sym o.whole;
-  each = λ u x g t s. let p = o.units u x g t s in record { name = p.name; is = p.is; sound = one_of_all (λ (f : LinkGraph). Sound f) graphs u g sound s };
-}
+all_graphs : (graphs : List LinkGraph) (m : Plain) → IsOfObjects graphs m → All (λ g. Sound g) graphs → (u : ℕ) (x : UnitRow) (g : LinkGraph) → slice_get m.units u ≡ Some x → slice_get graphs u ≡ Some g → IsGraphUnit x.meaning g
+all_graphs graphs m o sound u x g t s = let p = o.units u x g t s in record { name = p.name; is = p.is; sound = one_of_all (λ (f : LinkGraph). Sound f) graphs u g sound s }
+
+pub graphs_are : (graphs : List LinkGraph) (m : Plain) → IsOfObjects graphs m → All (λ g. Sound g) graphs → AreObjects m.units graphs
+graphs_are graphs m o sound = record { whole = sym o.whole; each = λ u x g t s. inl (all_graphs graphs m o sound u x g t s) }
+
+-- and each instance is its own end
+pub own_ends : (graphs : List LinkGraph) (m : Plain) → IsOfObjects graphs m → All (λ g. Sound g) graphs → (i : ℕ) → IsBlockOf m graphs i (block_at graphs m.rows i)
+own_ends graphs m o sound i = own_block m graphs i (sym o.whole) (all_graphs graphs m o sound)

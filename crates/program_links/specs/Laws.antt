@@ -12,16 +12,17 @@ use Rattle.session_model.specs.State.{state}
 use Rattle.session_model.specs.declared.entry.Entry.{Entry}
 use Rattle.session_model.specs.declared.rows.Row.{Row}
 use Rattle.static_links.specs.Links.{IsLinkedProgram}
-use Rattle.closures.specs.Closures.{AreGraphs, IsMapOf, block_at, members_of}
+use Rattle.closures.specs.Closures.{AreObjects, IsBlockOf, IsMapOf, block_at, members_of}
 use Rattle.program_names.specs.Programs.{IsProgram}
 use Rattle.program_links.specs.Programs.{HasAddresses, bases_of, name_spot, program_members, spots_by_name}
 
--- The units are the objects, each symbol is bound to its name's definition, and all that a ready instance of a name
--- reaches is there.
+-- The units are the objects, so each instance is its own end; each symbol is bound to its name's definition, and all that a
+-- ready instance of a name reaches is there.
 pub record IsLinkedByNames (graphs : List LinkGraph) (m : Plain) : Type 0 where
-  pub graphs_are : AreGraphs m.units graphs
+  pub graphs_are : AreObjects m.units graphs
   pub members : members_of m.units graphs ≡ program_members graphs (bases_of m.units)
   pub map : IsMapOf m graphs (spots_by_name graphs (program_members graphs (bases_of m.units)))
+  pub own : (i : ℕ) → IsBlockOf m graphs i (block_at graphs m.rows i)
   pub intact : (name : ℕ) (row : Row) → row_of m.rows 0 name ≡ Some row → IsReady m.rows row.inst.0 → IsIntact m.rows row.inst.0
   pub stands : (name address : ℕ) (row : Row) → row_of m.rows 0 name ≡ Some row → address_at m.rows row.inst.0 ≡ Some address →
       name_spot graphs (program_members graphs (bases_of m.units)) name ≡ record { address = address; block = block_at graphs m.rows row.inst.0 }
