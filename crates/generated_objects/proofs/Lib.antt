@@ -1,0 +1,4 @@
+pub mod NamesApart
+pub mod Nexts
+pub mod Canonicals
+pub mod Graphs

@@ -1,0 +1,4 @@
+pub mod Rings
+pub mod Objects
+pub mod Graphs
+pub mod Laws

@@ -1,0 +1,4 @@
+pub mod Scripts
+pub mod Counts
+pub mod Runs
+pub mod Laws
