@@ -125,3 +125,19 @@ fn a_failure_leaves_what_is_ready(rt: HostRuntime) -> Result<(), Fail> {
     assert!(rt; frontier.is_ready(InstId(0)));
     Ok(())
 }
+
+#[test]
+fn a_circle_fails_with_its_third(rt: HostRuntime) -> Result<(), Fail> {
+    let alloc = rt.alloc();
+    let mut frontier = Frontier::new(alloc);
+    frontier.room(3)?;
+    emit_one(alloc, &mut frontier, InstId(0), &[InstId(1), InstId(2)])?;
+    emit_one(alloc, &mut frontier, InstId(1), &[InstId(0)])?;
+    fail_one(&mut frontier, InstId(2));
+    assert!(rt; are_hit(&frontier, &[0, 1, 2]));
+    assert!(rt; !frontier.is_ready(InstId(0)));
+    assert!(rt; !frontier.is_ready(InstId(1)));
+    emit_one(alloc, &mut frontier, InstId(2), &[])?;
+    assert!(rt; are_told(&frontier, &[2]));
+    Ok(())
+}

@@ -177,8 +177,12 @@ fn a_line_may_have_more_symbols_than_an_object(rt: HostRuntime) -> Result<(), Fa
     let alloc = rt.alloc();
     let text = absolute_script(alloc, 65_537)?;
     let script = read_script(alloc, text.as_bytes(), 3, NameHasher::Fixed)?;
+    assert_eq!(rt; script.files.len(), 0);
     let Planned { plan, unused: _ } = plan_of(alloc, &script, &[], three_notes(alloc)?)?;
     let text = set_up_text(alloc, plan.set_up.as_slice())?;
-    assert_eq!(rt; text.as_str(), "dylib n0\ntracker d0\ndefine d0 t0 Absolute(0)\n");
+    assert_eq!(rt;
+        text.as_str(),
+        "dylib n0\ntracker d0\ndefine d0 t0 Absolute(0)\n"
+    );
     Ok(())
 }

@@ -1,12 +1,13 @@
-//! One more than a session has: dylibs, trackers, units, and bytes of memory.
+//! One more than a session has: dylibs, trackers, generators, units, and bytes of memory.
 
 use super::parts::{Part, adds, begins, is_placed};
 use super::units::Named;
 use super::{SETUP, end, lookup_waits, reads};
 use execution_session::Session;
-use orc_ids::{DylibId, NameId, TrackId};
+use orc_ids::{DylibId, GenId, NameId, TrackId};
 use orc_io::Note;
 use session_model::Reply;
+use std::alloc::Global;
 
 /// So many dylibs are made.
 fn makes_dylibs<const JMAX: usize>(session: &mut Session<Named, Note, JMAX>, count: u32) -> bool {
@@ -32,6 +33,26 @@ fn makes_trackers<const JMAX: usize>(session: &mut Session<Named, Note, JMAX>, c
         }
     }
     true
+}
+
+/// So many generators, each of another name, are attached to the first dylib.
+fn attaches_many<const JMAX: usize>(session: &mut Session<Named, Note, JMAX>, count: u32) -> bool {
+    for k in 0..count {
+        let offered = session.attach(SETUP, DylibId(0), TrackId(0), Named::strong(k));
+        let Ok(Reply::Generator(g)) = offered.answer else {
+            return false;
+        };
+        if g.0 != k {
+            return false;
+        }
+    }
+    true
+}
+
+/// A generator of one part is attached to the first dylib.
+fn attaches_one<const JMAX: usize>(alloc: Global, session: &mut Session<Part, Note, JMAX>) -> bool {
+    let offered = session.attach(SETUP, DylibId(0), TrackId(0), Part::new(65_537, 0, 0));
+    reads(alloc, offered.answer, "Ok(Generator(GenId(0)))")
 }
 
 /// So many parts, each of another name, are defined in the first dylib.
@@ -66,15 +87,32 @@ fn one_tracker_more(rt: HostRuntime) {
 }
 
 #[test]
+fn one_generator_more(rt: HostRuntime) {
+    let alloc = rt.alloc();
+    let mut session = Session::<Named, Note, 65_600>::open(alloc).expect(&rt, "memory");
+    assert!(rt; makes_dylibs(&mut session, 1));
+    assert!(rt; makes_trackers(&mut session, 1));
+    assert!(rt; attaches_many(&mut session, 65_536));
+    let offered = session.attach(SETUP, DylibId(0), TrackId(0), Named::strong(65_536));
+    assert!(rt; reads(alloc, offered.answer, "Ok(TooMany)"));
+    assert!(rt; offered.back.is_some());
+    assert_eq!(rt; session.journal().len(), 65_539);
+    end(&rt, session);
+}
+
+#[test]
 fn one_unit_more(rt: HostRuntime) {
     let alloc = rt.alloc();
     let mut session = Session::<Part, Note, 65_600>::open(alloc).expect(&rt, "memory");
     assert!(rt; begins(alloc, &mut session));
+    assert!(rt; attaches_one(alloc, &mut session));
     assert!(rt; adds_many(&mut session, 65_536));
     let offered = session.define(SETUP, DylibId(0), TrackId(0), Part::new(65_536, 0, 0));
     assert!(rt; reads(alloc, offered.answer, "Ok(TooMany)"));
     assert!(rt; offered.back.is_some());
-    assert_eq!(rt; session.journal().len(), 65_539);
+    let generated = session.generate(SETUP, GenId(0));
+    assert!(rt; reads(alloc, generated, "Ok(TooMany)"));
+    assert_eq!(rt; session.journal().len(), 65_541);
     end(&rt, session);
 }
 

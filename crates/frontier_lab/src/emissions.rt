@@ -1,0 +1,160 @@
+//! The emissions of a run, and what is told and hit.
+
+ghost use Rattle.std.specs.Prelude.{◌≡◌, ◌<◌, ◌≤◌, ◌∷◌, [], ℕ, IfOk, OnOk};
+ghost use Rattle.dep_groups.specs.Frontier.{Absent, entry_at};
+
+use crate::shapes::{Shape, deps_of};
+use dep_groups::Frontier;
+use orc_ids::{Group, InstId, Items};
+use std::alloc::{AllocError, Global};
+
+/// What a run has done.
+#[derive(Clone, Copy)]
+pub struct Done {
+    /// How often an instance was told that it is ready.
+    pub told: usize,
+    /// How many instances are ready at the end.
+    pub ready: usize,
+    /// How many instances the failure hit.
+    pub hit: usize,
+}
+
+/// A group of one instance.
+fn group_of(alloc: Global, shape: Shape, member: InstId, count: u32) -> Result<Group, AllocError>
+    ensures { IfOk result (λ g. g.members ≡ member ∷ []) }
+{
+    Ok(Group {
+        members: Items::from_vec(vec![in alloc; member]?),
+        deps: Items::from_vec(deps_of(alloc, shape, member.0, count)?),
+    })
+}
+
+/// Emits one instance; how many were told.
+fn emit_one(
+    alloc: Global,
+    frontier: &mut Frontier,
+    shape: Shape,
+    member: InstId,
+    count: u32,
+) -> Result<usize, AllocError>
+    requires { entry_at frontier.old.entries member.0 ≡ Absent }
+    ensures others { OnOk result ((i : ℕ) → (member.0 ≡ i → ⊥) → entry_at frontier.new.entries i ≡ entry_at frontier.old.entries i) }
+    ensures places { frontier.old.places ≤ frontier.new.places }
+{
+    let group = group_of(alloc, shape, member, count)?;
+    frontier.emit(&[group])?;
+    Ok(frontier.told().len())
+}
+
+/// Emits the first so many of the instances, from the first on; how many were told.
+fn emit_up(
+    alloc: Global,
+    frontier: &mut Frontier,
+    shape: Shape,
+    most: u32,
+    count: u32,
+) -> Result<usize, AllocError>
+    requires { (i : ℕ) → entry_at frontier.old.entries i ≡ Absent }
+    ensures others { OnOk result ((i : ℕ) → most ≤ i → entry_at frontier.new.entries i ≡ Absent) }
+    ensures places { frontier.old.places ≤ frontier.new.places }
+{
+    let mut told: usize = 0;
+    for k in 0..most {
+        told = told.wrapping_add(emit_one(alloc, frontier, shape, InstId(k), count)?);
+    }
+    Ok(told)
+}
+
+/// Emits all instances, from the last on; how many were told.
+fn emit_down(
+    alloc: Global,
+    frontier: &mut Frontier,
+    shape: Shape,
+    count: u32,
+) -> Result<usize, AllocError>
+    requires { (i : ℕ) → entry_at frontier.old.entries i ≡ Absent }
+{
+    let mut told: usize = 0;
+    for k in 0..count {
+        let member = InstId(count - 1 - k);
+        told = told.wrapping_add(emit_one(alloc, frontier, shape, member, count)?);
+    }
+    Ok(told)
+}
+
+/// How many of so many instances are ready.
+fn count_ready(frontier: &Frontier, count: u32) -> usize {
+    let mut ready: usize = 0;
+    for k in 0..count {
+        ready = ready.wrapping_add(frontier.is_ready(InstId(k)) as usize);
+    }
+    ready
+}
+
+/// Lets an instance fail, unless it is ready; how many were hit.
+fn fail_one(frontier: &mut Frontier, root: InstId) -> usize
+    requires { root.0 < frontier.old.places }
+{
+    if frontier.is_ready(root) {
+        return 0;
+    }
+    frontier.fail(&[root]);
+    frontier.hits().len()
+}
+
+/// Emits all but the last instance, and lets that fail.
+fn run_failure(
+    alloc: Global,
+    frontier: &mut Frontier,
+    shape: Shape,
+    count: u32,
+) -> Result<Done, AllocError>
+    requires { (i : ℕ) → entry_at frontier.old.entries i ≡ Absent }
+{
+    let mut done = Done {
+        told: 0,
+        ready: 0,
+        hit: 0,
+    };
+    let Some(last) = count.checked_sub(1) else {
+        return Ok(done);
+    };
+    frontier.room(count as usize)?;
+    done.told = emit_up(alloc, frontier, shape, last, count)?;
+    done.hit = fail_one(frontier, InstId(last));
+    done.ready = count_ready(frontier, count);
+    Ok(done)
+}
+
+/// Emits all instances, in this order or the other.
+fn run_emissions(
+    alloc: Global,
+    frontier: &mut Frontier,
+    shape: Shape,
+    is_up: bool,
+    count: u32,
+) -> Result<Done, AllocError>
+    requires { (i : ℕ) → entry_at frontier.old.entries i ≡ Absent }
+{
+    let told = if is_up {
+        emit_up(alloc, frontier, shape, count, count)?
+    } else {
+        emit_down(alloc, frontier, shape, count)?
+    };
+    let ready = count_ready(frontier, count);
+    Ok(Done {
+        told,
+        ready,
+        hit: 0,
+    })
+}
+
+/// Emits the instances of a shape in an order.
+pub fn run(alloc: Global, shape: Shape, order: &str, count: u32) -> Result<Done, AllocError> {
+    let mut frontier = Frontier::new(alloc);
+    if order == "fail" {
+        run_failure(alloc, &mut frontier, shape, count)
+    } else {
+        run_emissions(alloc, &mut frontier, shape, order == "up", count)
+    }
+}
