@@ -1,7 +1,7 @@
 -- The exit status of each answer.
 use Rattle.std.specs.Prelude.{ℕ, ◌%◌}
 use Rattle.answers.specs.declared.answer.Answer.{Answer}
-use Rattle.answers.specs.declared.answer.Answer.TheVariants.{Done, Exited, Usage, ReadFault, FileFault, WriteFault, ScriptRefused, ObjectRefused, TooLong, Missing, LinkRefused, DepFailed, Trap, OutOfFuel, OutputFull, JournalFull, NoMemory, DefineRefused}
+use Rattle.answers.specs.declared.answer.Answer.TheVariants.{Done, Exited, Usage, ReadFault, FileFault, WriteFault, ScriptRefused, ObjectRefused, TooLong, Missing, LinkRefused, DepFailed, Trap, OutOfFuel, OutputFull, JournalFull, NoMemory, DefineRefused, AsmRefused}
 
 abbrev pub status_of : Answer → ℕ
 status_of Done = 0
@@ -21,4 +21,5 @@ status_of OutOfFuel = 111
 status_of OutputFull = 112
 status_of (JournalFull _) = 113
 status_of NoMemory = 114
+status_of (AsmRefused _ _) = 115
 status_of (DefineRefused _) = 116

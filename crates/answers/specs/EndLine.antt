@@ -1,6 +1,8 @@
 -- The end line of each answer: the last line of the log.
 use Rattle.std.specs.Prelude.{ℕ, List, [], ◌∷◌, ◌++◌, codes}
 use Rattle.std.specs.Fmt.{decimal}
+use Rattle.asm_lines.specs.declared.statement.AsmWhy.{AsmWhy}
+use Rattle.asm_lines.specs.declared.statement.AsmWhy.TheVariants as asm_why
 use Rattle.elf_read.specs.declared.error.ElfError.{ElfError}
 use Rattle.elf_read.specs.declared.error.ElfError.TheVariants.{Short, BadMagic, NotClass64, NotLittle, NotRelocatable, NotRiscv, BadFlags, BadTable, BadSymbol, BadLink, Overlap, NotBuilt, NoMemory as ElfNoMemory}
 use Rattle.elf_read.specs.declared.error.NotBuiltKind.{NotBuiltKind}
@@ -16,13 +18,21 @@ use Rattle.object_files.specs.declared.error.ObjectWhy.{ObjectWhy}
 use Rattle.object_files.specs.declared.error.ObjectWhy.TheVariants.{Elf, Graph}
 use Rattle.session_script.specs.Refused.{why_word}
 use Rattle.answers.specs.declared.answer.Answer.{Answer}
-use Rattle.answers.specs.declared.answer.Answer.TheVariants.{Done, Exited, Usage, ReadFault, FileFault, WriteFault, ScriptRefused, ObjectRefused, TooLong, Missing, LinkRefused, DepFailed, Trap, OutOfFuel, OutputFull, JournalFull, NoMemory, DefineRefused}
+use Rattle.answers.specs.declared.answer.Answer.TheVariants.{Done, Exited, Usage, ReadFault, FileFault, WriteFault, ScriptRefused, ObjectRefused, TooLong, Missing, LinkRefused, DepFailed, Trap, OutOfFuel, OutputFull, JournalFull, NoMemory, DefineRefused, AsmRefused}
 
 abbrev pub usage_text : UsageKind → List ℕ
 usage_text NoCommand = codes "no command"
 usage_text UnknownCommand = codes "unknown command"
 usage_text BadWords = codes "bad words"
 usage_text BadNumber = codes "bad number"
+
+abbrev pub asm_why_text : AsmWhy → List ℕ
+asm_why_text asm_why.Label = codes "label"
+asm_why_text asm_why.Word = codes "word"
+asm_why_text asm_why.Operands = codes "operands"
+asm_why_text asm_why.Number = codes "number"
+asm_why_text asm_why.Name = codes "name"
+asm_why_text asm_why.Section = codes "section"
 
 abbrev pub kind_text : NotBuiltKind → List ℕ
 kind_text Group = codes "group"
@@ -81,6 +91,7 @@ answer_text OutputFull = run_end_text end.OutputFull
 answer_text (JournalFull len) = codes "journal full " ++ decimal len
 answer_text NoMemory = codes "no memory"
 answer_text (DefineRefused file) = codes "define refused " ++ decimal file
+answer_text (AsmRefused line why) = codes "asm refused " ++ decimal line ++ codes " " ++ asm_why_text why
 
 -- the last line of the log; after a write that failed there is none
 abbrev pub end_line_of : Answer → List ℕ

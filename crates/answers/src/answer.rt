@@ -1,3 +1,4 @@
+use asm_lines::AsmWhy;
 use command_line::UsageKind;
 use object_files::ObjectWhy;
 use orc_ids::{Bytes, InstId, Place};
@@ -10,7 +11,7 @@ use session_script::ScriptWhy;
 /// from 0.
 #[derive(Debug, Drop)]
 pub enum Answer {
-    /// The session was written whole.
+    /// The session, or the assembled object, was written whole.
     Done,
     /// The run called exit with this code.
     Exited(u64),
@@ -46,6 +47,8 @@ pub enum Answer {
     NoMemory,
     /// The names of this file's object clash with those of an object before it, or there are too many.
     DefineRefused(u32),
+    /// This line of the assembly text, counted from 1, is the first bad one.
+    AsmRefused(u32, AsmWhy),
 }
 
 impl Answer {
@@ -74,6 +77,7 @@ impl Answer {
             Answer::OutputFull => 112,
             Answer::JournalFull(_) => 113,
             Answer::NoMemory => 114,
+            Answer::AsmRefused(_, _) => 115,
             Answer::DefineRefused(_) => 116,
         }
     }

@@ -1,9 +1,10 @@
 ghost use Rattle.std.specs.Prelude.{◌≡◌, ◌++◌, IfOk, OnOk};
 ghost use Rattle.session_script.specs.Refused.{why_word};
-ghost use Rattle.answers.specs.declared.answer.Answer.TheVariants.{ObjectRefused, ScriptRefused};
-ghost use Rattle.answers.specs.EndLine.{usage_text, kind_text, elf_text, graph_text, why_text, answer_text, end_line_of};
+ghost use Rattle.answers.specs.declared.answer.Answer.TheVariants.{AsmRefused, ObjectRefused, ScriptRefused};
+ghost use Rattle.answers.specs.EndLine.{asm_why_text, usage_text, kind_text, elf_text, graph_text, why_text, answer_text, end_line_of};
 
 use crate::answer::Answer;
+use asm_lines::AsmWhy;
 use command_line::UsageKind;
 use elf_read::{ElfError, NotBuiltKind};
 use exec_run::RunEnd;
@@ -58,6 +59,7 @@ fn put_answer(alloc: Global, out: &mut Vec<u8>, answer: &Answer) -> Result<(), A
         Answer::JournalFull(len) => put_numbered(out, b"journal full ", *len),
         Answer::NoMemory => put(out, b"no memory"),
         Answer::DefineRefused(file) => put_numbered(out, b"define refused ", *file),
+        Answer::AsmRefused(line, why) => put_refused_text(out, *line, *why),
     }
 }
 
@@ -85,6 +87,28 @@ fn put_line_why(out: &mut Vec<u8>, why: ScriptWhy) -> Result<(), AllocError>
     ensures { OnOk result (out.new.items ≡ out.old.items ++ why_word why) }
 {
     put(out, why.word())
+}
+
+/// A line's number in an assembly text, and why it is refused.
+fn put_refused_text(out: &mut Vec<u8>, line: u32, why: AsmWhy) -> Result<(), AllocError>
+    ensures { OnOk result (out.new.items ≡ out.old.items ++ answer_text (AsmRefused line why)) }
+{
+    put_numbered(out, b"asm refused ", line)?;
+    put(out, b" ")?;
+    put_asm_why(out, why)
+}
+
+fn put_asm_why(out: &mut Vec<u8>, why: AsmWhy) -> Result<(), AllocError>
+    ensures { OnOk result (out.new.items ≡ out.old.items ++ asm_why_text why) }
+{
+    match why {
+        AsmWhy::Label => put(out, b"label"),
+        AsmWhy::Word => put(out, b"word"),
+        AsmWhy::Operands => put(out, b"operands"),
+        AsmWhy::Number => put(out, b"number"),
+        AsmWhy::Name => put(out, b"name"),
+        AsmWhy::Section => put(out, b"section"),
+    }
 }
 
 /// A file's number, and why it is refused.

@@ -1,3 +1,5 @@
-mod Items
 mod Digits
+mod Given
+mod Matched
+mod Simple
 pub mod Within

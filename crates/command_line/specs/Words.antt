@@ -1,9 +1,10 @@
 -- The command line: which words are which command.
-use Rattle.std.specs.Prelude.{◌≡◌, ℕ, ◌^◌, ◌<◌, ◌≤◌, Bool, false, List, [], ◌∷◌, ◌++◌, ◌&&◌, not, length, map, nat_le, nat_eq, codes, Option, Some, None, is_some, unwrap_or, Result, Ok, Err, ⊤, if◌then◌else◌}
-use Rattle.std.specs.List.{list_any, before_first, after_first}
+use Rattle.std.specs.Prelude.{◌≡◌, ℕ, ◌^◌, ◌<◌, ◌≤◌, Bool, true, List, [], ◌∷◌, ◌&&◌, length, map, nat_le, codes, Option, Some, None, unwrap_or, Result, Ok, Err, ⊤, if◌then◌else◌}
 use Rattle.std.specs.Str.{bytes_eq}
 use Rattle.std.specs.Rc.{rc_str_bytes}
 use Rattle.std.specs.declared.rc.RcStr.{RcStr}
+use Rattle.clap.specs.Words.{App, Kinds, Row, Rule, all_of, fault_of, first_of, matches_of, new_app, new_rule, with_rule}
+use Rattle.clap.specs.declared.builder.action.ArgAction.TheVariants.{Append, Set}
 use Rattle.command_line.specs.declared.error.UsageKind.{UsageKind}
 use Rattle.command_line.specs.declared.error.UsageKind.TheVariants.{NoCommand, UnknownCommand, BadWords, BadNumber}
 use Rattle.command_line.specs.declared.error.CommandError.{CommandError}
@@ -11,8 +12,8 @@ use Rattle.command_line.specs.declared.error.CommandError.TheVariants.{Usage, No
 use Rattle.command_line.specs.declared.command.Command.{Command}
 use Rattle.command_line.specs.declared.command.Command.TheVariants as command
 use Rattle.command_line.specs.declared.command.RunWords.{RunWords}
-use Rattle.command_line.specs.declared.option.CommandOption.{CommandOption}
-use Rattle.command_line.specs.declared.option.CommandOption.TheVariants.{Entry, Fuel, Workers}
+use Rattle.command_line.specs.declared.name.CommandName.{CommandName}
+use Rattle.command_line.specs.declared.name.CommandName.TheVariants as by_name
 use Rattle.command_line.specs.Numbers.{number_or}
 
 -- What is asked of a run: to link the objects in files by so many workers, and to run them from an entry, for at most so
@@ -23,155 +24,137 @@ pub record Request : Type 0 where
   pub fuel : ℕ
   pub workers : ℕ
 
--- What a command line asks for: a run, or a session with so many workers.
+-- What a command line asks for: a run, a session with so many workers, or the object of the assembly text in a file.
 pub data Asked : Type 0 where
   Run : Request → Asked
   Session : ℕ → Asked
+  Assembly : List ℕ → Asked
 
--- What the words after a command give: FILE words, in order, and the value of each option that stands there.
-pub record Given : Type 0 where
-  pub files : List (List ℕ)
-  pub entry : Option (List ℕ)
-  pub fuel : Option (List ℕ)
-  pub workers : Option (List ℕ)
+-- The commands, as clap's. None has a help flag.
+
+abbrev pub without_help : App → App
+without_help app = record app { top = record (app.top) { disable_help_flag = true } }
+
+-- FILE words, as many as there are
+abbrev pub files_rule : Rule
+files_rule = record (new_rule (codes "files")) { action = Some Append }
+
+-- one FILE word, which has to be there
+abbrev pub file_rule : Rule
+file_rule = record (new_rule (codes "file")) { required = true; action = Some Set }
+
+-- an option with a value, which may be left out
+abbrev pub option_rule : List ℕ → Rule
+option_rule name = record (new_rule name) { long = Some name; action = Some Set }
+
+-- run FILE.. [--entry NAME] [--fuel N] [--workers N]
+abbrev pub run_app : App
+run_app = with_rule (with_rule (with_rule (with_rule (without_help (new_app (codes "run"))) files_rule) (option_rule (codes "entry"))) (option_rule (codes "fuel"))) (option_rule (codes "workers"))
+
+-- session [--workers N]
+abbrev pub session_app : App
+session_app = with_rule (without_help (new_app (codes "session"))) (option_rule (codes "workers"))
+
+-- as FILE
+abbrev pub assembly_app : App
+assembly_app = with_rule (without_help (new_app (codes "as"))) file_rule
+
+-- what is matched where there is no fault
+abbrev pub unless_faulty : Kinds → List Row → Option (List Row)
+unless_faulty [] rows = Some rows
+unless_faulty (fault ∷ faults) rows = None
+
+-- what words match, of which the first is the command's; none where they don't fit it
+unfoldable pub matched : App → List (List ℕ) → Option (List Row)
+matched app words = unless_faulty (fault_of app words) (matches_of app words)
 
 -- the bytes of words
 abbrev pub texts : {Z : Type 0} → List (RcStr Z) → List (List ℕ)
 texts words = map rc_str_bytes words
 
--- What a word is: a FILE; an option, whose value is the next word or stands in the same word; the end of the options; or
--- no option that is known.
-pub data Item : Type 0 where
-  File : List ℕ → Item
-  Named : CommandOption → Item
-  Valued : CommandOption → List ℕ → Item
-  End : Item
-  Unknown : Item
+-- What matches give
 
--- a word that starts with `-`, but for `-` alone
-abbrev pub is_option : List ℕ → Bool
-is_option (c ∷ _ ∷ _) = nat_eq c 45
-is_option _ = false
-
--- `--`, after which there are no options
-abbrev pub is_end : List ℕ → Bool
-is_end word = bytes_eq word (codes "--")
-
--- `=`
-abbrev pub is_equals : ℕ → Bool
-is_equals c = nat_eq c 61
-
--- the option that has this name
-abbrev pub option_of : List ℕ → Option CommandOption
-option_of name =
-    if bytes_eq name (codes "--entry") then Some Entry else
-    if bytes_eq name (codes "--fuel") then Some Fuel else
-    if bytes_eq name (codes "--workers") then Some Workers else None
-
--- what follows the first `=` of a word, if it has one
-abbrev pub value_in : List ℕ → Option (List ℕ)
-value_in word = if list_any is_equals word then Some (after_first is_equals word) else None
-
-abbrev pub option_item : Option CommandOption → Option (List ℕ) → Item
-option_item (Some option) (Some value) = Valued option value
-option_item (Some option) None = Named option
-option_item None _ = Unknown
-
--- what a word before `--` is
-abbrev pub item_of : List ℕ → Item
-item_of word = if is_option word then option_item (option_of (before_first is_equals word)) (value_in word) else File word
-
--- What each word is. After `--` each is a FILE.
-abbrev pub items_of : List (List ℕ) → List Item
-items_of [] = []
-items_of (word ∷ words) = if is_end word then End ∷ map File words else item_of word ∷ items_of words
-
-abbrev pub nothing_given : Given
-nothing_given = record { files = []; entry = None; fuel = None; workers = None }
-
-abbrev pub with_files : Given → List (List ℕ) → Given
-with_files given files = record given { files = given.files ++ files }
-
-abbrev pub value_of : Given → CommandOption → Option (List ℕ)
-value_of given Entry = given.entry
-value_of given Fuel = given.fuel
-value_of given Workers = given.workers
-
-abbrev pub with_value : Given → CommandOption → List ℕ → Given
-with_value given Entry value = record given { entry = Some value }
-with_value given Fuel value = record given { fuel = Some value }
-with_value given Workers value = record given { workers = Some value }
-
-abbrev pub is_given : Given → CommandOption → Bool
-is_given given option = is_some (value_of given option)
-
--- What is given in all, once items are read from left to right: no option is given twice, and the word after an option
--- without `=` is its value and no option itself. Otherwise the words don't fit.
-abbrev pub reads : Given → List Item → Option Given
-reads given [] = Some given
-reads given (File file ∷ items) = reads (with_files given (file ∷ [])) items
-reads given (Valued option value ∷ items) = if is_given given option then None else reads (with_value given option value) items
-reads given (Named option ∷ File value ∷ items) = if is_given given option then None else reads (with_value given option value) items
-reads given (End ∷ items) = reads given items
-reads given _ = None
-
--- what is given in all, once words are read after what is given so far
-abbrev pub given_by : Given → List (List ℕ) → Option Given
-given_by given words = reads given (items_of words)
-
--- what words give
-abbrev pub given_in : List (List ℕ) → Option Given
-given_in words = given_by nothing_given words
+abbrev pub files_in : List Row → List (List ℕ)
+files_in rows = unwrap_or (all_of (codes "files") rows) []
 
 -- the entry: `main` where no value is given
-abbrev pub entry_of : Option (List ℕ) → List ℕ
-entry_of value = unwrap_or value (codes "main")
+abbrev pub entry_in : List Row → List ℕ
+entry_in rows = unwrap_or (first_of (codes "entry") rows) (codes "main")
 
 -- the fuel: 1000000 where no value is given, and at most 2^40
-abbrev pub fuel_of : Option (List ℕ) → Option ℕ
-fuel_of value = number_or 1000000 (2 ^ 40) value
+abbrev pub fuel_in : List Row → Option ℕ
+fuel_in rows = number_or 1000000 (2 ^ 40) (first_of (codes "fuel") rows)
 
 -- the workers: 0 where no value is given, and at most 16
-abbrev pub workers_of : Option (List ℕ) → Option ℕ
-workers_of value = number_or 0 16 value
+abbrev pub workers_in : List Row → Option ℕ
+workers_in rows = number_or 0 16 (first_of (codes "workers") rows)
 
 -- at least 1, and at most so many
 abbrev pub is_up_to : ℕ → ℕ → Bool
 is_up_to most n = nat_le 1 n && nat_le n most
 
 -- A run takes 1 to 1,024 files, and an entry of 1 to 4,096 bytes.
-abbrev pub fits_run : Given → Bool
-fits_run given = is_up_to 1024 (length given.files) && is_up_to 4096 (length (entry_of given.entry))
-
--- A session takes no file, no entry and no fuel.
-abbrev pub fits_session : Given → Bool
-fits_session given = nat_eq (length given.files) 0 && not (is_given given Entry) && not (is_given given Fuel)
+abbrev pub fits_run : List (List ℕ) → List ℕ → Bool
+fits_run files entry = is_up_to 1024 (length files) && is_up_to 4096 (length entry)
 
 -- A number that is malformed or too large is told once the words fit.
 abbrev pub run_with : List (List ℕ) → List ℕ → Option ℕ → Option ℕ → Result Asked UsageKind
 run_with files entry (Some fuel) (Some workers) = Ok (Run (record { files = files; entry = entry; fuel = fuel; workers = workers }))
 run_with files entry _ _ = Err BadNumber
 
+abbrev pub run_by : Option (List Row) → Result Asked UsageKind
+run_by (Some rows) = if fits_run (files_in rows) (entry_in rows) then run_with (files_in rows) (entry_in rows) (fuel_in rows) (workers_in rows) else Err BadWords
+run_by None = Err BadWords
+
 abbrev pub session_with : Option ℕ → Result Asked UsageKind
 session_with (Some workers) = Ok (Session workers)
 session_with None = Err BadNumber
 
--- what the words after `run` ask for, by what they give
-abbrev pub run_of : Option Given → Result Asked UsageKind
-run_of (Some given) = if fits_run given then run_with given.files (entry_of given.entry) (fuel_of given.fuel) (workers_of given.workers) else Err BadWords
-run_of None = Err BadWords
+abbrev pub session_by : Option (List Row) → Result Asked UsageKind
+session_by (Some rows) = session_with (workers_in rows)
+session_by None = Err BadWords
 
--- what the words after `session` ask for, by what they give
-abbrev pub session_of : Option Given → Result Asked UsageKind
-session_of (Some given) = if fits_session given then session_with (workers_of given.workers) else Err BadWords
-session_of None = Err BadWords
+abbrev pub assembly_with : Option (List ℕ) → Result Asked UsageKind
+assembly_with (Some file) = Ok (Assembly file)
+assembly_with None = Err BadWords
 
--- the words of a command line: the program's name, the command, and the command's own words
+abbrev pub assembly_by : Option (List Row) → Result Asked UsageKind
+assembly_by (Some rows) = assembly_with (first_of (codes "file") rows)
+assembly_by None = Err BadWords
+
+-- what the words of each command ask for, of which the first is the command's
+abbrev pub run_of : List (List ℕ) → Result Asked UsageKind
+run_of words = run_by (matched run_app words)
+
+abbrev pub session_of : List (List ℕ) → Result Asked UsageKind
+session_of words = session_by (matched session_app words)
+
+abbrev pub assembly_of : List (List ℕ) → Result Asked UsageKind
+assembly_of words = assembly_by (matched assembly_app words)
+
+-- the command of a name
+abbrev pub command_named : List ℕ → Option CommandName
+command_named name =
+    if bytes_eq name (codes "run") then Some by_name.Run else
+    if bytes_eq name (codes "session") then Some by_name.Session else
+    if bytes_eq name (codes "as") then Some by_name.As else None
+
+-- what the words of a command ask for, of which the first is its name
+abbrev pub named_command : Option CommandName → List (List ℕ) → Result Asked UsageKind
+named_command (Some by_name.Run) words = run_of words
+named_command (Some by_name.Session) words = session_of words
+named_command (Some by_name.As) words = assembly_of words
+named_command None words = Err UnknownCommand
+
+-- what the words after the program's name ask for
+abbrev pub own_command : List (List ℕ) → Result Asked UsageKind
+own_command (name ∷ words) = named_command (command_named name) (name ∷ words)
+own_command [] = Err NoCommand
+
+-- the words of a command line, of which the first is the program's name
 abbrev pub command_of : List (List ℕ) → Result Asked UsageKind
-command_of (_ ∷ command ∷ words) =
-    if bytes_eq command (codes "run") then run_of (given_in words) else
-    if bytes_eq command (codes "session") then session_of (given_in words) else Err UnknownCommand
-command_of _ = Err NoCommand
+command_of (_ ∷ words) = own_command words
+command_of [] = Err NoCommand
 
 -- what the words ask for
 abbrev pub asked_by : {Z : Type 0} → List (RcStr Z) → Result Asked UsageKind
@@ -190,6 +173,7 @@ pub record IsWithinLimits (request : Request) : Type 0 where
 abbrev pub KeepsLimits : Asked → Type 0
 KeepsLimits (Run request) = IsWithinLimits request
 KeepsLimits (Session workers) = workers ≤ 16
+KeepsLimits (Assembly file) = ⊤
 
 -- what words that were read ask for
 abbrev pub request : RunWords → Request
@@ -198,6 +182,7 @@ request words = record { files = map (λ file. file.now) words.files.items; entr
 abbrev pub asked_of : Command → Asked
 asked_of (command.Run words) = Run (request words)
 asked_of (command.Session words) = Session words.workers
+asked_of (command.Assembly words) = Assembly words.file.now
 
 -- an error says why the words are refused, unless memory ran out
 abbrev pub Explains : Result Asked UsageKind → CommandError → Type 0

@@ -1,12 +1,14 @@
-ghost use Rattle.std.specs.Prelude.{◌≡◌, Some, IfOk, IfErr};
-ghost use Rattle.std.specs.Option.{option_copied};
-ghost use Rattle.command_line.specs.Words.{texts, asked_by, run_of, session_of, workers_of, given_in, asked_of, Explains, KeepsLimits};
-ghost use Rattle.command_line.specs.Answers.{asked_or, given_of};
+ghost use Rattle.std.specs.Prelude.{◌≡◌, Some, Ok, IfOk, IfErr, map};
+ghost use Rattle.command_line.specs.Words.{texts, asked_by, own_command, named_command, files_in, workers_in, run_by, run_of, session_of, assembly_of, asked_of, Explains, KeepsLimits};
+ghost use Rattle.command_line.specs.Answers.{asked_or, rows_in};
 
-use crate::arguments::{Arguments, read_arguments};
 use crate::error::{CommandError, UsageKind};
 use crate::limits::{FILES_LIMIT, FUEL_LIMIT, NAME_LIMIT, WORKER_LIMIT};
+use crate::matching::{files_of, matched, value_of};
+use crate::name::CommandName;
 use crate::number::number_or;
+use crate::syntax::{assembly_syntax, run_syntax, session_syntax};
+use clap::ArgMatches;
 use std::alloc::Global;
 use std::rc::RcStr;
 
@@ -22,6 +24,7 @@ const USUAL_WORKERS: u64 = 0;
 pub enum Command<'a> {
     Run(RunWords<'a>),
     Session(SessionWords),
+    Assembly(AssemblyWords<'a>),
 }
 
 /// `run FILE.. [--entry NAME] [--fuel N] [--workers N]` links the objects in the files with N workers, and
@@ -40,6 +43,12 @@ pub struct SessionWords {
     pub workers: u32,
 }
 
+/// `as FILE` assembles the text in the file.
+#[derive(Clone, Copy, Debug)]
+pub struct AssemblyWords<'a> {
+    pub file: &'a str,
+}
+
 /// The command of a command line: word 0 is the program's name, word 1 the command.
 pub fn read_command(alloc: Global, words: &[RcStr]) -> Result<Command<'_>, CommandError>
     ensures read { IfOk result (λ command. asked_by words.now ≡ Ok (asked_of command)) }
@@ -47,45 +56,57 @@ pub fn read_command(alloc: Global, words: &[RcStr]) -> Result<Command<'_>, Comma
     ensures limits { IfOk result (λ command. KeepsLimits (asked_of command)) }
 {
     match words {
-        [_, command, rest @ ..] => match command.as_str() {
-            "run" => read_run(alloc, rest),
-            "session" => read_session(alloc, rest),
-            _ => Err(CommandError::Usage(UsageKind::UnknownCommand)),
-        },
-        _ => Err(CommandError::Usage(UsageKind::NoCommand)),
+        [_, words @ ..] => read_words(alloc, words),
+        [] => Err(CommandError::Usage(UsageKind::NoCommand)),
     }
 }
 
-/// The words after `run`.
+/// The words after the program's name.
+fn read_words(alloc: Global, words: &[RcStr]) -> Result<Command<'_>, CommandError>
+    ensures read { IfOk result (λ command. own_command (texts words.now) ≡ Ok (asked_of command)) }
+    ensures refused { IfErr result (Explains (own_command (texts words.now))) }
+    ensures limits { IfOk result (λ command. KeepsLimits (asked_of command)) }
+{
+    match words {
+        [name, ..] => read_named(alloc, CommandName::named(name.as_str()), words),
+        [] => Err(CommandError::Usage(UsageKind::NoCommand)),
+    }
+}
+
+/// The words of the command of this name, the first of which is its own.
+fn read_named(
+    alloc: Global,
+    name: Option<CommandName>,
+    words: &[RcStr],
+) -> Result<Command<'_>, CommandError>
+    ensures read { IfOk result (λ command. named_command name (texts words.now) ≡ Ok (asked_of command)) }
+    ensures refused { IfErr result (Explains (named_command name (texts words.now))) }
+    ensures limits { IfOk result (λ command. KeepsLimits (asked_of command)) }
+{
+    match name {
+        Some(CommandName::Run) => read_run(alloc, words),
+        Some(CommandName::Session) => read_session(alloc, words),
+        Some(CommandName::As) => read_assembly(alloc, words),
+        None => Err(CommandError::Usage(UsageKind::UnknownCommand)),
+    }
+}
+
+/// The words of a run.
 fn read_run(alloc: Global, words: &[RcStr]) -> Result<Command<'_>, CommandError>
-    ensures read { IfOk result (λ run. run_of (given_in (texts words.now)) ≡ Ok (asked_of run)) }
-    ensures refused { IfErr result (Explains (run_of (given_in (texts words.now)))) }
+    ensures read { IfOk result (λ run. run_of (texts words.now) ≡ Ok (asked_of run)) }
+    ensures refused { IfErr result (Explains (run_of (texts words.now))) }
 {
-    let arguments = read_arguments(alloc, words)?;
-    Ok(run_words(arguments)?)
+    let matches = matched(run_syntax(alloc)?, words)?;
+    let files = files_of(alloc, &matches)?;
+    Ok(run_words(&matches, files)?)
 }
 
-/// The words after `session`.
-fn read_session(alloc: Global, words: &[RcStr]) -> Result<Command<'_>, CommandError>
-    ensures read { IfOk result (λ session.
-        session_of (given_in (texts words.now)) ≡ Ok (asked_of session)) }
-    ensures refused { IfErr result (Explains (session_of (given_in (texts words.now)))) }
+/// The run that words ask for, which give these files.
+fn run_words<'a>(matches: &ArgMatches<'a>, files: Vec<&'a str>) -> Result<Command<'a>, UsageKind>
+    requires { map (λ file. file.now) files.items ≡ files_in (rows_in matches.now) }
+    ensures { asked_or result ≡ run_by (Some (rows_in matches.now)) }
 {
-    let arguments = read_arguments(alloc, words)?;
-    Ok(session_words(arguments)?)
-}
-
-/// The run that arguments ask for, with the usual values for the options that aren't given.
-fn run_words(arguments: Arguments<'_>) -> Result<Command<'_>, UsageKind>
-    ensures { asked_or result ≡ run_of (Some (given_of arguments.entry)) }
-{
-    let Arguments {
-        files,
-        entry,
-        fuel,
-        workers,
-    } = arguments;
-    let entry = entry.unwrap_or(USUAL_ENTRY);
+    let entry = value_of(matches, "entry").unwrap_or(USUAL_ENTRY);
     if files.is_empty()
         || files.len() > FILES_LIMIT
         || entry.is_empty()
@@ -93,9 +114,8 @@ fn run_words(arguments: Arguments<'_>) -> Result<Command<'_>, UsageKind>
     {
         return Err(UsageKind::BadWords);
     }
-    let fuel = number_or(USUAL_FUEL, FUEL_LIMIT, fuel);
-    let workers = workers_or_usual(workers);
-    match (fuel, workers) {
+    let fuel = number_or(USUAL_FUEL, FUEL_LIMIT, value_of(matches, "fuel"));
+    match (fuel, workers_of(matches)) {
         (Some(fuel), Some(workers)) => Ok(Command::Run(RunWords {
             files,
             entry,
@@ -106,29 +126,35 @@ fn run_words(arguments: Arguments<'_>) -> Result<Command<'_>, UsageKind>
     }
 }
 
-/// The session that arguments ask for: they may give workers, and nothing else.
-fn session_words(arguments: Arguments<'_>) -> Result<Command<'_>, UsageKind>
-    ensures { asked_or result ≡ session_of (Some (given_of arguments.entry)) }
+/// The words of a session.
+fn read_session(alloc: Global, words: &[RcStr]) -> Result<Command<'_>, CommandError>
+    ensures read { IfOk result (λ session. session_of (texts words.now) ≡ Ok (asked_of session)) }
+    ensures refused { IfErr result (Explains (session_of (texts words.now))) }
 {
-    let Arguments {
-        files,
-        entry,
-        fuel,
-        workers,
-    } = arguments;
-    if !files.is_empty() || entry.is_some() || fuel.is_some() {
-        return Err(UsageKind::BadWords);
-    }
-    match workers_or_usual(workers) {
+    let matches = matched(session_syntax(alloc)?, words)?;
+    match workers_of(&matches) {
         Some(workers) => Ok(Command::Session(SessionWords { workers })),
-        None => Err(UsageKind::BadNumber),
+        None => Err(CommandError::Usage(UsageKind::BadNumber)),
     }
 }
 
-/// The workers that an option asks for, if it may; the usual ones where it isn't given.
-fn workers_or_usual(value: Option<&str>) -> Option<u32>
-    ensures { result ≡ workers_of (option_copied value.entry) }
+/// The words of an assembly.
+fn read_assembly(alloc: Global, words: &[RcStr]) -> Result<Command<'_>, CommandError>
+    ensures read { IfOk result (λ assembly. assembly_of (texts words.now) ≡ Ok (asked_of assembly)) }
+    ensures refused { IfErr result (Explains (assembly_of (texts words.now))) }
 {
-    let workers = number_or(USUAL_WORKERS, u64::from(WORKER_LIMIT), value)?;
+    let matches = matched(assembly_syntax(alloc)?, words)?;
+    match value_of(&matches, "file") {
+        Some(file) => Ok(Command::Assembly(AssemblyWords { file })),
+        None => Err(CommandError::Usage(UsageKind::BadWords)),
+    }
+}
+
+/// The workers that words ask for, if they may.
+fn workers_of(matches: &ArgMatches<'_>) -> Option<u32>
+    ensures { result ≡ workers_in (rows_in matches.now) }
+{
+    let most = u64::from(WORKER_LIMIT);
+    let workers = number_or(USUAL_WORKERS, most, value_of(matches, "workers"))?;
     Some(workers as u32)
 }

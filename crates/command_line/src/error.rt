@@ -1,7 +1,7 @@
 ghost use Rattle.std.specs.Prelude.{◌≡◌};
 ghost use Rattle.command_line.specs.declared.error.CommandError.TheVariants.{Usage, NoMemory};
 
-use std::alloc::AllocFailed;
+use std::alloc::AllocError;
 
 /// Why words are no command line.
 #[derive(Clone, Copy, Debug, PartialEq, Eq)]
@@ -33,10 +33,10 @@ impl From<UsageKind> for CommandError {
     }
 }
 
-impl<T: Drop> From<AllocFailed<T>> for CommandError {
+impl From<AllocError> for CommandError {
     ghost from_gives = { λ _ e. e ≡ NoMemory };
 
-    fn from(_e: AllocFailed<T>) -> CommandError {
+    fn from(_e: AllocError) -> CommandError {
         CommandError::NoMemory
     }
 }

@@ -18,6 +18,7 @@ fn asked_run(alloc: Global, words: &[RcStr]) -> Result<RunWords<'_>, Fail> {
     match read_command(alloc, words)? {
         Command::Run(run) => Ok(run),
         Command::Session(_) => Err(Fail::new("a session")),
+        Command::Assembly(_) => Err(Fail::new("an assembly")),
     }
 }
 
@@ -26,6 +27,16 @@ fn asked_session(alloc: Global, words: &[RcStr]) -> Result<SessionWords, Fail> {
     match read_command(alloc, words)? {
         Command::Run(_) => Err(Fail::new("a run")),
         Command::Session(session) => Ok(session),
+        Command::Assembly(_) => Err(Fail::new("an assembly")),
+    }
+}
+
+/// The assembly that words ask for.
+fn asked_assembly(alloc: Global, words: &[RcStr]) -> Result<AssemblyWords<'_>, Fail> {
+    match read_command(alloc, words)? {
+        Command::Run(_) => Err(Fail::new("a run")),
+        Command::Session(_) => Err(Fail::new("a session")),
+        Command::Assembly(assembly) => Ok(assembly),
     }
 }
 
@@ -131,6 +142,9 @@ fn word_1_is_the_command(rt: HostRuntime) -> Result<(), Fail> {
         "orc Session",
         "orc sessions",
         "orc sess",
+        "orc a",
+        "orc asm hello.s",
+        "orc As hello.s",
         "orc --help",
         "orc -- run a.o",
         "orc --workers 4 session",
@@ -306,4 +320,43 @@ fn workers_of_a_session_are_a_number_in_range(rt: HostRuntime) -> Result<(), Fai
         "orc session --workers=x --fuel 1",
     ];
     expect_refused(&rt, alloc, UsageKind::BadWords, &words)
+}
+
+#[test]
+fn an_assembly_has_one_file(rt: HostRuntime) -> Result<(), Fail> {
+    let alloc = rt.alloc();
+    let lines = [
+        ("orc as hello.s", "hello.s"),
+        ("orc as -", "-"),
+        ("orc as ", ""),
+        ("orc as a=b", "a=b"),
+        ("orc as -- hello.s", "hello.s"),
+        ("orc as -- --workers", "--workers"),
+        ("orc as hello.s --", "hello.s"),
+    ];
+    for (line, file) in lines {
+        let words = words_in(alloc, line)?;
+        assert_eq!(rt; asked_assembly(alloc, &words)?.file, file, "{line}");
+    }
+    Ok(())
+}
+
+#[test]
+fn an_assembly_has_nothing_but_its_file(rt: HostRuntime) -> Result<(), Fail> {
+    let alloc = rt.alloc();
+    let lines = [
+        "orc as",
+        "orc as --",
+        "orc as a.s b.s",
+        "orc as a.s -- b.s",
+        "orc as a.s ",
+        "orc as --workers 0 a.s",
+        "orc as a.s --workers=0",
+        "orc as a.s --entry main",
+        "orc as --fuel=1 a.s",
+        "orc as a.s --fuel x",
+        "orc as -o a.o a.s",
+        "orc as --help",
+    ];
+    expect_refused(&rt, alloc, UsageKind::BadWords, &lines)
 }

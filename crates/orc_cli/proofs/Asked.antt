@@ -1,6 +1,6 @@
 -- Which promise a call keeps, by what its words ask for.
-use Rattle.std.proofs.Common.{◌≡◌, ℕ, Result, Ok, Err, subst}
-use Rattle.command_line.specs.Words.{Asked, Request, Run, Session}
+use Rattle.std.proofs.Common.{◌≡◌, ℕ, List, Result, Ok, Err, subst}
+use Rattle.command_line.specs.Words.{Asked, Assembly, Request, Run, Session}
 use Rattle.command_line.specs.declared.error.UsageKind.{UsageKind}
 use Rattle.orc_cli.specs.Asking.{AsksRun}
 
@@ -24,3 +24,10 @@ never_asked words kind workers is isnt = absurd (cc)
 
 pub same_workers : (words : Result Asked UsageKind) (one other : ℕ) → words ≡ Ok (Session one) → words ≡ Ok (Session other) → one ≡ other
 same_workers words one other p q = cc
+
+-- words that ask for an assembly ask for nothing else
+pub never_run_of : {P : Type 0} (words : Result Asked UsageKind) (file : List ℕ) (asked : Result Request UsageKind) → words ≡ Ok (Assembly file) → AsksRun words asked → P
+never_run_of words file asked is asks = absurd (subst (λ w. AsksRun w asked) is asks)
+
+pub same_file : (words : Result Asked UsageKind) (one other : List ℕ) → words ≡ Ok (Assembly one) → words ≡ Ok (Assembly other) → one ≡ other
+same_file words one other p q = cc

@@ -1,7 +1,7 @@
 -- A call that found its answer and finished, and what follows of it.
 use Rattle.std.proofs.Common.{◌≡◌, ℕ, List, [], Result, Ok, Err, refl, subst, inl, inr}
 use Rattle.std.specs.Prelude.{◌≢◌}
-use Rattle.command_line.specs.Words.{Asked, Request, Run, Session, command_of}
+use Rattle.command_line.specs.Words.{Asked, Assembly, Request, Run, Session, command_of}
 use Rattle.command_line.specs.declared.error.UsageKind.{UsageKind}
 use Rattle.command_line.proofs.Within.{command_within}
 use Rattle.execution_session.specs.declared.session.TheConstants.{JOURNAL_LIMIT}
@@ -23,6 +23,7 @@ answered jmax asked told before after out out' log log' f answer output journal 
 words_ask : (words : Result Asked UsageKind) (run : Request) (asked : Result Request UsageKind) → AsksRun words asked → asked ≡ Ok run → words ≡ Ok (Run run)
 words_ask (Ok (Run other)) run asked asks is = cc
 words_ask (Ok (Session workers)) run asked asks is = absurd asks
+words_ask (Ok (Assembly file)) run asked asks is = absurd asks
 words_ask (Err kind) run asked asks is = absurd (cc)
 
 -- a journal of as many places as one can have is never full, since no command line names more than 1,024 files

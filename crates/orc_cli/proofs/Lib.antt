@@ -1,7 +1,5 @@
 mod AllTaken
 mod Shares
-mod Speaking
-mod NamedUnits
 mod RunNames
 mod LoadedRuns
 mod Finished

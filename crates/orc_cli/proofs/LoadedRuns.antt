@@ -13,6 +13,7 @@ use Rattle.session_units.specs.Units.{meaning_of}
 use Rattle.session_units.specs.declared.unit.ObjectUnit.{ObjectUnit}
 use Rattle.closure_laws.proofs.LevelsStaying.{row_below}
 use Rattle.journal_text.specs.Journal.{AreKnown, text_of_history}
+use Rattle.journal_names.specs.Laws.{HasKnownNames}
 use Rattle.command_line.specs.Words.{Request}
 use Rattle.object_files.specs.Files.{AreNumbered, Told, distinct}
 use Rattle.run_laws.specs.Ended.{Ended, IsRun}
@@ -20,11 +21,11 @@ use Rattle.run_laws.specs.declared.linked.Linked.{Linked}
 use Rattle.run_answers.specs.Answered.{HasSession}
 use Rattle.run_answers.specs.Sessions.{AreOfWords, IsAnswerOf, IsFileOf, IsWordOf}
 use Rattle.answers.specs.declared.answer.Answer.{Answer}
-use Rattle.run_answers.proofs.Words.{plain_units}
+use Rattle.run_answers.proofs.Words.{of_all_words, plain_units}
+use Rattle.spoken_names.proofs.LoadedUnits.{loaded_known}
 use Rattle.orc_cli.specs.Loading.{AreShared, IsLoaded}
 use Rattle.orc_cli.specs.declared.loading.Loaded.{Loaded}
 use Rattle.orc_cli.specs.declared.running.Found.{Found}
-use Rattle.orc_cli.proofs.NamedUnits.{units_known}
 use Rattle.orc_cli.proofs.RunNames.{run_is_known}
 
 -- a text that stood in a table has its number in a later one
@@ -74,7 +75,7 @@ module _ (told : Told) (run : Request) (l : Loaded) (loaded : IsLoaded told run 
   module _ (jmax : ℕ) (h : List (Entry Meaning)) (end : Linked) (is_run : IsRun jmax run.workers l.program.main l.program.entry (map meaning_of l.program.units.items) h end) where
     pub names_known : AreKnown l.names h
     names_known = run_is_known l.names jmax run.workers l.program.main l.program.entry units h end is_run loaded.main_is.given loaded.entry_is.given
-        (units_known told run.files l.names loaded.file_units loaded.loaded (omega (arith, loaded.main_is.given)) units words_units)
+        (of_all_words (HasKnownNames l.names) run.files loaded.file_units units words_units (loaded_known told (distinct run.files) l.names loaded.file_units loaded.loaded (omega (arith, loaded.main_is.given))))
 
     pub refused_word : IsWordOf l.files.items end
     refused_word = is_word jmax l.program.main l.program.entry units h is_run.setup is_run.later l.files.items end loaded.shared.count is_run.ended

@@ -1,12 +1,13 @@
 -- Which promise a call keeps, by what its words ask for.
-use Rattle.std.specs.Prelude.{◌≡◌, ℕ, Result, Ok, Err}
-use Rattle.command_line.specs.Words.{Asked, Request, Run, Session}
+use Rattle.std.specs.Prelude.{◌≡◌, ◌≢◌, ℕ, List, Result, Ok, Err}
+use Rattle.command_line.specs.Words.{Asked, Assembly, Request, Run, Session}
 use Rattle.command_line.specs.declared.error.UsageKind.{UsageKind}
 
 -- the words ask for this run, or for nothing, for this reason
 abbrev pub AsksRun : Result Asked UsageKind → Result Request UsageKind → Type 0
 AsksRun (Ok (Run request)) asked = asked ≡ Ok request
 AsksRun (Ok (Session workers)) asked = ⊥
+AsksRun (Ok (Assembly file)) asked = ⊥
 AsksRun (Err kind) asked = asked ≡ Err kind
 
 -- where the words ask for a run, or for nothing, this holds of it
@@ -16,3 +17,11 @@ ForRun words P = (asked : Result Request UsageKind) → AsksRun words asked → 
 -- where the words ask for a session, this holds of its workers
 abbrev pub ForSession : Result Asked UsageKind → (ℕ → Type 0) → Type 0
 ForSession words P = (workers : ℕ) → words ≡ Ok (Session workers) → P workers
+
+-- where the words ask for an assembly, this holds of its file
+abbrev pub ForAssembly : Result Asked UsageKind → (List ℕ → Type 0) → Type 0
+ForAssembly words P = (file : List ℕ) → words ≡ Ok (Assembly file) → P file
+
+-- this holds unless the words ask for a session
+abbrev pub ButForSession : Result Asked UsageKind → Type 0 → Type 0
+ButForSession words P = ((workers : ℕ) → words ≢ Ok (Session workers)) → P

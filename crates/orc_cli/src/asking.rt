@@ -1,15 +1,17 @@
 //! What the words of a call ask for, and what is found.
 ghost use Rattle.std.specs.Prelude.{◌≡◌, ◌≤◌, [], map, All, None, Ok};
-ghost use Rattle.command_line.specs.Words.{Session, asked_by};
+ghost use Rattle.command_line.specs.Words.{Assembly, Session, asked_by};
+ghost use Rattle.as_answers.specs.Found.{IsFound as IsAssemblyFound};
 ghost use Rattle.noted.specs.Heard.{AllHaveHeard};
 ghost use Rattle.run_answers.specs.Answered.{IsFound};
 ghost use Rattle.session_answers.specs.Found.{IsFound as IsSessionFound};
-ghost use Rattle.orc_cli.specs.Asking.{ForRun, ForSession};
+ghost use Rattle.orc_cli.specs.Asking.{ButForSession, ForAssembly, ForRun, ForSession};
 
 use crate::finding::{find_run, silent};
 use crate::running::Found;
 use answers::Answer;
-use command_line::{Command, CommandError, RunWords, SessionWords, read_command};
+use as_command::{AssemblyFound, find_assembly};
+use command_line::{AssemblyWords, Command, CommandError, RunWords, SessionWords, read_command};
 use execution_session::JOURNAL_LIMIT;
 use noted::{Noted, Notes};
 use orc_ids::Bytes;
@@ -58,6 +60,19 @@ fn of_session<N: Notify>(alloc: Global, session: SessionFound<N>) -> Asked<N>
     }
 }
 
+/// What an assembly found: the object's file is output, and the log has the end line alone.
+fn of_assembly(alloc: Global, assembly: AssemblyFound) -> Found
+    ensures answer { result.answer ≡ assembly.answer }
+    ensures output { result.output ≡ assembly.output }
+    ensures journal { result.journal ≡ [] }
+{
+    Found {
+        answer: assembly.answer,
+        output: assembly.output,
+        journal: Bytes::new(alloc),
+    }
+}
+
 /// What the words ask for is found.
 pub(crate) fn ask<
     S: Source,
@@ -86,10 +101,14 @@ pub(crate) fn ask<
         (F.holds files.old) (F.faults files.old) (F.faults files.new)
         result.found.answer result.found.output result.notes) }
     ensures session_log { ForSession (asked_by words.now) (λ workers. result.found.journal ≡ []) }
+    ensures assembly { ForAssembly (asked_by words.now) (λ file. IsAssemblyFound file
+        (F.holds files.old) (F.faults files.old) (F.faults files.new)
+        result.found.answer result.found.output) }
+    ensures assembly_log { ForAssembly (asked_by words.now) (λ file. result.found.journal ≡ []) }
     ensures heard { AllHaveHeard N.heard result.notes }
-    ensures notes { ForRun (asked_by words.now) (λ asked. result.notes ≡ map Noted.Unfired notes.items) }
-    ensures source_left { ForRun (asked_by words.now) (λ asked. S.left source.new ≡ S.left source.old) }
-    ensures source_quiet { ForRun (asked_by words.now) (λ asked. S.faults source.new ≡ S.faults source.old) }
+    ensures notes { ButForSession (asked_by words.now) (result.notes ≡ map Noted.Unfired notes.items) }
+    ensures source_left { ButForSession (asked_by words.now) (S.left source.new ≡ S.left source.old) }
+    ensures source_quiet { ButForSession (asked_by words.now) (S.faults source.new ≡ S.faults source.old) }
     ensures source_counted { S.faults source.old ≤ S.faults source.new }
     ensures counted { F.faults files.old ≤ F.faults files.new }
     ensures same { F.holds files.new ≡ F.holds files.old }
@@ -104,6 +123,10 @@ pub(crate) fn ask<
                 rt, alloc, hasher, workers, source, files, gate, notes,
             );
             of_session(alloc, found)
+        }
+        Ok(Command::Assembly(AssemblyWords { file })) => {
+            let found = find_assembly(alloc, files, file);
+            untold(of_assembly(alloc, found), notes)
         }
         Err(CommandError::Usage(kind)) => untold(silent(alloc, Answer::Usage(kind)), notes),
         Err(CommandError::NoMemory) => untold(silent(alloc, Answer::NoMemory), notes),

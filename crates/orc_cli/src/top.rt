@@ -2,10 +2,11 @@ ghost use Rattle.std.specs.Prelude.{◌≡◌, ◌≢◌, ◌≤◌, ℕ, map, A
 ghost use Rattle.command_line.specs.Words.{asked_by};
 ghost use Rattle.answers.specs.Answers.{status_of};
 ghost use Rattle.answers.specs.Written.{held_by};
+ghost use Rattle.as_answers.specs.Clauses.{AsAnswers, as_call};
 ghost use Rattle.noted.specs.Heard.{AllHaveHeard};
 ghost use Rattle.run_answers.specs.Clauses.{Answers, call_of};
 ghost use Rattle.session_answers.specs.Clauses.{SessionAnswers, session_call};
-ghost use Rattle.orc_cli.specs.Asking.{ForRun, ForSession};
+ghost use Rattle.orc_cli.specs.Asking.{ButForSession, ForAssembly, ForRun, ForSession};
 
 use crate::asking::{Asked, ask};
 use crate::writing::write_found;
@@ -36,7 +37,7 @@ pub struct Ended<N: Notify> {
 /// `run` reads the files, links their objects in a session, runs the program from the entry, writes the run's
 /// output on `out`, and on `log` the session's journal and the end line. `session` reads the script on the source
 /// and its files, runs its session, writes on `out` the journal and the result of each line, and on `log` the end
-/// line.
+/// line. `as` reads the file, assembles its text, writes on `out` the object, and on `log` the end line.
 ///
 /// Word 0 is the program's name, word 1 the command. The runtime gives the threads of clients and workers, and the
 /// seed by which names are hashed. The notifiers are for the watch lines of a script.
@@ -75,19 +76,25 @@ pub fn orc<
         (F.holds files.old) (F.faults files.old) (F.faults files.new)
         (held_by (O.held out.old) (O.faults out.old)) (held_by (O.held out.new) (O.faults out.new))
         (held_by (L.held log.old) (L.faults log.old)) (held_by (L.held log.new) (L.faults log.new))) result.answer) }
+    // What the assembly of a file is answered.
+    ensures assembly { ForAssembly (asked_by words.now) (λ file. AsAnswers (as_call file
+        (F.holds files.old) (F.faults files.old) (F.faults files.new)
+        (held_by (O.held out.old) (O.faults out.old)) (held_by (O.held out.new) (O.faults out.new))
+        (held_by (L.held log.old) (L.faults log.old)) (held_by (L.held log.new) (L.faults log.new))) result.answer) }
 
     // But for a session the source is not read. The files hold what they held. No count falls.
-    ensures source_left { ForRun (asked_by words.now) (λ asked. S.left source.new ≡ S.left source.old) }
-    ensures source_quiet { ForRun (asked_by words.now) (λ asked. S.faults source.new ≡ S.faults source.old) }
+    ensures source_left { ButForSession (asked_by words.now) (S.left source.new ≡ S.left source.old) }
+    ensures source_quiet { ButForSession (asked_by words.now) (S.faults source.new ≡ S.faults source.old) }
     ensures source_counted { S.faults source.old ≤ S.faults source.new }
     ensures files_same { F.holds files.new ≡ F.holds files.old }
     ensures files_counted { F.faults files.old ≤ F.faults files.new }
     ensures out_counted { O.faults out.old ≤ O.faults out.new }
     ensures log_counted { L.faults log.old ≤ L.faults log.new }
 
-    // A notifier that was told has heard how its lookup ended, and any other one nothing. A run tells none: all come back in their order.
+    // A notifier that was told has heard how its lookup ended, and any other one nothing. Only a session tells any: else all come back in
+    // their order.
     ensures heard { AllHaveHeard N.heard result.notes }
-    ensures notes { ForRun (asked_by words.now) (λ asked. result.notes ≡ map Noted.Unfired notes.items) }
+    ensures notes { ButForSession (asked_by words.now) (result.notes ≡ map Noted.Unfired notes.items) }
 {
     orc_sized::<S, F, O, L, G, N, R, JOURNAL_LIMIT>(
         rt, alloc, words, source, files, out, log, gate, notes,
@@ -132,19 +139,25 @@ pub fn orc_sized<
         (F.holds files.old) (F.faults files.old) (F.faults files.new)
         (held_by (O.held out.old) (O.faults out.old)) (held_by (O.held out.new) (O.faults out.new))
         (held_by (L.held log.old) (L.faults log.old)) (held_by (L.held log.new) (L.faults log.new))) result.answer) }
+    // What the assembly of a file is answered.
+    ensures assembly { ForAssembly (asked_by words.now) (λ file. AsAnswers (as_call file
+        (F.holds files.old) (F.faults files.old) (F.faults files.new)
+        (held_by (O.held out.old) (O.faults out.old)) (held_by (O.held out.new) (O.faults out.new))
+        (held_by (L.held log.old) (L.faults log.old)) (held_by (L.held log.new) (L.faults log.new))) result.answer) }
 
     // But for a session the source is not read. The files hold what they held. No count falls.
-    ensures source_left { ForRun (asked_by words.now) (λ asked. S.left source.new ≡ S.left source.old) }
-    ensures source_quiet { ForRun (asked_by words.now) (λ asked. S.faults source.new ≡ S.faults source.old) }
+    ensures source_left { ButForSession (asked_by words.now) (S.left source.new ≡ S.left source.old) }
+    ensures source_quiet { ButForSession (asked_by words.now) (S.faults source.new ≡ S.faults source.old) }
     ensures source_counted { S.faults source.old ≤ S.faults source.new }
     ensures files_same { F.holds files.new ≡ F.holds files.old }
     ensures files_counted { F.faults files.old ≤ F.faults files.new }
     ensures out_counted { O.faults out.old ≤ O.faults out.new }
     ensures log_counted { L.faults log.old ≤ L.faults log.new }
 
-    // A notifier that was told has heard how its lookup ended, and any other one nothing. A run tells none: all come back in their order.
+    // A notifier that was told has heard how its lookup ended, and any other one nothing. Only a session tells any: else all come back in
+    // their order.
     ensures heard { AllHaveHeard N.heard result.notes }
-    ensures notes { ForRun (asked_by words.now) (λ asked. result.notes ≡ map Noted.Unfired notes.items) }
+    ensures notes { ButForSession (asked_by words.now) (result.notes ≡ map Noted.Unfired notes.items) }
 {
     let hasher = name_hasher(rt);
     let Asked { found, notes } = ask::<S, F, G, N, R, JMAX>(

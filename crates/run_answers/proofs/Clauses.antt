@@ -25,7 +25,7 @@ use Rattle.answers.specs.Memory.{wanted_memory}
 use Rattle.run_answers.specs.Lost.{lost_answer, refusal_of, unit_of}
 use Rattle.run_answers.specs.Sessions.{IsAnswerOf, Ran, NoEntry, NotReady, NotDefined, NoPlace, answer_of}
 use Rattle.answers.specs.declared.answer.Answer.{Answer}
-use Rattle.answers.specs.declared.answer.Answer.TheVariants.{Done, Exited, Usage, ReadFault, FileFault, WriteFault, ScriptRefused, ObjectRefused, TooLong, Missing, LinkRefused, DepFailed, Trap, OutOfFuel, OutputFull, JournalFull, NoMemory, DefineRefused}
+use Rattle.answers.specs.declared.answer.Answer.TheVariants.{AsmRefused, Done, Exited, Usage, ReadFault, FileFault, WriteFault, ScriptRefused, ObjectRefused, TooLong, Missing, LinkRefused, DepFailed, Trap, OutOfFuel, OutputFull, JournalFull, NoMemory, DefineRefused}
 use Rattle.answers.proofs.Sinks.{kept_as, whole_part}
 use Rattle.answers.proofs.Stops.{fault_parts, file_cases, loaded_never_stops, stops_so}
 
@@ -70,6 +70,7 @@ not_both ReadFault i b = absurd i
 not_both (FileFault k) i b = absurd i
 not_both WriteFault i b = absurd i
 not_both (ScriptRefused line why) i b = absurd i
+not_both (AsmRefused line why) i b = absurd i
 not_both (ObjectRefused k why) i b = absurd i
 not_both (TooLong k) i b = absurd i
 not_both (Missing name) i b = absurd b
@@ -107,6 +108,7 @@ Cause asked told before after ReadFault output = ⊥
 Cause asked told before after (FileFault k) output = FaultsAt asked before after k × (output ≡ [])
 Cause asked told before after WriteFault output = ⊥
 Cause asked told before after (ScriptRefused line why) output = ⊥
+Cause asked told before after (AsmRefused line why) output = ⊥
 Cause asked told before after (ObjectRefused k why) output = Stops asked told before after (load.Refused k why) × (output ≡ [])
 Cause asked told before after (TooLong k) output = Stops asked told before after (load.TooLong k) × (output ≡ [])
 Cause asked told before after (Missing name) output = output ≡ []
@@ -298,6 +300,7 @@ quiet_output asked told before after ReadFault output q c = absurd c
 quiet_output asked told before after (FileFault _) output q c = c.1
 quiet_output asked told before after WriteFault output q c = absurd q
 quiet_output asked told before after (ScriptRefused _ _) output q c = absurd c
+quiet_output asked told before after (AsmRefused _ _) output q c = absurd c
 quiet_output asked told before after (ObjectRefused _ _) output q c = c.1
 quiet_output asked told before after (TooLong _) output q c = c.1
 quiet_output asked told before after (Missing _) output q c = c

@@ -9,3 +9,4 @@ pub mod SoundSymbols
 pub mod SoundTexts
 pub mod Typed
 pub mod Canonicals
+pub mod OneObject

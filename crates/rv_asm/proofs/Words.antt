@@ -2,16 +2,15 @@
 use Rattle.std.proofs.Common.{◌≡◌, ℕ, zero, suc, ◌+◌, ◌<◌, ◌≤◌, List, [], ◌∷◌, ◌++◌, length, get_or, take, None, ap, ◌∙◌, arith, add-zero}
 use Rattle.std.proofs.lemmas.List.{take_more, take_all}
 use Rattle.orc_words.specs.Numbers.{with_number}
-use Rattle.rv_insn.specs.Rows.{Fits}
 use Rattle.asm_state.specs.declared.section.Code.{Code}
 use Rattle.asm_state.specs.Sections.{StandIn}
 use Rattle.asm_state.specs.Symbols.{Symbols}
 use Rattle.rv_asm.specs.Branches.{filled, far_line, first_far_in, first_far_from}
-use Rattle.rv_asm.specs.Sections.{Encoded}
+use Rattle.rv_asm.specs.Sections.{Encoded, IsWord}
 use Rattle.rv_asm.proofs.Firsts.{lesser_left, lesser_right}
 use Rattle.asm_state.specs.Sections.{Made}
 
-pub encoded_more : (s : Symbols) (section : ℕ) (cs : List Code) (c : Code) (word : ℕ) (before between after : ℕ → ℕ) → Encoded s section cs before between → Fits (filled s section c) word → after ≡ with_number 4 c.at word between → Encoded s section (cs ++ c ∷ []) before after
+pub encoded_more : (s : Symbols) (section : ℕ) (cs : List Code) (c : Code) (word : ℕ) (before between after : ℕ → ℕ) → Encoded s section cs before between → IsWord (filled s section c) word → after ≡ with_number 4 c.at word between → Encoded s section (cs ++ c ∷ []) before after
 encoded_more s section [] c word before between after so_far fits is = (word, (fits, is ∙ ap (with_number 4 c.at word) so_far))
 encoded_more s section (x ∷ cs) c word before between after (w, (f, so_far)) fits is =
     (w, (f, encoded_more s section cs c word (with_number 4 x.at w before) between after so_far fits is))
@@ -42,7 +41,7 @@ near_in s section (m ∷ ms) (suc i) d near lt =
 pub stands_at : (to now : ℕ) (cs : List Code) (i : ℕ) (d : Code) → now ≡ to → StandIn 0 cs to → i < length cs → (get_or cs i d).at + 4 ≤ now
 stands_at to now cs i d is stand lt = omega (arith, is, stands_inside 0 to cs i d stand lt)
 
-pub put_more : (s : Symbols) (section : ℕ) (cs : List Code) (i : ℕ) (d : Code) (before now new : ℕ → ℕ) → i < length cs → Encoded s section (take i cs) before now → (word : ℕ) × Fits (filled s section (get_or cs i d)) word × (new ≡ with_number 4 (get_or cs i d).at word now) → Encoded s section (take (i + 1) cs) before new
+pub put_more : (s : Symbols) (section : ℕ) (cs : List Code) (i : ℕ) (d : Code) (before now new : ℕ → ℕ) → i < length cs → Encoded s section (take i cs) before now → (word : ℕ) × IsWord (filled s section (get_or cs i d)) word × (new ≡ with_number 4 (get_or cs i d).at word now) → Encoded s section (take (i + 1) cs) before new
 put_more s section cs i d before now new lt so_far (word, fits, is) =
     rw (take_more cs i d lt) (encoded_more s section (take i cs) (get_or cs i d) word before now new so_far fits is)
 

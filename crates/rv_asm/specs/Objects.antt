@@ -36,3 +36,7 @@ IsAnswer read (Err error.NoMemory) = Unit {0}
 -- what an assembler answers to a text: its object or its first bad line, unless memory ran out
 abbrev pub Assembles : List ℕ → Result ElfObject AsmError → Type 0
 Assembles text answer = IsAnswer (reading text) answer
+
+-- a text has one object at most
+abbrev pub HaveOneObject : Type 0
+HaveOneObject = (text : List ℕ) (one other : ElfObject) → Assembles text (Ok one) → Assembles text (Ok other) → one ≡ other

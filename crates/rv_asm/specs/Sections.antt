@@ -1,8 +1,9 @@
 -- The sections of an object, made of those of the text.
-use Rattle.std.specs.Prelude.{◌≡◌, ℕ, Bool, true, false, not, List, [], ◌∷◌, length, map, slice_get, slice_index, slice_index_or, Some}
+use Rattle.std.specs.Prelude.{◌≡◌, ℕ, ◌<◌, ◌^◌, Bool, true, false, not, List, [], ◌∷◌, length, map, slice_get, slice_index, slice_index_or, Some}
 use Rattle.std.specs.List.{filter}
 use Rattle.orc_words.specs.Numbers.{with_number}
 use Rattle.rv_insn.specs.Rows.{Fits}
+use Rattle.rv_insn.specs.declared.insn.Insn.{Insn}
 use Rattle.elf_read.specs.declared.object.Reloc.{Reloc}
 use Rattle.elf_read.specs.declared.object.Section.{Section}
 use Rattle.asm_lines.specs.declared.statement.SectionKind.{SectionKind}
@@ -29,11 +30,15 @@ flags_of ReadOnly = 2
 
 -- ---- bytes
 
+-- the 32 bits of an instruction
+abbrev pub IsWord : Insn → ℕ → Type 0
+IsWord insn word = (word < 2 ^ 32) × Fits insn word
+
 -- the bytes, as a function from place to byte, once the words of instructions stand at their places
 abbrev pub Encoded : Symbols → ℕ → List Code → (ℕ → ℕ) → (ℕ → ℕ) → Type 0
 Encoded s section [] before after = after ≡ before
 Encoded s section (c ∷ cs) before after =
-    (word : ℕ) × (Fits (filled s section c) word × Encoded s section cs (with_number 4 c.at word before) after)
+    (word : ℕ) × (IsWord (filled s section c) word × Encoded s section cs (with_number 4 c.at word before) after)
 
 -- the bytes of a section: its data, and the words of its instructions
 pub record IsContents (s : Symbols) (section : ℕ) (m : Made) (bytes : List ℕ) : Type 0 where

@@ -1,7 +1,6 @@
 ghost use Rattle.std.specs.Prelude.{◌≡◌, ◌+◌, ◌≤◌, ℕ, false, All, None, length, slice_index, IfOk, if◌then◌else◌};
 ghost use Rattle.orc_words.specs.Numbers.{with_number};
 ghost use Rattle.rv_insn.specs.Range.{InRange};
-ghost use Rattle.rv_insn.specs.Rows.{Fits};
 ghost use Rattle.asm_state.specs.Sections.{StandIn, is_bss};
 ghost use Rattle.asm_state.specs.declared.section.Code.{Code as CodeSeen};
 ghost use Rattle.rv_asm.specs.Branches.{far_line, first_far_in, filled};
@@ -20,7 +19,7 @@ fn put_word(symbols: &SymbolBook, section: u32, code: &Code, bytes: &mut [u8])
     requires near { far_line symbols.now section code.now ≡ None }
     requires inside { code.now.at + 4 ≤ length bytes.old }
     ensures len { length bytes.new ≡ length bytes.old }
-    ensures word { (word : ℕ) × Fits (filled symbols.now section code.now) word × (slice_index bytes.new ≡ with_number 4 code.now.at word (slice_index bytes.old)) }
+    ensures word { (word : ℕ) × want.IsWord (filled symbols.now section code.now) word × (slice_index bytes.new ≡ with_number 4 code.now.at word (slice_index bytes.old)) }
 {
     let insn = filled(symbols, section, code);
     put_le(bytes, code.at as usize, 4, encode(&insn) as u64);

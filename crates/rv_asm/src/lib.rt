@@ -13,6 +13,7 @@ mod contents;
 mod error;
 mod far;
 mod filling;
+mod laws;
 mod object;
 mod order;
 mod relocs;
@@ -20,4 +21,5 @@ mod sections;
 mod symbols;
 
 pub use error::AsmError;
+pub use laws::have_one_object;
 pub use object::assemble;

@@ -5,11 +5,13 @@ use Rattle.orc_ids.specs.declared.lookup.Wanted.{Wanted}
 use Rattle.session_model.specs.Meaning.{Meaning}
 use Rattle.session_model.specs.State.{plain_history}
 use Rattle.session_model.specs.declared.entry.Entry.{Entry}
-use Rattle.journal_text.specs.Journal.{text_of_history}
+use Rattle.journal_text.specs.Journal.{AreKnown, text_of_history}
+use Rattle.result_text.specs.Known.{AreKnownEnds}
 use Rattle.result_text.specs.Results.{text_of_ends}
 use Rattle.object_files.specs.Files.{Told}
 use Rattle.noted.specs.Heard.{AllHaveHeard}
 use Rattle.noted.specs.declared.notes.Noted.{Noted}
+use Rattle.session_script.specs.declared.script.ClientLine.{ClientLine}
 use Rattle.session_script.specs.declared.script.Script.{Script}
 use Rattle.session_units.specs.Units.{meaning_of}
 use Rattle.session_units.specs.declared.unit.ObjectUnit.{ObjectUnit}
@@ -25,7 +27,8 @@ use Rattle.answers.specs.declared.answer.Answer.{Answer}
 use Rattle.answers.specs.declared.answer.Answer.TheVariants.{NoMemory}
 use Rattle.session_answers.specs.Ends.{session_answer}
 use Rattle.session_answers.specs.Found.{HasSession}
-use Rattle.session_answers.specs.Texts.{counted, wanted_by}
+use Rattle.session_answers.specs.Texts.{IsSession, counted, wanted_by, wanted_by_all}
+use Rattle.session_names.proofs.Sessions.{session_names_known}
 use Rattle.session_command.specs.Loading.{IsLoaded}
 use Rattle.session_command.specs.Places.{ArePut}
 use Rattle.session_command.specs.declared.command.Loaded.{Loaded}
@@ -51,6 +54,37 @@ module _ {N : Type 0} (heard : N → Option Outcome) (jmax workers : ℕ) (hande
     pub put : ArePut heard (length handed) notified.told.items back
     pub all : answer ≢ NoMemory → length back ≡ length handed
 
+  -- the plan is the script's, and this is the history of its run
+  abbrev WasAsked : Type 0
+  WasAsked = script_of meaning_of plan ≡ asked_script (map meaning_of loaded.units.items) loaded.script
+
+  abbrev HasRun : Type 0
+  HasRun = IsScriptRun jmax workers (script_of meaning_of plan) end.set_up Ends History
+
+  is_session : (left : Option (List ℕ)) (told : Told) (is : IsLoaded left (counted (length handed)) told loaded) → WasAsked → HasRun → IsSession jmax workers told is.asked loaded.script.names History end.set_up Ends
+  is_session left told is asked run = record {
+    units = map meaning_of loaded.units.items;
+    loaded = is.has.units;
+    named = is.has.named;
+    run = subst (λ s. IsScriptRun jmax workers s end.set_up Ends History) (subst (λ (s : Script). script_of meaning_of plan ≡ asked_script (map meaning_of loaded.units.items) s) is.has.script asked) run;
+  }
+
+  wanted_as_asked : (left : Option (List ℕ)) (told : Told) (is : IsLoaded left (counted (length handed)) told loaded) → map (map wanted_by) loaded.script.clients ≡ wanted_by_all is.asked
+  wanted_as_asked left told is = ap (λ (s : Script). map (map wanted_by) s.clients) is.has.script
+
+  module _ (left : Option (List ℕ)) (told : Told) (is : IsLoaded left (counted (length handed)) told loaded) (asked : WasAsked) (run : HasRun) where
+    known : AreKnown loaded.script.names History × AreKnownEnds loaded.script.names (wanted_by_all is.asked) Ends
+    known = session_names_known jmax workers (counted (length handed)) is.is.bytes told is.asked loaded.script.names History end.set_up Ends is.is.is (is_session left told is asked run)
+
+    -- the names of the journal, and those of the lines and their ends, are names of the table
+    pub journal_known : (entries : List (Entry ObjectUnit)) → entries ≡ journal → AreKnown loaded.script.names (plain_history meaning_of entries)
+    journal_known entries same = subst (λ es. AreKnown loaded.script.names (plain_history meaning_of es)) (sym same) known.0
+
+    pub ends_known : (wanted : List (List (List Wanted))) (clients : List (List ClientLine)) (ends : List (List LineEnd)) → wanted ≡ map (map wanted_by) clients → clients ≡ loaded.script.clients → ends ≡ Ends → AreKnownEnds loaded.script.names wanted ends
+    ends_known wanted clients ends wanted_are clients_are ends_are =
+        subst (λ w. AreKnownEnds loaded.script.names w ends) (sym (wanted_are ∙ (ap (map (map wanted_by)) clients_are ∙ wanted_as_asked left told is)))
+        (subst (λ e. AreKnownEnds loaded.script.names (wanted_by_all is.asked) e) (sym ends_are) known.1)
+
   has_session : (left : Option (List ℕ)) (told : Told) → IsLoaded left (counted (length handed)) told loaded → (wanted : List (List (List Wanted))) (answer : Answer) (output : List ℕ) (back : List (Noted N)) →
       WasRun wanted answer output back → HasSession heard jmax workers handed left told answer output back
   has_session left told is wanted answer output back w = record {
@@ -60,14 +94,9 @@ module _ {N : Type 0} (heard : N → Option Outcome) (jmax workers : ℕ) (hande
     history = History;
     stopped = end.set_up;
     ends = Ends;
-    session = record {
-      units = map meaning_of loaded.units.items;
-      loaded = is.has.units;
-      named = is.has.named;
-      run = subst (λ s. IsScriptRun jmax workers s end.set_up Ends History) (subst (λ (s : Script). script_of meaning_of plan ≡ asked_script (map meaning_of loaded.units.items) s) is.has.script w.asked) w.run;
-    };
+    session = is_session left told is w.asked w.run;
     answers = w.answers;
-    text = w.text ∙ ap (λ l. text_of_history loaded.script.names History ++ text_of_ends loaded.script.names l Ends) (w.wanted_are ∙ ap (λ (s : Script). map (map wanted_by) s.clients) is.has.script);
+    text = w.text ∙ ap (λ l. text_of_history loaded.script.names History ++ text_of_ends loaded.script.names l Ends) (w.wanted_are ∙ wanted_as_asked left told is);
     notes = λ quiet. are_back heard History (length handed) notified.told.items back w.put
         (were_told meaning_of heard jmax workers plan end.set_up Ends History w.run notified w.notified_are)
         (all_were_told meaning_of heard jmax workers plan end.set_up Ends History w.run notified w.notified_are)

@@ -2,15 +2,16 @@
 ghost use Rattle.std.specs.Prelude.{◌≡◌, map, IfOk};
 ghost use Rattle.session_model.specs.State.{plain_history};
 ghost use Rattle.session_units.specs.Units.{meaning_of};
-ghost use Rattle.journal_text.specs.Journal.{text_of_history};
+ghost use Rattle.journal_text.specs.Journal.{AreKnown, text_of_history};
+ghost use Rattle.result_text.specs.Known.{AreKnownEnds};
 ghost use Rattle.result_text.specs.Results.{text_of_ends};
 ghost use Rattle.session_answers.specs.Texts.{wanted_by};
 ghost use Rattle.std.specs.Prelude.{◌++◌};
 
-use journal_text::{are_known, text_of};
+use journal_text::text_of;
 use orc_ids::{Bytes, Items, Wanted};
 use orc_names::Names;
-use result_text::{are_known_ends, text_of_results};
+use result_text::text_of_results;
 use script_laws::LineEnd;
 use session_model::Entry;
 use session_script::ClientLine;
@@ -54,8 +55,7 @@ pub(crate) fn wanted_by_all(
     Ok(all)
 }
 
-/// The text of a journal, and then a line for each line of the clients. Where a name weren't of the table, the
-/// answer would be that of memory.
+/// The text of a journal whose names the table gave, and then a line for each line of the clients.
 pub(crate) fn session_text(
     alloc: Global,
     journal: &[Entry<ObjectUnit>],
@@ -63,12 +63,11 @@ pub(crate) fn session_text(
     wanted: &[Items<Items<Wanted>>],
     ends: &[Vec<LineEnd>],
 ) -> Result<Bytes, AllocError>
+    requires known { AreKnown names.now (plain_history meaning_of journal.now) }
+    requires ends { AreKnownEnds names.now wanted.now (map (λ c. c.items) ends.now) }
     ensures { IfOk result (λ text. text ≡ text_of_history names.now (plain_history meaning_of journal.now)
         ++ text_of_ends names.now wanted.now (map (λ c. c.items) ends.now)) }
 {
-    if !are_known(journal, names) || !are_known_ends(names, wanted, ends) {
-        return Err(AllocError);
-    }
     let mut text = text_of(alloc, journal, names)?.into_vec();
     text.extend_from_slice(text_of_results(alloc, names, wanted, ends)?.as_slice())?;
     Ok(Bytes::from_vec(text))

@@ -8,7 +8,7 @@ use std::alloc::Global;
 use std::test::Fail;
 
 /// The objects of these tests, each by its name and its text.
-const TEXTS: [(&str, &str); 10] = [
+const TEXTS: [(&str, &str); 11] = [
     (
         "a.o",
         ".globl main\nmain: tail f\n.globl g\ng: addi a0, zero, 7\nret\n",
@@ -17,6 +17,10 @@ const TEXTS: [(&str, &str); 10] = [
     ("p.o", ".globl main\nmain: tail f\n"),
     ("q.o", ".globl f\nf: tail h\n"),
     ("r.o", ".globl h\nh: tail nosuch\n"),
+    (
+        "two.o",
+        ".globl m\nm: tail f\n.section .rodata\n.globl t\nt: .word 5\n",
+    ),
     ("k.o", ".globl k\nk: addi a0, zero, 3\nret\n"),
     ("lib.o", ".globl f\nf: addi a0, zero, 5\nret\n"),
     (

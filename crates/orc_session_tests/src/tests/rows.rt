@@ -47,6 +47,32 @@ c1 l3 inerror i1
     )
 }
 
+/// Of one object `m` needs `f`, and `f` a name that is nowhere behind `h`; `t` lies in a block of its own.
+const HALF_LOST: &str = "dylib main
+tracker main t
+object main t two.o
+object main t q.o
+object main t r.o
+client
+lookup ready main:all m
+lookup ready main:all t
+";
+
+#[test]
+fn a_failure_leaves_the_other_block_of_a_unit(rt: HostRuntime) -> Result<(), Fail> {
+    expect_results(
+        &rt,
+        HALF_LOST,
+        "
+16 s1 emit u0 i0:i2;i1: = emitted
+",
+        "\
+c1 l1 failed i0
+c1 l2 found t@10000008
+",
+    )
+}
+
 const DANGLING: &str = "dylib main
 tracker main ta
 tracker main tb

@@ -12,7 +12,7 @@ use Rattle.script_calls.specs.Plans.{script_of}
 use Rattle.script_plan.specs.Asked.{asked_script}
 use Rattle.session_command.specs.Places.{ArePut, HasHeardNothing, NoneHasHeard}
 use Rattle.session_command.proofs.Loads.{few_clients, few_unused, no_aliases, well_loaded}
-use Rattle.session_command.proofs.Sessions.{WasRun, heard_kept, session_found}
+use Rattle.session_command.proofs.Sessions.{WasRun, ends_known, heard_kept, journal_known, session_found}
 use Rattle.session_command.proofs.command.run_loaded.Goals as goal
 
 pub plan_of-requires-clause-well : goal.plan_of-requires-clause-well
@@ -32,6 +32,24 @@ run_script-requires-after_bounds g c κs within =
     let asked = subst (λ us. script_of meaning_of plan ≡ asked_script (map meaning_of us) c.args.loaded.script) units c.in_ok-plan.ensures.asked in
     let few = few_clients l.0 n l.1 c.args.loaded l.2 plan asked in
     (omega arith, (c.requires.limit, (omega (arith, few, c.requires.few), c.in_ok-plan.ensures.can (subst (All (λ unit. (meaning_of unit).source ≡ None)) (sym units) (no_aliases l.0 n l.1 c.args.loaded l.2)))))
+
+pub session_text-text-requires-clause-known : goal.session_text-text-requires-clause-known
+session_text-text-requires-clause-known g c =
+    let l = c.requires.loaded in
+    let plan = c.in_ok-plan.field-0.plan in
+    let s = c.in_ok-session.field-0 in
+    let asked = subst (λ us. script_of meaning_of plan ≡ asked_script (map meaning_of us) c.args.loaded.script) c.as_slice-2.ensures.value c.in_ok-plan.ensures.asked in
+    journal_known g.N.Notify.heard g.row.JMAX c.args.workers c.args.notes.items c.args.loaded plan s.session.journal s.end s.notified
+    l.0 l.1 l.2 asked c.in_ok-session.ensures.run _ c.journal.ensures.entries
+
+pub session_text-text-requires-clause-ends : goal.session_text-text-requires-clause-ends
+session_text-text-requires-clause-ends g c =
+    let l = c.requires.loaded in
+    let plan = c.in_ok-plan.field-0.plan in
+    let s = c.in_ok-session.field-0 in
+    let asked = subst (λ us. script_of meaning_of plan ≡ asked_script (map meaning_of us) c.args.loaded.script) c.as_slice-2.ensures.value c.in_ok-plan.ensures.asked in
+    ends_known g.N.Notify.heard g.row.JMAX c.args.workers c.args.notes.items c.args.loaded plan s.session.journal s.end s.notified
+    l.0 l.1 l.2 asked c.in_ok-session.ensures.run _ _ _ (c.as_slice-3.ensures.value ∙ c.in_ok-wanted.ensures) c.as_slice.ensures (ap (map (λ x. x.items)) c.as_slice-4.ensures.value)
 
 pub put_in_order-notes-requires : goal.put_in_order-notes-requires
 put_in_order-notes-requires g c =

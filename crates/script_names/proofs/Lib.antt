@@ -1,0 +1,4 @@
+pub mod SaidSoFar
+pub mod SetupSaid
+pub mod CallsSaid
+pub mod ScriptsSaid
