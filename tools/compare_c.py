@@ -5,11 +5,14 @@ qemu-riscv64 on the same objects, linked statically with a start that calls main
 
     tools/compare_c.py [ORC] [--only WORD] [--levels LEVEL,..] [--keep FOLDER] [--fuel N]
 
-A C file there is a program, and so is a folder: its C files are the objects of one program. ORC is the program,
-by default the one at the top of the repository. --only takes the programs alone whose names have WORD in them,
-and --keep keeps the objects. The exit status is 1 where something differs."""
+A C file there is a program, and so is a folder: its C files are the objects of one program. A file of
+tools/library_programs/ is a program of its object and of those members of picolibc's and libgcc's archives that the
+static link takes; it is passed over where these aren't installed. ORC is the program, by default the one at the top of
+the repository. --only takes the programs alone whose names have WORD in them, and --keep keeps the objects. The exit
+status is 1 where something differs."""
 import argparse
 import pathlib
+import re
 import subprocess
 import sys
 import tempfile
@@ -17,6 +20,10 @@ import time
 
 TOP = pathlib.Path(__file__).resolve().parent.parent
 FOLDERS = [TOP / "examples", TOP / "tools" / "c_programs"]
+LIBRARY_PROGRAMS = TOP / "tools" / "library_programs"
+# A C library for RV64IM, and what its members need of the compiler's.
+PICOLIBC = pathlib.Path("/usr/lib/picolibc/riscv64-unknown-elf")
+ARCHIVES = [*PICOLIBC.glob("lib/rv64im/lp64/libc.a"), *pathlib.Path("/usr/lib/gcc/riscv64-unknown-elf").glob("*/rv64im/lp64/libgcc.a")]
 # Code has addresses below 2^31 in the static link too, so that absolute addresses (medlow) reach.
 TARGET = "-march=rv64im -mabi=lp64 -ffreestanding -fcommon".split()
 COMPILERS = {
@@ -45,6 +52,14 @@ def programs():
     return found
 
 
+def library_programs():
+    """The same of the programs that use the library."""
+    if len(ARCHIVES) < 2:
+        print("picolibc or its libgcc isn't installed: the programs of tools/library_programs are passed over")
+        return {}
+    return {path.stem: [path] for path in sorted(LIBRARY_PROGRAMS.glob("*.c"))}
+
+
 def run(command):
     """What compilers and linkers say is shown where they fail."""
     done = subprocess.run([str(word) for word in command], stderr=subprocess.PIPE)
@@ -63,14 +78,29 @@ def compiled(folder, sources, stem, command):
     objects = []
     for source in sources:
         made = folder / f"{stem}.{source.stem}.o"
-        run([*command, *TARGET, "-I", TOP / "examples", "-c", source, "-o", made])
+        run([*command, *TARGET, "-I", TOP / "examples", "-I", PICOLIBC / "include", "-c", source, "-o", made])
         objects.append(made.name)
     return objects
+
+
+def members(folder, objects, stem):
+    """The members of the archives that a static link of the objects takes, each as a file."""
+    chart = folder / f"{stem}.map"
+    run(["riscv64-linux-gnu-ld", "-static", "--no-relax", f"-Map={chart}", folder / "start.o", *[folder / it for it in objects], *ARCHIVES, "-o", folder / stem])
+    taken = []
+    for archive in ARCHIVES:
+        names = sorted(set(re.findall(rf"^{re.escape(str(archive))}\((.*?)\)$", chart.read_text(), re.MULTILINE)))
+        if names:
+            run(["riscv64-linux-gnu-ar", "x", "--output", folder, archive, *names])
+        taken += names
+    return taken
 
 
 def compare(orc, folder, sources, stem, command, fuel):
     """How many runs of one build of a program differ from that of the static link."""
     objects = compiled(folder, sources, stem, command)
+    if sources[0].parent == LIBRARY_PROGRAMS:
+        objects += members(folder, objects, stem)
     run(["riscv64-linux-gnu-ld", "-static", "--no-relax", folder / "start.o", *[folder / it for it in objects], "-o", folder / stem])
     wanted, status, _, there = outcome(["qemu-riscv64", folder / stem], folder)
     unlike, told = 0, []
@@ -100,7 +130,7 @@ def main():
         folder.mkdir(parents=True, exist_ok=True)
         start = TOP / "tools" / "c_programs" / "start.s"
         run(["riscv64-linux-gnu-as", "-march=rv64im", "-mabi=lp64", start, "-o", folder / "start.o"])
-        for program, sources in programs().items():
+        for program, sources in {**programs(), **library_programs()}.items():
             if arguments.only not in program:
                 continue
             for name, compiler in COMPILERS.items():

@@ -134,8 +134,22 @@ def files_of(hello, even, odd):
         "seven.o": patched(hello, (CODE, load_immediate(10, 7))),
         "many.o": patched(hello, (CODE, load_immediate(10, 300))),
         "large.o": bytes((16 << 20) + 1),
+        "frob.s": b"frob a0\n",
+        **{f"bad{k}.s": text for k, (text, _) in enumerate(REFUSED_TEXTS)},
     }
 
+
+# An assembly text and the answer: its first bad line, for each reason.
+REFUSED_TEXTS = [
+    (b"nop\n1x: nop\n", "2 label"),
+    (b"x: nop\n\nx: nop\n", "3 label"),
+    (b"frob a0", "1 word"),
+    (b"nop\naddi a0, a1\n", "2 operands"),
+    (b"addi a0, a1, 2048\n", "1 number"),
+    (b"x:\n.comm x, 8, 8\n", "2 name"),
+    (b".section .other\n", "1 section"),
+    (b".text\nnop\n.balign 3\n", "3 number"),
+]
 
 # The words, the exit status, standard output and standard error.
 CASES = [
@@ -180,6 +194,16 @@ CASES = [
     (["run", "class32.o"], 105, "", "end object refused 0 e3\n"),
     (["run", "flags.o"], 105, "", "end object refused 0 e7 5\n"),
     (["run", "large.o"], 106, "", "end too long 0\n"),
+    (["as", "frob.s"], 115, "", "end asm refused 1 word\n"),
+    (["as", "hello.o"], 115, "", "end asm refused 1 word\n"),
+    (["as", "nosuch.s"], 102, "", "end file fault 0\n"),
+    (["as", "."], 102, "", "end file fault 0\n"),
+    (["as", "large.o"], 106, "", "end too long 0\n"),
+    (["as"], 100, "", "end usage bad words\n"),
+    (["as", "hello.s", "hello.s"], 100, "", "end usage bad words\n"),
+    (["as", "hello.s", "--workers", "0"], 100, "", "end usage bad words\n"),
+    (["as", "--help"], 100, "", "end usage bad words\n"),
+    *((["as", f"bad{k}.s"], 115, "", f"end asm refused {line}\n") for k, (_, line) in enumerate(REFUSED_TEXTS)),
 ]
 
 
@@ -258,6 +282,12 @@ class Edge:
         told = self.run(words)
         self.compare(words, (status, out.encode(), log.encode()), (told.returncode, told.stdout, told.stderr))
 
+    def assembled(self, source, wanted, words=()):
+        """The object of a text, byte by byte."""
+        shutil.copy(f"{ROOT}/examples/{source}.s", f"{self.folder}/{source}.s")
+        told = self.run(["as", *words, f"{source}.s"])
+        self.compare(f"as {source}.s", (0, wanted, b"end done\n"), (told.returncode, told.stdout, told.stderr))
+
     def ending(self, words, status, out, end):
         """A run with workers, whose journal may be any of many."""
         told = self.run(words)
@@ -286,8 +316,9 @@ class Edge:
 
     def write_fault(self, what, **how):
         """A write that fails is answered by the status alone, and the log isn't begun."""
-        told = self.run(["run", "hello.o"], **how)
-        self.compare(what, (103, b""), (told.returncode, told.stderr))
+        for words in (["run", "hello.o"], ["as", "hello.s"]):
+            told = self.run(words, **how)
+            self.compare(f"{what} of {words}", (103, b""), (told.returncode, told.stderr))
 
     def compiled(self, compiler, target, names):
         """A program of C ends and writes as its objects that stand beside its files."""
@@ -316,6 +347,8 @@ def main():
         edge = Edge(orc, folder)
         for case in CASES:
             edge.case(*case)
+        edge.assembled("hello", kept[0])
+        edge.assembled("hello", kept[0], ["--"])
         for words, *wanted in ENDS:
             for workers in ("1", "4", "16"):
                 edge.ending([*words, "--workers", workers], *wanted)

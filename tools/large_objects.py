@@ -5,9 +5,14 @@
 
 Each has 16 MiB: many symbols and relocations, many sections, and names and ranges that are made to
 cost much. With ORC, the program, it is also measured how long objects with as many symbols and
-relocations as an object may have take to be linked and to do one instruction.
+relocations as an object may have take to be linked and to do one instruction, and how long one takes whose
+symbols nearly all lie in another object, which it refers to by their addresses, or calls; and as long of half
+as many. DUMP may be - then. Beside each is ld.lld with one thread on the same files, where it is installed. Times
+are the least of three runs, in processor and in wall seconds.
 """
+import os
 import random
+import shutil
 import struct
 import subprocess
 import sys
@@ -79,6 +84,34 @@ def many_pairs(symbols=65536):
     ])
 
 
+def name_table(names):
+    """A string table of these names, and the place of each."""
+    places, at = [], 1
+    for name in names:
+        places.append(at)
+        at += len(name) + 1
+    return b"\0" + b"".join(name + b"\0" for name in names), places
+
+
+def many_externals(count, kind, width):
+    """An object that refers by so many relocations of a kind to as many symbols of another object, and that one."""
+    others = [b"x%d" % j for j in range(count)]
+    names, places = name_table([b"s1", *others])
+    table = bytes(24) + symbol(places[0], 1, 2) + b"".join(symbol(at, 1, 0) for at in places[1:])
+    relocs = b"".join(struct.pack("<QQq", width * (j + 1), (j + 2) << 32 | kind, 0) for j in range(count))
+    text = struct.pack("<II", 0x00000513, 0x00008067) + bytes(width * (count + 1) - 8)
+    refers = build([
+        section(3, b"\0.text\0"), section(1, text, flags=6, align=8, name=1),
+        section(4, relocs, link=4, info=2, entsize=24), section(2, table, link=5, info=1, entsize=24), section(3, names),
+    ])
+    names, places = name_table(others)
+    table = bytes(24) + b"".join(symbol(at, 1, 2, 4 * j) for j, at in enumerate(places))
+    return [refers, build([
+        section(3, b"\0.text\0"), section(1, bytes(4 * count), flags=6, align=8, name=1),
+        section(2, table, link=4, info=1, entsize=24), section(3, names),
+    ])]
+
+
 def many_sections():
     """65,534 kept sections, each with the same long name, the last of which overlaps the first."""
     count = 65500
@@ -124,32 +157,64 @@ def measure(dump, name, data):
     print(f"{name:34} {len(data) / MIB:5.1f} MiB  {best:6.3f} s  {line}")
 
 
-def measure_run(orc, name, data):
-    with tempfile.TemporaryDirectory() as place:
-        Path(place, "large.o").write_bytes(data)
-        best, line = 1e9, ""
-        for _ in range(3):
+def least(command, place):
+    """The least processor and wall times of three runs of a command, and the last line of its log."""
+    processor = wall = float("inf")
+    for _ in range(3):
+        with open(Path(place, "log"), "wb") as log:
             began = time.monotonic()
-            done = subprocess.run([orc, "run", "large.o", "--entry", "s1", "--fuel", "1"], cwd=place, capture_output=True)
-            best = min(best, time.monotonic() - began)
-            line = done.stderr.decode().splitlines()[-1]
-    print(f"{name:34} {len(data) / MIB:5.1f} MiB  {best:6.3f} s  {line}")
+            child = subprocess.Popen([str(word) for word in command], cwd=place, stdout=subprocess.DEVNULL, stderr=log)
+            _, status, used = os.wait4(child.pid, 0)
+            wall = min(wall, time.monotonic() - began)
+            child.returncode = os.waitstatus_to_exitcode(status)
+        processor = min(processor, used.ru_utime + used.ru_stime)
+    return processor, wall, (Path(place, "log").read_bytes().splitlines() or [b""])[-1].decode()
+
+
+def measure_run(orc, name, files):
+    """The times of a run of these files, and of their static link; the processor time of the run."""
+    with tempfile.TemporaryDirectory() as place:
+        words = [f"{k}.o" for k in range(len(files))]
+        for word, data in zip(words, files):
+            Path(place, word).write_bytes(data)
+        size = sum(map(len, files)) / MIB
+        spent, wall, line = least([orc, "run", *words, "--entry", "s1", "--fuel", "1"], place)
+        print(f"{name:34} {size:5.1f} MiB  {spent:6.3f} s processor, {wall:6.3f} s wall  {line}")
+        if shutil.which("ld.lld"):
+            linked, wall, line = least(["ld.lld", "--threads=1", "-static", "-e", "s1", *words, "-o", "linked"], place)
+            print(f"{'  by ld.lld':34} {'':9}  {linked:6.3f} s processor, {wall:6.3f} s wall  {line}")
+        return spent
+
+
+def measure_externals(orc, name, kind, width):
+    """Nearly as many externals as an object may have, and half as many."""
+    most = 65534
+    half = measure_run(orc, f"{most // 2} {name}", many_externals(most // 2, kind, width))
+    whole = measure_run(orc, f"{most} {name}", many_externals(most, kind, width))
+    print(f"  twice as many in {whole / max(half, 1e-3):.2f} times the time")
+
+
+def measure_runs(orc, fine):
+    measure_run(orc, "symbols, relocations, run", [fine])
+    measure_run(orc, "symbols, pairs, run", [many_pairs()])
+    # R_RISCV_64, R_RISCV_CALL_PLT
+    measure_externals(orc, "addresses of another object", 2, 8)
+    measure_externals(orc, "calls of another object", 19, 8)
 
 
 def main():
     dump = sys.argv[1]
     fine, bad = many_relocations()
-    measure(dump, "an empty file", b"")
-    measure(dump, "bytes that are no object", bytes(16 * MIB))
-    measure(dump, "symbols, relocations, last is bad", bad)
-    measure(dump, "symbols, relocations, printed", fine)
-    measure(dump, "sections, the last overlaps", many_sections())
-    measure(dump, "long names, the last symbol is bad", long_names())
-    measure(dump, "names without end", no_zero_byte())
+    if dump != "-":
+        measure(dump, "an empty file", b"")
+        measure(dump, "bytes that are no object", bytes(16 * MIB))
+        measure(dump, "symbols, relocations, last is bad", bad)
+        measure(dump, "symbols, relocations, printed", fine)
+        measure(dump, "sections, the last overlaps", many_sections())
+        measure(dump, "long names, the last symbol is bad", long_names())
+        measure(dump, "names without end", no_zero_byte())
     if len(sys.argv) > 2:
-        orc = Path(sys.argv[2]).resolve()
-        measure_run(orc, "symbols, relocations, run", fine)
-        measure_run(orc, "symbols, pairs, run", many_pairs())
+        measure_runs(Path(sys.argv[2]).resolve(), fine)
 
 
 if __name__ == "__main__":

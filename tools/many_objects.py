@@ -12,7 +12,9 @@ The objects are written here, without an assembler. Shapes:
     star    a first object that calls one function of each other
     wide    two objects of as many functions, each of which has a call of its own object and one of the other
 
-Each is made of 100 and of 1,000 objects (a command line has at most 1,024) or functions, and run with 0, 1, 4 and 16
+    many    10,000 objects of one function, which are more than a command line may have
+
+Each but the last is made of 100 and of 1,000 objects (a command line has at most 1,024) or functions, and run with 0, 1, 4 and 16
 workers, and by a script of 1, 4 and 16 clients, which each look main up and run it, with 4 workers; ld.lld links
 the same files, with one thread, and qemu-riscv64 runs what it made. Times are the least of three runs, in
 processor and wall seconds, and how often that of the fewest objects goes into that of the most is said at the end of a
@@ -320,20 +322,39 @@ def try_shape(table, orc, folder, shape, count, runs):
     table.add(shape, "(run by qemu)", count, processor, wall)
 
 
+# more than a command line may have, and what is answered then
+MANY, TOO_MANY = 10_000, (100, b"end usage bad words\n")
+
+
+def try_many(table, orc, folder, runs):
+    """How long a command takes to be refused that names too many files."""
+    names = [f"many{k}.o" for k in range(MANY)]
+    for name, content in zip(names, chain(MANY)[0]):
+        (folder / name).write_bytes(content)
+    _, status, processor, wall = measured([orc, "run", *names], folder, runs)
+    table.compare("many", (TOO_MANY[1], TOO_MANY[0]), ((folder / "log").read_bytes(), status))
+    table.add("many", "orc, refused", MANY, processor, wall)
+
+
 def main():
     parser = argparse.ArgumentParser(description=__doc__, formatter_class=argparse.RawDescriptionHelpFormatter)
     parser.add_argument("orc", type=pathlib.Path)
     parser.add_argument("--sizes", default="100,1000", metavar="N,..")
-    parser.add_argument("--only", choices=SHAPES)
+    parser.add_argument("--only", choices=[*SHAPES, "many"])
     parser.add_argument("--runs", default=3, type=int, metavar="N")
     parser.add_argument("--keep", type=pathlib.Path, metavar="FOLDER")
     arguments = parser.parse_args()
-    table = Table()
-    for shape in [arguments.only] if arguments.only else SHAPES:
-        for count in map(int, arguments.sizes.split(",")):
-            with tempfile.TemporaryDirectory(prefix="orc-many-") as made:
-                folder = (arguments.keep / f"{shape}-{count}" if arguments.keep else pathlib.Path(made)).resolve()
-                folder.mkdir(parents=True, exist_ok=True)
+    table, sizes = Table(), [int(size) for size in arguments.sizes.split(",")]
+    tries = [(shape, count) for shape in SHAPES for count in sizes] + [("many", MANY)]
+    for shape, count in tries:
+        if arguments.only not in (None, shape):
+            continue
+        with tempfile.TemporaryDirectory(prefix="orc-many-") as made:
+            folder = (arguments.keep / f"{shape}-{count}" if arguments.keep else pathlib.Path(made)).resolve()
+            folder.mkdir(parents=True, exist_ok=True)
+            if shape == "many":
+                try_many(table, arguments.orc.resolve(), folder, arguments.runs)
+            else:
                 try_shape(table, arguments.orc.resolve(), folder, shape, count, arguments.runs)
     print(f"{table.unlike} unlike" if table.unlike else "all alike")
     return 1 if table.unlike else 0
