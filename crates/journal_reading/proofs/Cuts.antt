@@ -115,6 +115,19 @@ spaced-append (w ∷ ws) vs = ap (λ l. 32 ∷ (w ++ l)) (spaced-append ws vs) �
 
 -- Parts
 
+-- the bytes that stand between parts
+abbrev pub comma : ℕ
+comma = 44
+
+abbrev pub colon : ℕ
+colon = 58
+
+abbrev pub semicolon : ℕ
+semicolon = 59
+
+abbrev pub at_sign : ℕ
+at_sign = 64
+
 -- the byte doesn't stand there
 abbrev pub free : ℕ → List ℕ → Bool
 free mark w = every (λ b. not (b == mark)) w
@@ -142,13 +155,13 @@ parts_more mark (b ∷ bs) rest f = let p = and_parts (not (b == mark)) (free ma
 -- Lists
 
 -- the text of a list that isn't empty, without what stands before it
-abbrev pub row : {X : Type 0} → ℕ → (X → List ℕ) → X → List X → List ℕ
-row mark text x xs = text x ++ listed (mark ∷ []) (mark ∷ []) text xs
+abbrev pub joined : {X : Type 0} → ℕ → (X → List ℕ) → X → List X → List ℕ
+joined mark text x xs = text x ++ listed (mark ∷ []) (mark ∷ []) text xs
 
 module _ {X : Type 0} (mark : ℕ) (text : X → List ℕ) (Good : X → Type 0) where
-  parts_row : ((x : X) → Good x → free mark (text x) ≡ true) → (x : X) (xs : List X) → All Good (x ∷ xs) → parts mark (row mark text x xs) ≡ text x ∷ map text xs
-  parts_row free_of x [] good = ap (parts mark) (append-nil (text x)) ∙ parts_one mark (text x) (free_of x (All-head Good x [] good))
-  parts_row free_of x (y ∷ ys) good = parts_more mark (text x) (row mark text y ys) (free_of x (All-head Good x (y ∷ ys) good)) ∙ ap (λ l. text x ∷ l) (parts_row free_of y ys (All-tail Good x (y ∷ ys) good))
+  parts_joined : ((x : X) → Good x → free mark (text x) ≡ true) → (x : X) (xs : List X) → All Good (x ∷ xs) → parts mark (joined mark text x xs) ≡ text x ∷ map text xs
+  parts_joined free_of x [] good = ap (parts mark) (append-nil (text x)) ∙ parts_one mark (text x) (free_of x (All-head Good x [] good))
+  parts_joined free_of x (y ∷ ys) good = parts_more mark (text x) (joined mark text y ys) (free_of x (All-head Good x (y ∷ ys) good)) ∙ ap (λ l. text x ∷ l) (parts_joined free_of y ys (All-tail Good x (y ∷ ys) good))
 
   read_each : {Y : Type 0} (image : X → Y) (read : List ℕ → Y) → ((x : X) → Good x → read (text x) ≡ image x) → (xs : List X) → All Good xs → map read (map text xs) ≡ map image xs
   read_each image read back [] good = refl
@@ -159,14 +172,14 @@ module _ {X : Type 0} (mark : ℕ) (text : X → List ℕ) (Good : X → Type 0)
 
   -- a list whose elements' images are read from their texts is read from its own
   pub images_read : {Y : Type 0} (image : X → Y) (read : List ℕ → Y) → ((x : X) → Good x → read (text x) ≡ image x) → ((x : X) → Good x → free mark (text x) ≡ true) → (x : X) (xs : List X) → All Good (x ∷ xs) →
-      map read (parts mark (row mark text x xs)) ≡ map image (x ∷ xs)
-  images_read image read back free_of x xs good = ap (map read) (parts_row free_of x xs good) ∙ read_each image read back (x ∷ xs) good
+      map read (parts mark (joined mark text x xs)) ≡ map image (x ∷ xs)
+  images_read image read back free_of x xs good = ap (map read) (parts_joined free_of x xs good) ∙ read_each image read back (x ∷ xs) good
 
-  pub row_read : (read : List ℕ → X) → ((x : X) → Good x → read (text x) ≡ x) → ((x : X) → Good x → free mark (text x) ≡ true) → (x : X) (xs : List X) → All Good (x ∷ xs) → map read (parts mark (row mark text x xs)) ≡ x ∷ xs
-  row_read read back free_of x xs good = images_read (λ y. y) read back free_of x xs good ∙ map-id (x ∷ xs)
+  pub joined_read : (read : List ℕ → X) → ((x : X) → Good x → read (text x) ≡ x) → ((x : X) → Good x → free mark (text x) ≡ true) → (x : X) (xs : List X) → All Good (x ∷ xs) → map read (parts mark (joined mark text x xs)) ≡ x ∷ xs
+  joined_read read back free_of x xs good = images_read (λ y. y) read back free_of x xs good ∙ map-id (x ∷ xs)
 
   -- what each element's text and the mark pass, the list's text passes
-  pub row_every : (test : ℕ → Bool) → test mark ≡ true → ((x : X) → Good x → every test (text x) ≡ true) → (x : X) (xs : List X) → All Good (x ∷ xs) → every test (row mark text x xs) ≡ true
-  row_every test m passes x [] good = ap (every test) (append-nil (text x)) ∙ passes x (All-head Good x [] good)
-  row_every test m passes x (y ∷ ys) good = every-append test (text x) (mark ∷ row mark text y ys) (passes x (All-head Good x (y ∷ ys) good))
-      (and_from (test mark) (every test (row mark text y ys)) m (row_every test m passes y ys (All-tail Good x (y ∷ ys) good)))
+  pub joined_every : (test : ℕ → Bool) → test mark ≡ true → ((x : X) → Good x → every test (text x) ≡ true) → (x : X) (xs : List X) → All Good (x ∷ xs) → every test (joined mark text x xs) ≡ true
+  joined_every test m passes x [] good = ap (every test) (append-nil (text x)) ∙ passes x (All-head Good x [] good)
+  joined_every test m passes x (y ∷ ys) good = every-append test (text x) (mark ∷ joined mark text y ys) (passes x (All-head Good x (y ∷ ys) good))
+      (and_from (test mark) (every test (joined mark text y ys)) m (joined_every test m passes y ys (All-tail Good x (y ∷ ys) good)))

@@ -19,7 +19,7 @@ use Rattle.session_model.specs.declared.entry.Why.TheVariants as why
 use Rattle.journal_text.specs.Parts.{name_text, unit_text, level_text, item_text, items_text, wanted_text, wanted_list_text, group_text}
 use Rattle.journal_text.specs.Events.{why_text, ask_word, event_text}
 use Rattle.journal_reading.specs.Readable.{IsNumber, IsWantedName, IsNumbered, IsNamed, IsReadableWhy, IsReadableEvent}
-use Rattle.journal_reading.proofs.Cuts.{parts4, words4, parts5, words6, parts7, last_word, solid, all_solid, solid-append, spaced, spaced-append}
+use Rattle.journal_reading.proofs.Cuts.{comma, semicolon, parts4, words4, parts5, words6, parts7, last_word, solid, all_solid, solid-append, spaced, spaced-append}
 use Rattle.journal_reading.proofs.Numerals.{decimal_solid, value, value-decimal, signed_value, signed_read, signed_solid, is_equals}
 use Rattle.journal_reading.proofs.Names.{place_of, name_read, name_solid, read_wanted, wanted_read, wanted_solid}
 use Rattle.journal_reading.proofs.Lists.{first, rest, list_words, list_spaced, names_spaced, id_value, read_items, items_read, items_solid, read_groups, groups_read, groups_solid}
@@ -43,11 +43,11 @@ ask_words (Some n) = codes "watch" ∷ decimal n ∷ []
 
 -- the words of a lookup behind its first ones
 abbrev lookup_words : List (List ℕ) → List OrderItem → List Wanted → Level → List (List ℕ)
-lookup_words names order wanted lev = list_words 44 item_text order ++ level_text lev ∷ map (wanted_text names) wanted
+lookup_words names order wanted lev = list_words comma item_text order ++ level_text lev ∷ map (wanted_text names) wanted
 
 abbrev pub event_words : List (List ℕ) → Event Meaning → List (List ℕ)
 event_words names (event.Dylib name) = codes "dylib" ∷ name_text names name ∷ []
-event_words names (event.SetOrder d order) = codes "order" ∷ (100 ∷ decimal d.0) ∷ list_words 44 item_text order
+event_words names (event.SetOrder d order) = codes "order" ∷ (100 ∷ decimal d.0) ∷ list_words comma item_text order
 event_words names (event.Attach d t u) = codes "attach" ∷ (100 ∷ decimal d.0) ∷ (116 ∷ decimal t.0) ∷ unit_text u.name ∷ []
 event_words names (event.Define d t u) = codes "define" ∷ (100 ∷ decimal d.0) ∷ (116 ∷ decimal t.0) ∷ unit_text u.name ∷ []
 event_words names (event.Generate g) = codes "generate" ∷ (103 ∷ decimal g.0) ∷ []
@@ -57,7 +57,7 @@ event_words names event.Take = codes "take" ∷ []
 event_words names (event.Place u shape) = codes "place" ∷ (117 ∷ decimal u.0) ∷ decimal shape.need ∷ decimal shape.align ∷ []
 event_words names (event.Resolve u) = codes "resolve" ∷ (117 ∷ decimal u.0) ∷ []
 event_words names (event.Link u) = codes "link" ∷ (117 ∷ decimal u.0) ∷ []
-event_words names (event.Emit u groups) = codes "emit" ∷ (117 ∷ decimal u.0) ∷ list_words 59 group_text groups
+event_words names (event.Emit u groups) = codes "emit" ∷ (117 ∷ decimal u.0) ∷ list_words semicolon group_text groups
 event_words names (event.Fail u cause) = codes "fail" ∷ (117 ∷ decimal u.0) ∷ why_words names cause
 event_words names (event.Tracker d) = codes "tracker" ∷ (100 ∷ decimal d.0) ∷ []
 event_words names (event.MoveTracker t to) = codes "move" ∷ (116 ∷ decimal t.0) ∷ (116 ∷ decimal to.0) ∷ []
@@ -87,13 +87,13 @@ lookup_spaced : (names : List (List ℕ)) (order : List OrderItem) (wanted : Lis
     (32 ∷ ask_word n) ++ items_text order ++ codes " " ++ level_text lev ++ wanted_list_text names wanted ≡ spaced (ask_words n ++ lookup_words names order wanted lev)
 lookup_spaced names order wanted lev n =
     parts5 (32 ∷ ask_word n) (items_text order) (codes " ") (level_text lev) (wanted_list_text names wanted)
-    ∙ (λ k. ask_spaced n k ++ (list_spaced 44 item_text order k ++ (32 ∷ (level_text lev ++ names_spaced (wanted_text names) wanted k))))
-    ∙ ap (λ l. spaced (ask_words n) ++ l) (sym (spaced-append (list_words 44 item_text order) (level_text lev ∷ map (wanted_text names) wanted)))
+    ∙ (λ k. ask_spaced n k ++ (list_spaced comma item_text order k ++ (32 ∷ (level_text lev ++ names_spaced (wanted_text names) wanted k))))
+    ∙ ap (λ l. spaced (ask_words n) ++ l) (sym (spaced-append (list_words comma item_text order) (level_text lev ∷ map (wanted_text names) wanted)))
     ∙ sym (spaced-append (ask_words n) (lookup_words names order wanted lev))
 
 pub event_spaced : (names : List (List ℕ)) (e : Event Meaning) → 32 ∷ event_text names e ≡ spaced (event_words names e)
 event_spaced names (event.Dylib name) = last_word (codes " dylib ") (name_text names name)
-event_spaced names (event.SetOrder d order) = ap (λ l. codes " order d" ++ decimal d.0 ++ l) (list_spaced 44 item_text order)
+event_spaced names (event.SetOrder d order) = ap (λ l. codes " order d" ++ decimal d.0 ++ l) (list_spaced comma item_text order)
 event_spaced names (event.Attach d t u) = words6 (codes " attach d") (decimal d.0) (codes " t") (decimal t.0) (codes " ") (unit_text u.name)
 event_spaced names (event.Define d t u) = words6 (codes " define d") (decimal d.0) (codes " t") (decimal t.0) (codes " ") (unit_text u.name)
 event_spaced names (event.Generate g) = last_word (codes " generate g") (decimal g.0)
@@ -103,7 +103,7 @@ event_spaced names event.Take = refl
 event_spaced names (event.Place u shape) = words6 (codes " place u") (decimal u.0) (codes " ") (decimal shape.need) (codes " ") (decimal shape.align)
 event_spaced names (event.Resolve u) = last_word (codes " resolve u") (decimal u.0)
 event_spaced names (event.Link u) = last_word (codes " link u") (decimal u.0)
-event_spaced names (event.Emit u groups) = ap (λ l. codes " emit u" ++ decimal u.0 ++ l) (list_spaced 59 group_text groups)
+event_spaced names (event.Emit u groups) = ap (λ l. codes " emit u" ++ decimal u.0 ++ l) (list_spaced semicolon group_text groups)
 event_spaced names (event.Fail u cause) = parts4 (codes " fail u") (decimal u.0) (codes " ") (why_text names cause) ∙ ap (λ l. codes " fail u" ++ (decimal u.0 ++ l)) (why_spaced names cause)
 event_spaced names (event.Tracker d) = last_word (codes " tracker d") (decimal d.0)
 event_spaced names (event.MoveTracker t to) = words4 (codes " move t") (decimal t.0) (codes " t") (decimal to.0)
@@ -149,7 +149,7 @@ event_solid names units (event.Attach d t u) good = and_from (solid (decimal d.0
 event_solid names units (event.Define d t u) good = and_from (solid (decimal d.0)) _ (decimal_solid d.0 good.0) (and_from (solid (decimal t.0)) _ (decimal_solid t.0 good.1) (and_from (solid (unit_text u.name)) true (unit_solid u.name good.2.number) refl))
 event_solid names units (event.Generate g) good = one_solid g.0 good
 event_solid names units (event.Ask order wanted lev n) good = solid-append (ask_words n) (lookup_words names order wanted lev) (ask_solid n good.2)
-    (solid-append (list_words 44 item_text order) (level_text lev ∷ map (wanted_text names) wanted) (items_solid order good.0) (level_solid lev (map (wanted_text names) wanted) (wanteds_solid names wanted good.1)))
+    (solid-append (list_words comma item_text order) (level_text lev ∷ map (wanted_text names) wanted) (items_solid order good.0) (level_solid lev (map (wanted_text names) wanted) (wanteds_solid names wanted good.1)))
 event_solid names units (event.Collect q) good = one_solid q.0 good
 event_solid names units event.Take good = refl
 event_solid names units (event.Place u shape) good = and_from (solid (decimal u.0)) _ (decimal_solid u.0 good.0) (two_solid shape.need shape.align good.1 good.2)
@@ -272,7 +272,7 @@ module _ (names : List (List ℕ)) (table : IsTable names) where
       read_ask names n (read_items is_level (lookup_words names order wanted lev ++ codes "=" ∷ ws)) ≡ (event.Ask order wanted lev n, codes "=" ∷ ws)
   lookup_read n order wanted lev ws begins last items good =
       let after = map (wanted_text names) wanted ++ codes "=" ∷ ws in
-      ap (λ l. read_ask names n (read_items is_level l)) (append_assoc (list_words 44 item_text order) (level_text lev ∷ map (wanted_text names) wanted) (codes "=" ∷ ws))
+      ap (λ l. read_ask names n (read_items is_level l)) (append_assoc (list_words comma item_text order) (level_text lev ∷ map (wanted_text names) wanted) (codes "=" ∷ ws))
       ∙ ap (read_ask names n) (items_read is_level (λ w. refl) (level_text lev) after (level_is lev) order items)
       ∙ (λ k. read_lookup n order (level_read lev k) (names_read wanted ws begins last good k))
 

@@ -11,7 +11,7 @@ use Rattle.journal_text.specs.Parts.{name_text, found_text, bound_text}
 use Rattle.journal_text.specs.Replies.{finishing_text, reply_text}
 use Rattle.journal_reading.specs.Laws.{shown_reply}
 use Rattle.journal_reading.specs.Readable.{IsNumber, IsReadableFinishing, IsReadableReply}
-use Rattle.journal_reading.proofs.Cuts.{words4, words6, last_word, row, solid, all_solid, spaced}
+use Rattle.journal_reading.proofs.Cuts.{comma, words4, words6, last_word, joined, solid, all_solid, spaced}
 use Rattle.journal_reading.proofs.Numerals.{solid_passes, decimal_solid, hex_passes, value, value-decimal, hex_value, value-hex, is_equals, decimal_no_equals, is_reply_word, id_no_reply}
 use Rattle.journal_reading.proofs.Names.{place_of, name_read, name_solid}
 use Rattle.journal_reading.proofs.Lists.{first, rest, list_words, list_spaced, id_value, read_founds, founds_read, founds_solid, read_bounds, bounds_read, bounds_solid}
@@ -19,7 +19,7 @@ use Rattle.journal_reading.proofs.Lists.{first, rest, list_words, list_spaced, i
 -- The words
 
 abbrev finishing_words : Finishing → List (List ℕ)
-finishing_words (Bound matches) = codes "bound" ∷ list_words 44 bound_text matches
+finishing_words (Bound matches) = codes "bound" ∷ list_words comma bound_text matches
 finishing_words (Lost i) = codes "lost" ∷ (105 ∷ decimal i.0) ∷ []
 
 abbrev pub reply_words : List (List ℕ) → Reply → List (List ℕ)
@@ -42,7 +42,7 @@ reply_words names (reply.Done q) = codes "done" ∷ (113 ∷ decimal q.0) ∷ []
 reply_words names (reply.Pending q) = codes "pending" ∷ (113 ∷ decimal q.0) ∷ []
 reply_words names (reply.Unknown q) = codes "unknown" ∷ (113 ∷ decimal q.0) ∷ []
 reply_words names reply.Open = codes "open" ∷ []
-reply_words names (reply.Found at matches) = codes "found" ∷ decimal at ∷ list_words 44 found_text matches
+reply_words names (reply.Found at matches) = codes "found" ∷ decimal at ∷ list_words comma found_text matches
 reply_words names (reply.Lost at i) = codes "failed" ∷ decimal at ∷ (105 ∷ decimal i.0) ∷ []
 reply_words names (reply.Idle held) = codes "idle" ∷ decimal held ∷ []
 reply_words names (reply.Start u) = codes "start" ∷ (117 ∷ decimal u.0) ∷ []
@@ -62,7 +62,7 @@ reply_words names reply.Removed = codes "removed" ∷ []
 reply_words names reply.Image = codes "image" ∷ []
 
 finishing_spaced : (end : Finishing) → finishing_text end ≡ spaced (finishing_words end)
-finishing_spaced (Bound matches) = ap (λ l. codes " bound" ++ l) (list_spaced 44 bound_text matches)
+finishing_spaced (Bound matches) = ap (λ l. codes " bound" ++ l) (list_spaced comma bound_text matches)
 finishing_spaced (Lost i) = last_word (codes " lost i") (decimal i.0)
 
 pub reply_spaced : (names : List (List ℕ)) (r : Reply) → 32 ∷ reply_text names r ≡ spaced (reply_words names r)
@@ -85,7 +85,7 @@ reply_spaced names (reply.Done q) = last_word (codes " done q") (decimal q.0)
 reply_spaced names (reply.Pending q) = last_word (codes " pending q") (decimal q.0)
 reply_spaced names (reply.Unknown q) = last_word (codes " unknown q") (decimal q.0)
 reply_spaced names reply.Open = refl
-reply_spaced names (reply.Found at matches) = ap (λ l. codes " found " ++ decimal at ++ l) (list_spaced 44 found_text matches)
+reply_spaced names (reply.Found at matches) = ap (λ l. codes " found " ++ decimal at ++ l) (list_spaced comma found_text matches)
 reply_spaced names (reply.Lost at i) = words4 (codes " failed ") (decimal at) (codes " i") (decimal i.0)
 reply_spaced names (reply.Idle held) = last_word (codes " idle ") (decimal held)
 reply_spaced names (reply.Start u) = last_word (codes " start u") (decimal u.0)
@@ -272,7 +272,7 @@ reply_begins names _ = refl
 pub reply_has_none : (names : List (List ℕ)) (r : Reply) → IsReadableReply names r → has_reply (reply_words names r) ≡ false
 reply_has_none names (reply.Duplicate name i) good = or_from (is_equals (name_text names name) && is_reply_word (105 ∷ decimal i.0)) false (and_right (is_equals (name_text names name)) (is_reply_word (105 ∷ decimal i.0)) (id_no_reply 105 i.0 good.1)) refl
 reply_has_none names (reply.Found at []) good = refl
-reply_has_none names (reply.Found at (m ∷ ms)) good = or_from (is_equals (decimal at) && is_reply_word (row 44 found_text m ms)) false (and_left (is_equals (decimal at)) (is_reply_word (row 44 found_text m ms)) (decimal_no_equals at good.0)) refl
+reply_has_none names (reply.Found at (m ∷ ms)) good = or_from (is_equals (decimal at) && is_reply_word (joined comma found_text m ms)) false (and_left (is_equals (decimal at)) (is_reply_word (joined comma found_text m ms)) (decimal_no_equals at good.0)) refl
 reply_has_none names (reply.Lost at i) good = or_from (is_equals (decimal at) && is_reply_word (105 ∷ decimal i.0)) false (and_left (is_equals (decimal at)) (is_reply_word (105 ∷ decimal i.0)) (decimal_no_equals at good.0)) refl
 reply_has_none names (reply.Finish u (Bound [])) good = refl
 reply_has_none names (reply.Finish u (Bound (m ∷ ms))) good = refl
