@@ -2,11 +2,33 @@
 
 ghost use Rattle.std.specs.Prelude.{◌≡◌, ◌<◌, ◌≤◌, ◌∷◌, [], ℕ, IfOk, OnOk};
 ghost use Rattle.dep_groups.specs.Frontier.{Absent, entry_at};
+ghost use Rattle.frontier_lab.specs.Entries.{OthersStay};
 
 use crate::shapes::{Shape, deps_of};
 use dep_groups::Frontier;
 use orc_ids::{Group, InstId, Items};
 use std::alloc::{AllocError, Global};
+
+/// What a run does with the instances.
+#[derive(Clone, Copy)]
+pub enum Order {
+    /// All are emitted, from the first on.
+    Up,
+    /// All are emitted, from the last on.
+    Down,
+    /// All but the last are emitted, from the first on, and then that fails.
+    Fail,
+}
+
+/// The order of a name.
+pub fn order_of(word: &str) -> Option<Order> {
+    match word {
+        "up" => Some(Order::Up),
+        "down" => Some(Order::Down),
+        "fail" => Some(Order::Fail),
+        _ => None,
+    }
+}
 
 /// What a run has done.
 #[derive(Clone, Copy)]
@@ -38,7 +60,7 @@ fn emit_one(
     count: u32,
 ) -> Result<usize, AllocError>
     requires { entry_at frontier.old.entries member.0 ≡ Absent }
-    ensures others { OnOk result ((i : ℕ) → (member.0 ≡ i → ⊥) → entry_at frontier.new.entries i ≡ entry_at frontier.old.entries i) }
+    ensures others { OnOk result (OthersStay member.0 frontier.old.entries frontier.new.entries) }
     ensures places { frontier.old.places ≤ frontier.new.places }
 {
     let group = group_of(alloc, shape, member, count)?;
@@ -126,35 +148,27 @@ fn run_failure(
     Ok(done)
 }
 
-/// Emits all instances, in this order or the other.
-fn run_emissions(
-    alloc: Global,
-    frontier: &mut Frontier,
-    shape: Shape,
-    is_up: bool,
-    count: u32,
-) -> Result<Done, AllocError>
-    requires { (i : ℕ) → entry_at frontier.old.entries i ≡ Absent }
-{
-    let told = if is_up {
-        emit_up(alloc, frontier, shape, count, count)?
-    } else {
-        emit_down(alloc, frontier, shape, count)?
-    };
-    let ready = count_ready(frontier, count);
-    Ok(Done {
+/// What came of it that all instances were emitted.
+fn emitted(frontier: &Frontier, told: usize, count: u32) -> Done {
+    Done {
         told,
-        ready,
+        ready: count_ready(frontier, count),
         hit: 0,
-    })
+    }
 }
 
 /// Emits the instances of a shape in an order.
-pub fn run(alloc: Global, shape: Shape, order: &str, count: u32) -> Result<Done, AllocError> {
+pub fn run(alloc: Global, shape: Shape, order: Order, count: u32) -> Result<Done, AllocError> {
     let mut frontier = Frontier::new(alloc);
-    if order == "fail" {
-        run_failure(alloc, &mut frontier, shape, count)
-    } else {
-        run_emissions(alloc, &mut frontier, shape, order == "up", count)
+    match order {
+        Order::Up => {
+            let told = emit_up(alloc, &mut frontier, shape, count, count)?;
+            Ok(emitted(&frontier, told, count))
+        }
+        Order::Down => {
+            let told = emit_down(alloc, &mut frontier, shape, count)?;
+            Ok(emitted(&frontier, told, count))
+        }
+        Order::Fail => run_failure(alloc, &mut frontier, shape, count),
     }
 }

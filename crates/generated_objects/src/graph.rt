@@ -6,8 +6,9 @@ ghost use Rattle.generated_objects.specs.Graphs.{call_edge, code_block, function
 ghost use Rattle.generated_objects.specs.Objects.{generated_object, session_names};
 
 use crate::names::function_name;
-use crate::object::{CALL_AT, CALL_PLT, CODE_SIZE, code};
+use crate::object::{CALL_AT, CODE_SIZE, code};
 use crate::rings::next;
+use link_model::kinds::CALL_PLT;
 use link_model::{Block, Edge, GPlace, GSym, LinkGraph};
 use orc_ids::{Items, SymFlags};
 use std::alloc::{AllocError, Global};

@@ -7,6 +7,7 @@ ghost use Rattle.generated_objects.specs.Objects.{code, defined, function_name, 
 
 use crate::rings::next;
 use elf_read::{ElfObject, Reloc, Relocs, Section, Sections, SymPlace, Symbol, Symbols};
+use link_model::kinds::CALL_PLT;
 use orc_ids::Bytes;
 use std::alloc::{AllocError, Global};
 use text_parts::put_numbered;
@@ -16,9 +17,6 @@ const PROGBITS: u32 = 1;
 
 /// `SHF_ALLOC` and `SHF_EXECINSTR`.
 const CODE: u64 = 6;
-
-/// `R_RISCV_CALL_PLT`.
-pub(crate) const CALL_PLT: u32 = 19;
 
 /// Where the words of the tail call begin.
 pub(crate) const CALL_AT: u64 = 8;
