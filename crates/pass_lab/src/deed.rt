@@ -25,18 +25,12 @@ const ORDER: [OrderItem; 1] = [OrderItem {
 
 /// The order was set.
 fn is_set(answer: Result<Reply, Stop>) -> bool {
-    match answer {
-        Ok(Reply::Set) => true,
-        _ => false,
-    }
+    matches!(answer, Ok(Reply::Set))
 }
 
 /// There was no job.
 fn is_idle(answer: Result<Reply, Stop>) -> bool {
-    match answer {
-        Ok(Reply::Idle(_)) => true,
-        _ => false,
-    }
+    matches!(answer, Ok(Reply::Idle(_)))
 }
 
 /// Makes the call on the session; whether it is answered as it should be.
