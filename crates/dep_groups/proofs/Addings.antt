@@ -108,6 +108,7 @@ room_less core groups deps more r = record {
   cursors = omega (arith, r.cursors);
   seen = omega (arith, r.seen);
   order = omega (arith, r.order);
+  few = record { groups_few = omega (arith, r.few.groups_few); deps_few = omega (arith, r.few.deps_few) };
 }
 
 pub room_popped : (core : Core) (nodes rest : List Node) (node : Node) → nodes ≡ rest ++ node ∷ [] → HasRoom core (length nodes) (total nodes) → HasRoom core (length rest + 1) (vec_len node.deps + total rest)

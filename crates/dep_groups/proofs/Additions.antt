@@ -1,5 +1,5 @@
 -- A core with one group more is sound.
-use Rattle.std.proofs.Common.{◌≡◌, ℕ, Bool, true, false, Option, Some, None, ◌⊎◌, inl, inr, ⊎_elim, ◌<◌, ◌≤◌, ◌+◌, List, [], ◌∷◌, ◌++◌, length, Contains, vec_len, vec_capacity, zero, suc, ap, sym, subst, ◌∙◌, refl, arith, length-append}
+use Rattle.std.proofs.Common.{◌≡◌, ℕ, Bool, true, false, Option, Some, None, ◌⊎◌, inl, inr, ⊎_elim, ◌<◌, ◌≤◌, ◌+◌, ◌^◌, List, [], ◌∷◌, ◌++◌, length, Contains, vec_len, vec_capacity, zero, suc, ap, sym, subst, ◌∙◌, refl, arith, length-append}
 use Rattle.std.specs.Prelude.{slice_get}
 use Rattle.std.specs.Option.{option_map_or}
 use Rattle.std.proofs.lemmas.Option.{same_Some, none-some, slice_get_within}
@@ -117,6 +117,7 @@ module _ (old new : Core) (node : Node) (wanted : Bool) where
     pub fresh : AreFresh old.graph node.members.items
     pub unwanted : wanted ≡ false → (m : InstId) → Contains node.members.items m → place old.graph.firsts.items m.0 ≡ None
     pub room : length old.trail.seen.items + 1 ≤ vec_capacity old.trail.order
+    pub few : length old.graph.nodes.items + 1 ≤ 2 ^ 32
 
   module _ (b : IsBigger) (s : IsSound old) (x : IsIndexed old.graph) where
     count : ℕ
@@ -211,6 +212,7 @@ module _ (old new : Core) (node : Node) (wanted : Bool) where
         cursors = ap length b.cursors ∙ length-append old.cursors.items (0 ∷ []) ∙ ap (λ n. n + 1) s.sizes.cursors ∙ sym size;
         seen = ap length b.seen ∙ length-append old.trail.seen.items (false ∷ []) ∙ ap (λ n. n + 1) s.sizes.seen ∙ sym size;
         ready = ap (λ rs. length rs.items) b.ready ∙ s.sizes.ready ∙ sym b.homes;
+        few = subst (λ n. n ≤ 2 ^ 32) (sym size) b.few;
       };
       wired = record { within = within };
       members = members;

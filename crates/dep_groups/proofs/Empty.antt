@@ -57,6 +57,7 @@ module _ (core : Core) (e : IsEmpty core) where
         cursors = ap length e.cursors ∙ sym (ap length e.nodes);
         seen = ap length e.seen ∙ sym (ap length e.nodes);
         ready = ap length e.ready ∙ sym (ap length e.homes);
+        few = omega (arith, ap length e.nodes);
       };
       wired = record { within = λ i g is. absurd (no_home i g is) };
       members = λ i g is. absurd (no_home i g is);

@@ -38,7 +38,7 @@ module _ (core : Core) (homes : Vec (Option ℕ) Global) (trail : Trail) where
     pub kept_without : IsKept core → length homes.items ≡ length core.graph.homes.items → IsClear trail → length trail.seen.items ≡ length core.trail.seen.items → IsKept core_without
     kept_without k count clear groups = let s = k.sound in record {
       sound = record {
-        sizes = record { links = s.sizes.links; linked = s.sizes.linked; cursors = s.sizes.cursors; seen = groups ∙ s.sizes.seen; ready = s.sizes.ready ∙ sym count };
+        sizes = record { links = s.sizes.links; linked = s.sizes.linked; cursors = s.sizes.cursors; seen = groups ∙ s.sizes.seen; ready = s.sizes.ready ∙ sym count; few = s.sizes.few };
         wired = record { within = λ i g is. s.wired.within i g (home_was i g is) };
         members = λ i g is. s.members i g (home_was i g is);
         ready = record {

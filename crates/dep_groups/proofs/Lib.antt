@@ -18,3 +18,4 @@ pub mod Empty
 pub mod Emissions
 pub mod Spreads
 pub mod Failures
+pub mod Pendings

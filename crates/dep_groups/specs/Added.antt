@@ -1,5 +1,5 @@
 -- A core that has one group more.
-use Rattle.std.specs.Prelude.{◌≡◌, ℕ, Some, None, ◌⊎◌, List, [], ◌∷◌, ◌++◌, ◌+◌, ◌≤◌, length, Contains, vec_len, vec_capacity}
+use Rattle.std.specs.Prelude.{◌≡◌, ℕ, Some, None, ◌⊎◌, List, [], ◌∷◌, ◌++◌, ◌+◌, ◌≤◌, ◌^◌, length, Contains, vec_len, vec_capacity}
 use Rattle.orc_ids.specs.declared.ids.InstId.{InstId}
 use Rattle.dep_groups.specs.declared.graph.Graph.{Graph}
 use Rattle.dep_groups.specs.declared.graph.Node.{Node}
@@ -15,6 +15,11 @@ pub record IsHoused (old new : Graph) (members : List InstId) (g : ℕ) : Type 0
 abbrev pub AreFresh : Graph → List InstId → Type 0
 AreFresh graph members = (m : InstId) → Contains members m → home_in graph m.0 ≡ None
 
+-- so many groups more, with so many dependencies in all, can be told apart by numbers of 32 bits
+pub record AreFew (graph : Graph) (groups deps : ℕ) : Type 0 where
+  pub groups_few : vec_len graph.nodes + groups ≤ 2 ^ 32
+  pub deps_few : vec_len graph.edges + deps ≤ 2 ^ 32
+
 -- there is room for so many groups with so many dependencies in all
 pub record HasRoom (core : Core) (groups deps : ℕ) : Type 0 where
   pub edges : vec_len core.graph.edges + deps ≤ vec_capacity core.graph.edges
@@ -24,6 +29,7 @@ pub record HasRoom (core : Core) (groups deps : ℕ) : Type 0 where
   pub cursors : vec_len core.cursors + groups ≤ vec_capacity core.cursors
   pub seen : vec_len core.trail.seen + groups ≤ vec_capacity core.trail.seen
   pub order : vec_len core.trail.seen + groups ≤ vec_capacity core.trail.order
+  pub few : AreFew core.graph groups deps
 
 -- a group is added, and nothing is ready that wasn't
 pub record IsAdded (old new : Core) (node : Node) : Type 0 where

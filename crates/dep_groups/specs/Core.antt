@@ -1,5 +1,6 @@
 -- What a frontier keeps, and what always holds of it.
-use Rattle.std.specs.Prelude.{◌≡◌, ℕ, ◌+◌, ◌≤◌, true, Some, length, Contains, vec_len, vec_capacity}
+use Rattle.std.specs.Prelude.{◌≡◌, ℕ, ◌+◌, ◌≤◌, ◌^◌, true, Some, length, Contains, vec_len, vec_capacity}
+use Rattle.dep_groups.specs.declared.graph.Graph.{Graph}
 use Rattle.dep_groups.specs.declared.resolve.Core.{Core}
 use Rattle.dep_groups.specs.Places.{unset}
 use Rattle.dep_groups.specs.Shape.{home_in, deps_in, ready_in}
@@ -8,24 +9,25 @@ use Rattle.dep_groups.specs.Links.{AllEnd, AreFlagged}
 use Rattle.dep_groups.specs.Seek.{IsClear}
 use Rattle.dep_groups.specs.Marks.{members_of}
 
--- each table has a place for each group, or for each instance
+-- each table has a place for each group, or for each instance; groups have numbers of 32 bits
 pub record AreSized (core : Core) : Type 0 where
   pub links : length core.links.items ≡ length core.graph.nodes.items
   pub linked : length core.linked.items ≡ length core.graph.nodes.items
   pub cursors : length core.cursors.items ≡ length core.graph.nodes.items
   pub seen : length core.trail.seen.items ≡ length core.graph.nodes.items
   pub ready : length core.graph.ready.items ≡ length core.graph.homes.items
+  pub few : length core.graph.nodes.items ≤ 2 ^ 32
 
 -- what is marked as ready is emitted, and all that it depends on is marked
-pub record AreClosed (core : Core) : Type 0 where
-  pub emitted : (i : ℕ) → ready_in core.graph i ≡ true → (g : ℕ) × (home_in core.graph i ≡ Some g)
-  pub closed : (i g d : ℕ) → ready_in core.graph i ≡ true → home_in core.graph i ≡ Some g → Contains (deps_in core.graph g) d → ready_in core.graph d ≡ true
+pub record AreClosed (graph : Graph) : Type 0 where
+  pub emitted : (i : ℕ) → ready_in graph i ≡ true → (g : ℕ) × (home_in graph i ≡ Some g)
+  pub closed : (i g d : ℕ) → ready_in graph i ≡ true → home_in graph i ≡ Some g → Contains (deps_in graph g) d → ready_in graph d ≡ true
 
 pub record IsSound (core : Core) : Type 0 where
   pub sizes : AreSized core
   pub wired : IsWired core.graph (length core.graph.nodes.items)
   pub members : (i g : ℕ) → home_in core.graph i ≡ Some g → Contains (members_of core.graph.nodes.items g) (record { 0 = i })
-  pub ready : AreClosed core
+  pub ready : AreClosed core.graph
   pub ends : AllEnd core.graph core.links.items
   pub flags : AreFlagged core.graph core.links.items core.linked.items
   pub deps : LinksAreDeps core.graph core.links.items

@@ -1,6 +1,6 @@
 -- What a frontier is: of each instance whether it was emitted, and what it depends on then; what became
 -- ready at the last emission; for how many instances there is room; and what the last failure hit.
-use Rattle.std.specs.Prelude.{◌≡◌, ℕ, Bool, true, false, Option, Some, None, ◌⊎◌, List, [], map, slice_get, Contains}
+use Rattle.std.specs.Prelude.{◌≡◌, ℕ, Bool, true, false, Option, Some, None, ◌⊎◌, List, [], map, length, slice_get, Contains}
 use Rattle.graph_walks.specs.Walks as walks
 use Rattle.orc_ids.specs.declared.ids.InstId.{InstId}
 use Rattle.orc_ids.specs.declared.groups.Group.{Group}
@@ -46,6 +46,18 @@ Reaches entries i j = walks.Reaches (next_of entries) i j
 -- everything that i reaches is emitted
 pub record IsReady (entries : List Entry) (i : ℕ) : Type 0 where
   pub each : (j : ℕ) → Reaches entries i j → is_emitted_at entries j ≡ true
+
+-- the instances that i reaches and that are not emitted, each once
+pub record ArePending (entries : List Entry) (i : ℕ) (pending : List ℕ) : Type 0 where
+  pub all : (j : ℕ) → Reaches entries i j → is_emitted_at entries j ≡ false → Contains pending j
+  pub only : (j : ℕ) → Contains pending j → Reaches entries i j × (is_emitted_at entries j ≡ false)
+  pub once : (j k n : ℕ) → slice_get pending j ≡ Some n → slice_get pending k ≡ Some n → j ≡ k
+
+-- they are so many
+pub record IsPendingCount (entries : List Entry) (i count : ℕ) : Type 0 where
+  pub pending : List ℕ
+  pub are : ArePending entries i pending
+  pub count_is : length pending ≡ count
 
 -- the numbers of instances
 abbrev pub numbers : List InstId → List ℕ

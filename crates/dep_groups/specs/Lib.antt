@@ -15,3 +15,4 @@ pub mod Kept
 pub mod Copies
 pub mod Emit
 pub mod Hits
+pub mod Pending

@@ -1,4 +1,4 @@
-ghost use Rattle.std.specs.Prelude.{◌≡◌, ◌<◌, ◌≤◌, ◌+◌, ◌++◌, ◌∷◌, ◌⊎◌, ℕ, [], Some, None, true, false, length, slice_get, vec_len, vec_capacity, Contains};
+ghost use Rattle.std.specs.Prelude.{◌≡◌, ◌<◌, ◌≤◌, ◌+◌, ◌^◌, ◌++◌, ◌∷◌, ◌⊎◌, ℕ, [], Some, None, true, false, length, slice_get, vec_len, vec_capacity, Contains};
 ghost use Rattle.orc_ids.specs.declared.ids.InstId.{InstId};
 ghost use Rattle.dep_groups.specs.Places.{place, is_set};
 ghost use Rattle.dep_groups.specs.Wake.{IsListed, IsIndexed, AreHeld};
@@ -13,7 +13,7 @@ use crate::resolve::Core;
 use orc_ids::InstId;
 
 /// Adds empty places to a table, up to a number of them.
-pub(crate) fn grow_places(places: &mut Vec<Option<usize>>, count: usize)
+pub(crate) fn grow_places(places: &mut Vec<Option<u32>>, count: usize)
     requires count { vec_len places.old ≤ count }
     requires room { count ≤ vec_capacity places.old }
     ensures same { (k : ℕ) → place places.new.items k ≡ place places.old.items k }
@@ -37,7 +37,7 @@ pub(crate) fn grow_flags(flags: &mut Vec<bool>, count: usize)
 }
 
 /// Puts the members of a group into its place.
-pub(crate) fn house(homes: &mut [Option<usize>], members: &[InstId], group: usize)
+pub(crate) fn house(homes: &mut [Option<u32>], members: &[InstId], group: u32)
     requires within { (m : InstId) → Contains members.now m → m.0 < length homes.old }
     ensures members { (m : InstId) → Contains members.now m → place homes.new m.0 ≡ Some group }
     ensures others { (i : ℕ) → (place homes.new i ≡ place homes.old i) ⊎ (Contains members.now (record { 0 = i }) × (place homes.new i ≡ Some group)) }
@@ -48,7 +48,7 @@ pub(crate) fn house(homes: &mut [Option<usize>], members: &[InstId], group: usiz
 }
 
 /// Whether something depends on one of the members.
-pub(crate) fn is_wanted(firsts: &[Option<usize>], members: &[InstId]) -> bool
+pub(crate) fn is_wanted(firsts: &[Option<u32>], members: &[InstId]) -> bool
     ensures { result ≡ false → (m : InstId) → Contains members.now m → place firsts.now m.0 ≡ None }
 {
     for member in members {
@@ -60,8 +60,9 @@ pub(crate) fn is_wanted(firsts: &[Option<usize>], members: &[InstId]) -> bool
 }
 
 /// Lists a group with one instance that it depends on.
-fn list_one(firsts: &mut [Option<usize>], edges: &mut Vec<Edge>, instance: usize, group: usize)
+fn list_one(firsts: &mut [Option<u32>], edges: &mut Vec<Edge>, instance: u32, group: u32)
     requires within { instance < length firsts.old }
+    requires few { vec_len edges.old < 2 ^ 32 }
     requires room { vec_len edges.old < vec_capacity edges.old }
     requires falls { ListsFall firsts.old edges.old.items (group + 1) }
     ensures falls { ListsFall firsts.new edges.new.items (group + 1) }
@@ -71,19 +72,15 @@ fn list_one(firsts: &mut [Option<usize>], edges: &mut Vec<Edge>, instance: usize
     ensures len { vec_len edges.new ≡ vec_len edges.old + 1 }
     ensures capacity { vec_capacity edges.new ≡ vec_capacity edges.old }
 {
-    let next = at(firsts, instance);
-    put(firsts, instance, edges.len());
+    let next = at(firsts, instance as usize);
+    put(firsts, instance as usize, edges.len() as u32);
     edges.push_reserved(Edge { group, next });
 }
 
 /// Lists a group with all that it depends on.
-pub(crate) fn list_all(
-    firsts: &mut [Option<usize>],
-    edges: &mut Vec<Edge>,
-    deps: &[usize],
-    group: usize,
-)
+pub(crate) fn list_all(firsts: &mut [Option<u32>], edges: &mut Vec<Edge>, deps: &[u32], group: u32)
     requires within { (d : ℕ) → Contains deps.now d → d < length firsts.old }
+    requires few { vec_len edges.old + length deps.now ≤ 2 ^ 32 }
     requires room { vec_len edges.old + length deps.now ≤ vec_capacity edges.old }
     requires falls { ListsFall firsts.old edges.old.items (group + 1) }
     ensures falls { ListsFall firsts.new edges.new.items (group + 1) }
@@ -104,6 +101,7 @@ fn add_node(graph: &mut Graph, node: Node)
     requires deps { (d : ℕ) → Contains node.deps.items d → d < length graph.old.firsts.items }
     requires edges { vec_len graph.old.edges + vec_len node.deps ≤ vec_capacity graph.old.edges }
     requires nodes { vec_len graph.old.nodes < vec_capacity graph.old.nodes }
+    requires few { (vec_len graph.old.nodes < 2 ^ 32) × (vec_len graph.old.edges + vec_len node.deps ≤ 2 ^ 32) }
     requires indexed { IsIndexed graph.old }
     ensures indexed { IsIndexed graph.new }
     ensures housed { IsHoused graph.old graph.new node.members.items (length graph.old.nodes.items) }
@@ -113,7 +111,7 @@ fn add_node(graph: &mut Graph, node: Node)
     ensures edges { (vec_len graph.new.edges ≡ vec_len graph.old.edges + vec_len node.deps) × (vec_capacity graph.new.edges ≡ vec_capacity graph.old.edges) }
     ensures room { (vec_len graph.new.nodes ≡ vec_len graph.old.nodes + 1) × (vec_capacity graph.new.nodes ≡ vec_capacity graph.old.nodes) }
 {
-    let group = graph.nodes.len();
+    let group = graph.nodes.len() as u32;
     house(&mut graph.homes, &node.members, group);
     list_all(&mut graph.firsts, &mut graph.edges, &node.deps, group);
     graph.nodes.push_reserved(node);

@@ -7,12 +7,12 @@ use orc_ids::{Group, InstId};
 use std::alloc::{AllocError, Global};
 
 /// The numbers of some instances.
-fn numbers_of(alloc: Global, instances: &[InstId]) -> Result<Vec<usize>, AllocError>
+fn numbers_of(alloc: Global, instances: &[InstId]) -> Result<Vec<u32>, AllocError>
     ensures { IfOk result (λ v. v.items ≡ numbers instances.now) }
 {
     let mut numbers = Vec::with_capacity(alloc, instances.len())?;
     for instance in instances {
-        numbers.push_reserved(instance.0 as usize);
+        numbers.push_reserved(instance.0);
     }
     Ok(numbers)
 }

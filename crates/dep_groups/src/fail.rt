@@ -19,7 +19,7 @@ use crate::trail::{Trail, come_to};
 use orc_ids::InstId;
 
 /// Comes to a group, and hits the members that are at home there, if it wasn't come to.
-fn hit_group(graph: &Graph, trail: &mut Trail, hits: &mut Hits, group: usize)
+fn hit_group(graph: &Graph, trail: &mut Trail, hits: &mut Hits, group: u32)
     requires within { group < length trail.old.seen.items }
     requires covers { length graph.now.homes.items ≤ length hits.old.flags.items }
     requires complete { IsComplete graph.now }
@@ -32,7 +32,7 @@ fn hit_group(graph: &Graph, trail: &mut Trail, hits: &mut Hits, group: usize)
     ensures more { IsMore trail.old trail.new }
     ensures seen { is_set trail.new.seen.items group ≡ true }
 {
-    if !is_set(&trail.seen, group) {
+    if !is_set(&trail.seen, group as usize) {
         come_to(trail, group, 0, 0);
         let members = members_of(&graph.nodes, group);
         mark_members(
@@ -46,7 +46,7 @@ fn hit_group(graph: &Graph, trail: &mut Trail, hits: &mut Hits, group: usize)
 }
 
 /// Hits what depends on an instance.
-fn hit_dependants(graph: &Graph, trail: &mut Trail, hits: &mut Hits, instance: usize)
+fn hit_dependants(graph: &Graph, trail: &mut Trail, hits: &mut Hits, instance: u32)
     requires groups { length trail.old.seen.items ≡ length graph.now.nodes.items }
     requires covers { length graph.now.homes.items ≤ length hits.old.flags.items }
     requires complete { IsComplete graph.now }
@@ -59,10 +59,10 @@ fn hit_dependants(graph: &Graph, trail: &mut Trail, hits: &mut Hits, instance: u
     ensures more { IsMore trail.old trail.new }
     ensures seen { (g : ℕ) → IsListed graph.now.edges.items (place graph.now.firsts.items instance) g → is_set trail.new.seen.items g ≡ true }
 {
-    let mut next = at(&graph.firsts, instance);
+    let mut next = at(&graph.firsts, instance as usize);
     while let Some(mention) = next {
-        hit_group(graph, trail, hits, graph.edges[mention].group);
-        next = graph.edges[mention].next;
+        hit_group(graph, trail, hits, graph.edges[mention as usize].group);
+        next = graph.edges[mention as usize].next;
     }
 }
 
@@ -82,7 +82,7 @@ fn hit_all(graph: &Graph, trail: &mut Trail, hits: &mut Hits)
     let mut done = 0;
     while done < hits.order.len() {
         let instance = hits.order[done];
-        hit_dependants(graph, trail, hits, instance.0 as usize);
+        hit_dependants(graph, trail, hits, instance.0);
         done += 1;
     }
 }
@@ -110,7 +110,7 @@ fn find_hits(graph: &Graph, trail: &mut Trail, hits: &mut Hits, roots: &[InstId]
 }
 
 /// Takes instances out of their groups.
-fn take_out(homes: &mut [Option<usize>], instances: &[InstId])
+fn take_out(homes: &mut [Option<u32>], instances: &[InstId])
     ensures out { (m : InstId) → Contains instances.now m → place homes.new m.0 ≡ None }
     ensures others { (i : ℕ) → (place homes.new i ≡ place homes.old i) ⊎ (Contains instances.now (record { 0 = i }) × (place homes.new i ≡ None)) }
 {

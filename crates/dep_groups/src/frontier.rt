@@ -1,12 +1,13 @@
 ghost use Rattle.std.specs.Prelude.{◌≡◌, ◌↔◌, ◌<◌, ◌≤◌, ℕ, [], IsTrue, OnOk, OnErr, Contains};
 ghost use Rattle.orc_ids.specs.declared.ids.InstId.{InstId};
-ghost use Rattle.dep_groups.specs.Frontier.{AreApart, AreAbsent, AreEmitted, IsReady, IsNews, AreHits, AreFailed};
+ghost use Rattle.dep_groups.specs.Frontier.{AreApart, AreAbsent, AreEmitted, IsReady, IsPendingCount, IsNews, AreHits, AreFailed};
 
 use crate::copy::copy_groups;
 use crate::emit::emit_nodes;
 use crate::fail::fail_all;
 use crate::graph::Graph;
 use crate::hits::{Hits, make_places};
+use crate::pending::count_pending;
 use crate::places::is_set;
 use crate::resolve::Core;
 use crate::trail::Trail;
@@ -121,6 +122,15 @@ impl Frontier {
         ensures { result.now ≡ self.now.told }
     {
         self.core.told.as_slice()
+    }
+
+    /// How many instances an emitted one reaches that are not emitted; of one that is not, itself.
+    /// It searches, and takes no memory: it writes what it comes to into the room of an emission.
+    pub fn pending_count(&mut self, instance: InstId) -> usize
+        ensures count { IsPendingCount self.old.entries instance.0 result }
+        ensures same { self.new ≡ self.old }
+    {
+        count_pending(&mut self.core, &mut self.hits, instance)
     }
 
     /// Whether all that the instance reaches is emitted; takes no memory.

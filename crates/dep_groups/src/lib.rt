@@ -8,7 +8,8 @@
 //! links ends at an instance that isn't emitted. An emission looks for such links again only where
 //! they led to what became ready, and a search goes by links first. `resolve` decides one group,
 //! `wake` those that it leaves. A failure, in `fail`, goes by the mentions of what it hits from group
-//! to group, and takes what it hit out of them, as if it had never been emitted.
+//! to group, and takes what it hit out of them, as if it had never been emitted. `pending` counts what
+//! an instance waits for, by a search of its own.
 //!
 //! Read `graph_walks` for what is reached.
 #![tactic(auto)]
@@ -22,6 +23,7 @@ mod graph;
 mod hits;
 mod links;
 mod marks;
+mod pending;
 mod places;
 mod prepare;
 mod resolve;

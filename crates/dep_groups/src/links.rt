@@ -10,16 +10,16 @@ use crate::places::{at, put, raise};
 use crate::trail::{Found, Trail, group_at};
 
 /// Links a group to an instance, and flags that instance's group.
-fn link_to(graph: &Graph, links: &mut [Option<usize>], linked: &mut [bool], group: usize, to: usize)
+fn link_to(graph: &Graph, links: &mut [Option<u32>], linked: &mut [bool], group: u32, to: u32)
     requires group { group < length links.old }
     requires wired { IsWired graph.now (length linked.old) }
     ensures links { (n : ℕ) → place links.new n ≡ (if group == n then Some to else place links.old n) }
     ensures flags { (n : ℕ) → is_set linked.old n ≡ true → is_set linked.new n ≡ true }
     ensures flagged { (h : ℕ) → home_in graph.now to ≡ Some h → is_set linked.new h ≡ true }
 {
-    put(links, group, to);
-    if let Some(home) = at(&graph.homes, to) {
-        raise(linked, home);
+    put(links, group as usize, to);
+    if let Some(home) = at(&graph.homes, to as usize) {
+        raise(linked, home as usize);
     }
 }
 
@@ -27,7 +27,7 @@ fn link_to(graph: &Graph, links: &mut [Option<usize>], linked: &mut [bool], grou
 pub(crate) fn relink(
     graph: &Graph,
     trail: &Trail,
-    links: &mut [Option<usize>],
+    links: &mut [Option<u32>],
     linked: &mut [bool],
     found: Found,
 )

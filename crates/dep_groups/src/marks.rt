@@ -11,17 +11,17 @@ use crate::trail::Trail;
 use orc_ids::InstId;
 
 /// The members of a group.
-pub(crate) fn members_of(nodes: &[Node], group: usize) -> &[InstId]
+pub(crate) fn members_of(nodes: &[Node], group: u32) -> &[InstId]
     ensures { result.now ≡ members_of nodes.now group }
 {
-    match nodes.get(group) {
+    match nodes.get(group as usize) {
         Some(node) => node.members.as_slice(),
         None => &[],
     }
 }
 
 /// Whether an instance is of a group, and isn't marked.
-fn is_open(homes: &[Option<usize>], ready: &[bool], group: usize, member: InstId) -> bool
+fn is_open(homes: &[Option<u32>], ready: &[bool], group: u32, member: InstId) -> bool
     ensures open { result ≡ true → (place homes.now member.0 ≡ Some group) × (is_set ready.now member.0 ≡ false) }
     ensures other { result ≡ false → place homes.now member.0 ≡ Some group → is_set ready.now member.0 ≡ true }
 {
@@ -33,10 +33,10 @@ fn is_open(homes: &[Option<usize>], ready: &[bool], group: usize, member: InstId
 
 /// Marks an instance of a group and tells it, if it wasn't marked.
 fn mark_member(
-    homes: &[Option<usize>],
+    homes: &[Option<u32>],
     marks: &mut [bool],
     told: &mut Vec<InstId>,
-    group: usize,
+    group: u32,
     member: InstId,
 )
     requires sizes { length homes.now ≤ length marks.old }
@@ -55,10 +55,10 @@ fn mark_member(
 
 /// Marks the instances of a group and tells those that weren't marked.
 pub(crate) fn mark_members(
-    homes: &[Option<usize>],
+    homes: &[Option<u32>],
     marks: &mut [bool],
     told: &mut Vec<InstId>,
-    group: usize,
+    group: u32,
     members: &[InstId],
 )
     requires sizes { length homes.now ≤ length marks.old }
@@ -76,7 +76,7 @@ pub(crate) fn mark_members(
 
 /// Marks all instances of the groups that a search came to as ready and tells those that weren't.
 pub(crate) fn mark_all(
-    homes: &[Option<usize>],
+    homes: &[Option<u32>],
     nodes: &[Node],
     ready: &mut [bool],
     told: &mut Vec<InstId>,

@@ -2,7 +2,7 @@ ghost use Rattle.std.specs.Prelude.{◌≡◌, ◌<◌, ◌+◌, ℕ, Some, None
 ghost use Rattle.dep_groups.specs.Places.{place, is_set, unset};
 
 /// What stands in a place, if anything.
-pub(crate) fn at(places: &[Option<usize>], k: usize) -> Option<usize>
+pub(crate) fn at(places: &[Option<u32>], k: usize) -> Option<u32>
     ensures { result ≡ place places.now k }
 {
     match places.get(k) {
@@ -12,7 +12,7 @@ pub(crate) fn at(places: &[Option<usize>], k: usize) -> Option<usize>
 }
 
 /// Puts a number into a place.
-pub(crate) fn put(places: &mut [Option<usize>], k: usize, number: usize)
+pub(crate) fn put(places: &mut [Option<u32>], k: usize, number: u32)
     requires { k < length places.old }
     ensures { (n : ℕ) → place places.new n ≡ (if k == n then Some number else place places.old n) }
 {
@@ -20,7 +20,7 @@ pub(crate) fn put(places: &mut [Option<usize>], k: usize, number: usize)
 }
 
 /// Empties a place, if it is there.
-pub(crate) fn empty(places: &mut [Option<usize>], k: usize)
+pub(crate) fn empty(places: &mut [Option<u32>], k: usize)
     ensures { (n : ℕ) → place places.new n ≡ (if k == n then None else place places.old n) }
 {
     if k < places.len() {

@@ -4,7 +4,7 @@ ghost use Rattle.orc_ids.specs.declared.ids.InstId.{InstId};
 ghost use Rattle.dep_groups.specs.Places.{place};
 ghost use Rattle.dep_groups.specs.Shape.{home_in, ready_in};
 ghost use Rattle.dep_groups.specs.Core.{IsSound};
-ghost use Rattle.dep_groups.specs.Added.{HasRoom};
+ghost use Rattle.dep_groups.specs.Added.{AreFew, HasRoom};
 ghost use Rattle.dep_groups.specs.Adding.{total, AreBelow};
 ghost use Rattle.dep_groups.specs.Hits.{IsResting};
 ghost use Rattle.dep_groups.specs.Prepare.{Covers, IsRoomierGraph, IsRoomier, HasPlaces, HasTables, IsAlike};
@@ -36,16 +36,15 @@ fn places_for_members(members: &[InstId], places: usize) -> usize
 }
 
 /// How many places are needed for some dependencies too.
-fn places_for_deps(deps: &[usize], places: usize) -> Result<usize, AllocError>
-    ensures more { IfOk result (λ n. places ≤ n) }
-    ensures covers { IfOk result (λ n. (d : ℕ) → Contains deps.now d → d < n) }
+fn places_for_deps(deps: &[u32], places: usize) -> usize
+    ensures more { places ≤ result }
+    ensures covers { (d : ℕ) → Contains deps.now d → d < result }
 {
     let mut count = places;
     for instance in deps {
-        let above = add_up(*instance, 1)?;
-        count = count.max(above);
+        count = count.max(*instance as usize + 1);
     }
-    Ok(count)
+    count
 }
 
 /// The sum of two counts, if it fits.
@@ -63,7 +62,7 @@ fn with_node(node: &Node, needs: Needs) -> Result<Needs, AllocError>
     ensures { IfOk result (λ n. Covers node.now needs n) }
 {
     let members = places_for_members(&node.members, needs.places);
-    let places = places_for_deps(&node.deps, members)?;
+    let places = places_for_deps(&node.deps, members);
     let deps = add_up(needs.deps, node.deps.len())?;
     Ok(Needs { places, deps })
 }
@@ -79,6 +78,18 @@ pub(crate) fn needs_of(nodes: &[Node], places: usize) -> Result<Needs, AllocErro
         needs = with_node(node, needs)?;
     }
     Ok(needs)
+}
+
+/// Refuses groups that there are no numbers of 32 bits for, or none for what they depend on.
+fn check_numbers(graph: &Graph, groups: usize, deps: usize) -> Result<(), AllocError>
+    ensures { OnOk result (AreFew graph.now groups deps) }
+{
+    let nodes = add_up(graph.nodes.len(), groups)?;
+    let edges = add_up(graph.edges.len(), deps)?;
+    if nodes.max(edges) > u32::MAX as usize {
+        return Err(AllocError);
+    }
+    Ok(())
 }
 
 /// Makes the room for groups in what was emitted.
@@ -150,6 +161,7 @@ pub(crate) fn prepare(core: &mut Core, hits: &mut Hits, nodes: &[Node]) -> Resul
     ensures places { OnErr result (length hits.new.flags.items ≡ length hits.old.flags.items) }
 {
     let needs = needs_of(nodes, core.graph.homes.len())?;
+    check_numbers(&core.graph, nodes.len(), needs.deps)?;
     reserve_hits(hits, needs.places)?;
     reserve_tables(core, nodes.len(), needs.places)?;
     reserve_graph(&mut core.graph, nodes.len(), needs)?;

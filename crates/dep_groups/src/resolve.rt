@@ -19,7 +19,7 @@ use orc_ids::InstId;
 #[derive(Drop)]
 pub(crate) struct Core {
     pub(crate) graph: Graph,
-    pub(crate) links: Vec<Option<usize>>,
+    pub(crate) links: Vec<Option<u32>>,
     pub(crate) linked: Vec<bool>,
     pub(crate) cursors: Vec<usize>,
     pub(crate) trail: Trail,
@@ -28,7 +28,7 @@ pub(crate) struct Core {
 
 /// Finds out whether a group is ready: then its members are marked and told, with all that it depends
 /// on; else it is linked to what it waits for.
-pub(crate) fn resolve(core: &mut Core, group: usize)
+pub(crate) fn resolve(core: &mut Core, group: u32)
     requires group { group < length core.old.graph.nodes.items }
     requires sound { IsSound core.old }
     ensures sound { IsSound core.new }

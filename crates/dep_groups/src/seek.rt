@@ -11,21 +11,21 @@ use crate::places::{at, is_set, lower};
 use crate::trail::{Found, Trail, Visit, advance, search};
 
 /// Whether an instance is ready or a member of the group.
-fn is_own(graph: &Graph, group: usize, instance: usize) -> bool
+fn is_own(graph: &Graph, group: u32, instance: u32) -> bool
     ensures own { result ≡ true → IsOwn graph.now group instance }
     ensures other { result ≡ false → IsOther graph.now group instance }
 {
-    if is_set(&graph.ready, instance) {
+    if is_set(&graph.ready, instance as usize) {
         return true;
     }
-    match at(&graph.homes, instance) {
+    match at(&graph.homes, instance as usize) {
         Some(home) => home == group,
         None => false,
     }
 }
 
 /// The first dependency of a group that is neither ready nor a member of the group.
-fn first_other(graph: &Graph, cursors: &mut [usize], group: usize) -> Option<usize>
+fn first_other(graph: &Graph, cursors: &mut [usize], group: u32) -> Option<u32>
     requires within { group < length cursors.old }
     requires cursors { ArePassed graph.now cursors.old }
     ensures cursors { ArePassed graph.now cursors.new }
@@ -48,11 +48,11 @@ fn first_other(graph: &Graph, cursors: &mut [usize], group: usize) -> Option<usi
 /// emitted is searched for.
 pub(crate) fn seek(
     graph: &Graph,
-    links: &[Option<usize>],
+    links: &[Option<u32>],
     linked: &[bool],
     cursors: &mut [usize],
     trail: &mut Trail,
-    group: usize,
+    group: u32,
 ) -> Option<Found>
     requires trail { IsTrailOf graph.now trail.old }
     requires room { IsRoomy trail.old }
@@ -67,7 +67,7 @@ pub(crate) fn seek(
     ensures cursors { ArePassed graph.now cursors.new }
     ensures found { MatchOption result (IsExhausted graph.now trail.new (vec_len trail.new.order)) (λ f. IsFound graph.now linked.now trail.new f) }
 {
-    if is_set(linked, group) {
+    if is_set(linked, group as usize) {
         return search(graph, links, cursors, trail);
     }
     match first_other(graph, cursors, group) {
@@ -83,7 +83,7 @@ fn unsee(seen: &mut [bool], order: &[Visit])
     ensures { (g : ℕ) → is_set seen.new g ≡ false }
 {
     for visit in order {
-        lower(seen, visit.group);
+        lower(seen, visit.group as usize);
     }
 }
 

@@ -9,9 +9,9 @@ use crate::places::{at, is_set, raise};
 /// A group that a search came to: from which visit, and by which of its members.
 #[derive(Drop, Clone, Copy)]
 pub(crate) struct Visit {
-    pub(crate) group: usize,
+    pub(crate) group: u32,
+    pub(crate) via: u32,
     pub(crate) from: usize,
-    pub(crate) via: usize,
 }
 
 /// The groups that a search came to, in order.
@@ -25,7 +25,7 @@ pub(crate) struct Trail {
 #[derive(Drop, Clone, Copy)]
 pub(crate) struct Found {
     pub(crate) from: usize,
-    pub(crate) to: usize,
+    pub(crate) to: u32,
 }
 
 /// What a look at a dependency showed: that it is ready or its group was seen, that it is not
@@ -38,7 +38,7 @@ pub(crate) enum Look {
 }
 
 /// Notes that a search came to a group.
-pub(crate) fn come_to(trail: &mut Trail, group: usize, from: usize, via: usize)
+pub(crate) fn come_to(trail: &mut Trail, group: u32, from: usize, via: u32)
     requires new { is_set trail.old.seen.items group ≡ false }
     requires within { group < length trail.old.seen.items }
     requires room { IsRoomy trail.old }
@@ -48,12 +48,12 @@ pub(crate) fn come_to(trail: &mut Trail, group: usize, from: usize, via: usize)
     ensures room { IsRoomy trail.new }
     ensures sizes { (length trail.new.seen.items ≡ length trail.old.seen.items) × (vec_capacity trail.new.order ≡ vec_capacity trail.old.order) }
 {
-    raise(&mut trail.seen, group);
-    trail.order.push_reserved(Visit { group, from, via });
+    raise(&mut trail.seen, group as usize);
+    trail.order.push_reserved(Visit { group, via, from });
 }
 
 /// The group of a visit.
-pub(crate) fn group_at(trail: &Trail, visit: usize) -> usize
+pub(crate) fn group_at(trail: &Trail, visit: usize) -> u32
     requires { visit < vec_len trail.now.order }
     ensures { IsGroupAt trail.now.order.items visit result }
 {
@@ -61,7 +61,7 @@ pub(crate) fn group_at(trail: &Trail, visit: usize) -> usize
 }
 
 /// Looks at a dependency of a group that the search came to, and comes to its group if that is new.
-fn look_at(graph: &Graph, trail: &mut Trail, from: usize, to: usize) -> Look
+pub(crate) fn look_at(graph: &Graph, trail: &mut Trail, from: usize, to: u32) -> Look
     requires trail { IsTrailOf graph.now trail.old }
     requires room { IsRoomy trail.old }
     requires wired { IsWired graph.now (length trail.old.seen.items) }
@@ -72,13 +72,13 @@ fn look_at(graph: &Graph, trail: &mut Trail, from: usize, to: usize) -> Look
     ensures looked { WasLooked graph.now trail.new to result }
     ensures came { result ≡ Look.Came → vec_len trail.new.order ≡ vec_len trail.old.order + 1 }
 {
-    if is_set(&graph.ready, to) {
+    if is_set(&graph.ready, to as usize) {
         return Look::Known;
     }
-    let Some(group) = at(&graph.homes, to) else {
+    let Some(group) = at(&graph.homes, to as usize) else {
         return Look::Open;
     };
-    if is_set(&trail.seen, group) {
+    if is_set(&trail.seen, group as usize) {
         return Look::Known;
     }
     come_to(trail, group, from, to);
@@ -86,7 +86,7 @@ fn look_at(graph: &Graph, trail: &mut Trail, from: usize, to: usize) -> Look
 }
 
 /// Goes on from the last visit by the links of groups, as long as they lead to new ones.
-fn follow(graph: &Graph, links: &[Option<usize>], trail: &mut Trail) -> Option<Found>
+fn follow(graph: &Graph, links: &[Option<u32>], trail: &mut Trail) -> Option<Found>
     requires trail { IsTrailOf graph.now trail.old }
     requires room { IsRoomy trail.old }
     requires wired { IsWired graph.now (length trail.old.seen.items) }
@@ -99,7 +99,7 @@ fn follow(graph: &Graph, links: &[Option<usize>], trail: &mut Trail) -> Option<F
 {
     loop {
         let from = trail.order.len() - 1;
-        let to = at(links, group_at(trail, from))?;
+        let to = at(links, group_at(trail, from) as usize)?;
         match look_at(graph, trail, from, to) {
             Look::Known => return None,
             Look::Open => return Some(Found { from, to }),
@@ -111,10 +111,10 @@ fn follow(graph: &Graph, links: &[Option<usize>], trail: &mut Trail) -> Option<F
 /// Looks at a dependency of a group that the search came to, and goes on from there.
 fn follow_to(
     graph: &Graph,
-    links: &[Option<usize>],
+    links: &[Option<u32>],
     trail: &mut Trail,
     from: usize,
-    to: usize,
+    to: u32,
 ) -> Option<Found>
     requires trail { IsTrailOf graph.now trail.old }
     requires room { IsRoomy trail.old }
@@ -136,7 +136,7 @@ fn follow_to(
 /// Looks at the dependencies of a group that the search came to, from one of them on.
 fn scan(
     graph: &Graph,
-    links: &[Option<usize>],
+    links: &[Option<u32>],
     trail: &mut Trail,
     from: usize,
     start: usize,
@@ -162,18 +162,18 @@ fn scan(
 }
 
 /// Moves the cursor of a group past the dependencies that are ready for good.
-pub(crate) fn advance(graph: &Graph, cursors: &mut [usize], group: usize) -> usize
+pub(crate) fn advance(graph: &Graph, cursors: &mut [usize], group: u32) -> usize
     requires within { group < length cursors.old }
     requires cursors { ArePassed graph.now cursors.old }
     ensures cursors { ArePassed graph.now cursors.new }
     ensures passed { (k d : ℕ) → k < result → slice_get (deps_in graph.now group) k ≡ Some d → ready_in graph.now d ≡ true }
 {
     let deps = deps_of(&graph.nodes, group);
-    let mut start = cursors[group];
-    while start < deps.len() && is_set(&graph.ready, deps[start]) {
+    let mut start = cursors[group as usize];
+    while start < deps.len() && is_set(&graph.ready, deps[start] as usize) {
         start += 1;
     }
-    cursors[group] = start;
+    cursors[group as usize] = start;
     start
 }
 
@@ -181,7 +181,7 @@ pub(crate) fn advance(graph: &Graph, cursors: &mut [usize], group: usize) -> usi
 /// looked at all that the groups it came to depend on.
 pub(crate) fn search(
     graph: &Graph,
-    links: &[Option<usize>],
+    links: &[Option<u32>],
     cursors: &mut [usize],
     trail: &mut Trail,
 ) -> Option<Found>

@@ -22,23 +22,23 @@ pub(crate) fn resolve_from(core: &mut Core, first: usize)
     ensures held { AreHeld core.new (length core.new.graph.nodes.items) 0 }
 {
     for group in first..core.graph.nodes.len() {
-        resolve(core, group);
+        resolve(core, group as u32);
     }
 }
 
 /// Whether a group is linked to an instance.
-fn is_linked_to(links: &[Option<usize>], group: usize, instance: usize) -> bool
+fn is_linked_to(links: &[Option<u32>], group: u32, instance: u32) -> bool
     ensures yes { result ≡ true → place links.now group ≡ Some instance }
     ensures not { result ≡ false → place links.now group ≡ Some instance → ⊥ }
 {
-    match at(links, group) {
+    match at(links, group as usize) {
         Some(to) => to == instance,
         None => false,
     }
 }
 
 /// Looks again at the group of a mention, if it is linked to the instance.
-fn wake_group(core: &mut Core, told: usize, instance: usize, mention: usize)
+fn wake_group(core: &mut Core, told: usize, instance: u32, mention: u32)
     requires mention { mention < length core.old.graph.edges.items }
     requires told { told ≤ vec_len core.old.told }
     requires sound { IsSound core.old }
@@ -50,7 +50,7 @@ fn wake_group(core: &mut Core, told: usize, instance: usize, mention: usize)
     ensures tells { Tells core.old.graph.ready.items core.new.graph.ready.items core.old.told.items core.new.told.items }
     ensures held { (e : Edge) → slice_get core.old.graph.edges.items mention ≡ Some e → AreHeldBut core.new told instance e.next }
 {
-    let group = core.graph.edges[mention].group;
+    let group = core.graph.edges[mention as usize].group;
     if is_linked_to(&core.links, group, instance) {
         resolve(core, group);
     }
@@ -68,11 +68,11 @@ fn wake(core: &mut Core, told: usize)
     ensures tells { Tells core.old.graph.ready.items core.new.graph.ready.items core.old.told.items core.new.told.items }
     ensures held { AreHeld core.new (length core.new.graph.nodes.items) (told + 1) }
 {
-    let instance = core.told[told].0 as usize;
-    let mut next = at(&core.graph.firsts, instance);
+    let instance = core.told[told].0;
+    let mut next = at(&core.graph.firsts, instance as usize);
     while let Some(mention) = next {
         wake_group(core, told + 1, instance, mention);
-        next = core.graph.edges[mention].next;
+        next = core.graph.edges[mention as usize].next;
     }
 }
 

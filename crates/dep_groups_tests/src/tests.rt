@@ -76,12 +76,33 @@ fn a_circle_waits_for_a_third(rt: HostRuntime) -> Result<(), Fail> {
     emit_one(alloc, &mut frontier, InstId(1), &[InstId(0)])?;
     assert!(rt; !frontier.is_ready(InstId(0)));
     assert!(rt; !frontier.is_ready(InstId(1)));
+    assert!(rt; frontier.pending_count(InstId(0)) == 1);
+    assert!(rt; frontier.pending_count(InstId(1)) == 1);
     assert!(rt; are_told(&frontier, &[]));
     emit_one(alloc, &mut frontier, InstId(2), &[])?;
     assert!(rt; frontier.is_ready(InstId(0)));
     assert!(rt; frontier.is_ready(InstId(1)));
     assert!(rt; frontier.is_ready(InstId(2)));
     assert!(rt; are_told(&frontier, &[0, 1, 2]));
+    Ok(())
+}
+
+#[test]
+fn what_two_depend_on_is_counted_once(rt: HostRuntime) -> Result<(), Fail> {
+    let alloc = rt.alloc();
+    let mut frontier = Frontier::new(alloc);
+    emit_one(alloc, &mut frontier, InstId(0), &[InstId(1), InstId(2)])?;
+    emit_one(alloc, &mut frontier, InstId(1), &[InstId(3)])?;
+    emit_one(
+        alloc,
+        &mut frontier,
+        InstId(2),
+        &[InstId(4), InstId(3), InstId(5)],
+    )?;
+    emit_one(alloc, &mut frontier, InstId(5), &[])?;
+    assert!(rt; frontier.pending_count(InstId(0)) == 2);
+    assert!(rt; frontier.pending_count(InstId(1)) == 1);
+    assert!(rt; frontier.pending_count(InstId(5)) == 0);
     Ok(())
 }
 

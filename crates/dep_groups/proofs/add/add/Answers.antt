@@ -22,5 +22,6 @@ returns-clause-sound c =
       fresh = c.requires.fresh;
       unwanted = λ low m named. ap (λ (fs : List (Option ℕ)). place fs m.0) (sym c.deref.ensures.value) ∙ c.is_wanted-wanted.ensures low m (subst (λ (ms : List InstId). Contains ms m) (sym c.deref-2.ensures.value) named);
       room = omega (arith, c.requires.room.order, old.trail.seen.ok.0);
+      few = omega (arith, c.requires.room.few.groups_few, old.graph.nodes.ok.0);
     })
     c.requires.sound c.requires.indexed

@@ -68,6 +68,7 @@ returns-in-None-clause-sound c =
       cursors = ap length passed ∙ c.seek-found.auto.cursors ∙ ap length c.deref_mut.ensures.value ∙ s.sizes.cursors;
       seen = c.clear-in-None.ensures.sizes ∙ c.seek-found.ensures.more.groups ∙ c.come_to.ensures.sizes.0 ∙ s.sizes.seen;
       ready = ap length is ∙ c.mark_all.auto.ready ∙ ap length c.deref_mut-in-None.ensures.value ∙ s.sizes.ready;
+      few = s.sizes.few;
     })
     (subst (λ (xs : List Bool). vec_len c.mark_all.new.told + unset xs ≤ vec_capacity c.mark_all.new.told) (sym is) e.room)
 
