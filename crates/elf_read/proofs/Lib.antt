@@ -1,4 +1,5 @@
 pub mod Builds
+pub mod Ends
 pub mod Firsts
 pub mod NameSets
 pub mod Ranges

@@ -1,8 +1,8 @@
 -- What is found once for all checks of a file.
-use Rattle.std.specs.Prelude.{◌≡◌, ℕ, ◌+◌, ◌*◌, Bool, ◌&&◌, ◌||◌, nat_lt, nat_le, List, length, map, Option}
+use Rattle.std.specs.Prelude.{◌≡◌, ◌≢◌, ℕ, ◌+◌, ◌*◌, ◌<◌, ◌≤◌, Bool, ◌&&◌, ◌||◌, nat_lt, nat_le, List, length, get_or, map, Option}
 use Rattle.elf_read.specs.Choice.{any_below}
-use Rattle.elf_read.specs.File.{File, section}
-use Rattle.elf_read.specs.Sections.{symtab_of, rela_of, takes_bytes}
+use Rattle.elf_read.specs.File.{File, section, contents}
+use Rattle.elf_read.specs.Sections.{symtab_of, symtab, rela_of, takes_bytes}
 use Rattle.elf_read.specs.Symbols.{numbers, kept_below}
 
 -- the symbol table's number, and for each section that of its relocations and how many kept sections
@@ -11,6 +11,13 @@ pub record IsIndex (f : File) (symtab : Option ℕ) (relas : List (Option ℕ)) 
   pub symtab_is : symtab ≡ symtab_of f
   pub relas_are : relas ≡ map (rela_of f) (numbers f.count)
   pub kept_are : kept ≡ map (λ i. length (kept_below f i)) (numbers f.count)
+
+-- the bytes of the table of the sections' names, and of that of the symbols' names
+abbrev pub section_strings : File → List ℕ
+section_strings f = contents f.bytes (section f f.names)
+
+abbrev pub symbol_strings : File → List ℕ
+symbol_strings f = contents f.bytes (section f (symtab f).link)
 
 -- a byte of a range, which is given by its start and size
 abbrev pub within : ℕ → ℕ → ℕ → Bool
@@ -21,3 +28,19 @@ unfoldable pub is_owned : File → ℕ → ℕ → Bool
 is_owned f i place =
     (within 0 64 place || within f.table (64 * f.count) place)
     || any_below i (λ k. takes_bytes f k && within (section f k).offset (section f k).size place)
+
+-- the first zero byte from a place on is at this place
+pub record IsEnd (bytes : List ℕ) (start place : ℕ) : Type 0 where
+  pub past : start ≤ place
+  pub inside : place < length bytes
+  pub zero : get_or bytes place 0 ≡ 0
+  pub none : (k : ℕ) → start ≤ k → k < place → get_or bytes k 0 ≢ 0
+
+-- there is none
+abbrev pub HasNoEnd : List ℕ → ℕ → Type 0
+HasNoEnd bytes start = (k : ℕ) → start ≤ k → k < length bytes → get_or bytes k 0 ≢ 0
+
+-- of the bytes that were seen, for each block of 64 up to the last zero byte the first one at or past its start
+pub record AreEnds (bytes : List ℕ) (seen : ℕ) (ends : List ℕ) : Type 0 where
+  pub ended : (k : ℕ) → k < length ends → IsEnd bytes (64 * k) (get_or ends k 0)
+  pub after : (k : ℕ) → 64 * length ends ≤ k → k < seen → get_or bytes k 0 ≢ 0

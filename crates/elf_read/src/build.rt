@@ -2,48 +2,33 @@ ghost use Rattle.std.specs.Prelude.{◌≡◌, ◌<◌, ◌≤◌, ◌==◌, [],
 ghost use Rattle.elf_read.specs.Choice.{first_below};
 ghost use Rattle.elf_read.specs.File.{section, lies_in, contents};
 ghost use Rattle.elf_read.specs.Gabi.{sht_nobits};
+ghost use Rattle.elf_read.specs.Index.{section_strings, symbol_strings};
 ghost use Rattle.elf_read.specs.Object.{section_in, object_in};
 ghost use Rattle.elf_read.specs.Sections.{is_kept, symtab, section_refusal};
 ghost use Rattle.elf_read.specs.Sections as want;
+ghost use Rattle.elf_read.specs.Symbols as symbol;
 ghost use Rattle.elf_read.specs.Symbols.{numbers, kept_below, symbol_count, entry, symbol_zero, symbol_in, place_of};
 
 use crate::fields::{SectionHeader, SymbolEntry};
 use crate::gabi::{SHN_ABS, SHN_COMMON, SHN_UNDEF, SHT_NOBITS};
-use crate::names::{bytes_from, ended_text, section_bytes};
+use crate::name::{Name, NameTable};
 use crate::object::{ElfObject, Section, Sections, SymPlace, Symbol, Symbols};
 use crate::relocs::relocs_of;
-use crate::symbols::{symbol_entry, symbol_name, symbol_total};
+use crate::string_table::section_bytes;
+use crate::symbols::{name_of, symbol_entry, symbol_total};
 use crate::table::Table;
 use orc_ids::Bytes;
 use std::alloc::{AllocError, Global};
 
-/// The most bytes that the names of an object's sections, or of its symbols, take in memory. Names may
-/// lie over each other in a string table, so that a small file names far more bytes than it has: one
-/// that names more is answered as if memory had run out.
-const NAMES_ROOM: u64 = 1 << 29;
-
-/// Copies a name, as long as there is room for it.
-fn copy_name(alloc: Global, name: &[u8], room: &mut u64) -> Result<Bytes, AllocError>
-    ensures { IfOk result (λ copy. copy ≡ name.now) }
-{
-    match room.checked_sub(name.len() as u64) {
-        None => Err(AllocError),
-        Some(left) => {
-            *room = left;
-            Bytes::copy_of(alloc, name)
-        }
-    }
-}
-
 /// The name of a section; empty where it is not in the name table.
 #[tactic(auto, unfolding(crate::specs::Sections::section_name))]
-fn section_name<'a>(table: &Table<'a>, i: u32) -> &'a [u8]
-    ensures { result.now ≡ unwrap_or (want.section_name table.now i) [] }
+fn section_name(table: &Table, names: &NameTable, i: u32) -> Result<Name, AllocError>
+    requires { names.now ≡ section_strings table.now }
+    ensures { IfOk result (λ name. name ≡ unwrap_or (want.section_name table.now i) []) }
 {
-    let names = section_bytes(table.bytes(), &table.section(table.names()));
-    match ended_text(bytes_from(names, table.section(i).name as u64)) {
-        None => &[],
-        Some(name) => name,
+    match table.section_name(i) {
+        None => Ok(Name::empty()),
+        Some(text) => names.name(table.section(i).name as usize, text.len()),
     }
 }
 
@@ -69,8 +54,9 @@ fn build_section(
     alloc: Global,
     table: &Table,
     i: u32,
-    room: &mut u64,
+    names: &NameTable,
 ) -> Result<Section, AllocError>
+    requires names { names.now ≡ section_strings table.now }
     requires sections { first_below table.now.count (section_refusal table.now) ≡ None }
     requires number { i < table.now.count }
     requires kept { IsTrue (is_kept (section table.now i)) }
@@ -78,7 +64,7 @@ fn build_section(
 {
     let section = table.section(i);
     Ok(Section {
-        name: copy_name(alloc, section_name(table, i), room)?,
+        name: section_name(table, names, i)?,
         kind: section.kind,
         flags: section.flags,
         align: align_of(&section),
@@ -92,11 +78,11 @@ fn build_sections(alloc: Global, table: &Table) -> Result<Sections, AllocError>
     requires { first_below table.now.count (section_refusal table.now) ≡ None }
     ensures { IfOk result (λ sections. sections ≡ map (section_in table.now) (kept_below table.now table.now.count)) }
 {
+    let names = NameTable::copy_of(alloc, table.section_strings())?;
     let mut items = Vec::new(alloc);
-    let mut room = NAMES_ROOM;
     for i in 0..table.count() {
         if table.section(i).is_kept() {
-            items.push(build_section(alloc, table, i, &mut room)?)?;
+            items.push(build_section(alloc, table, i, &names)?)?;
         }
     }
     Ok(Sections::from_vec(items))
@@ -125,11 +111,11 @@ fn place_of_symbol(table: &Table, entry: &SymbolEntry) -> SymPlace
 }
 
 /// Symbol 0 is the empty, absolute 0.
-fn build_zero(alloc: Global) -> Symbol
+fn build_zero() -> Symbol
     ensures { result ≡ symbol_zero }
 {
     Symbol {
-        name: Bytes::new(alloc),
+        name: Name::empty(),
         bind: 0,
         kind: 0,
         vis: 0,
@@ -139,18 +125,31 @@ fn build_zero(alloc: Global) -> Symbol
     }
 }
 
-#[tactic(auto, unfolding(crate::specs::Symbols::symbol_in))]
-fn build_symbol(alloc: Global, table: &Table, j: u32, room: &mut u64) -> Result<Symbol, AllocError>
+/// The name of an entry; empty where it is not in the string table, not ended there, or too long.
+#[tactic(auto, unfolding(crate::specs::Symbols::name_of))]
+fn symbol_name(table: &Table, names: &NameTable, entry: &SymbolEntry) -> Result<Name, AllocError>
+    requires { names.now ≡ symbol_strings table.now }
+    ensures { IfOk result (λ name. name ≡ unwrap_or (symbol.name_of table.now entry.now) []) }
+{
+    match name_of(table, entry) {
+        None => Ok(Name::empty()),
+        Some(text) => names.name(entry.name as usize, text.len()),
+    }
+}
+
+#[tactic(auto, unfolding(crate::specs::Symbols::symbol_in, crate::specs::Symbols::symbol_name))]
+fn build_symbol(table: &Table, j: u32, names: &NameTable) -> Result<Symbol, AllocError>
+    requires names { names.now ≡ symbol_strings table.now }
     requires inside { IsTrue (lies_in table.now.bytes (symtab table.now).offset (symtab table.now).size) }
     requires number { j < symbol_count table.now }
     ensures { IfOk result (λ s. s ≡ symbol_in table.now j) }
 {
     if j == 0 {
-        return Ok(build_zero(alloc));
+        return Ok(build_zero());
     }
     let entry = symbol_entry(table, j);
     Ok(Symbol {
-        name: copy_name(alloc, symbol_name(table, j), room)?,
+        name: symbol_name(table, names, &entry)?,
         bind: entry.bind,
         kind: entry.kind,
         vis: entry.vis,
@@ -166,9 +165,9 @@ fn build_symbols(alloc: Global, table: &Table) -> Result<Symbols, AllocError>
 {
     let total = symbol_total(table)?;
     let mut items = Vec::with_capacity(alloc, total as usize)?;
-    let mut room = NAMES_ROOM;
+    let names = NameTable::copy_of(alloc, table.symbol_strings())?;
     for j in 0..total {
-        items.push(build_symbol(alloc, table, j, &mut room)?)?;
+        items.push(build_symbol(table, j, &names)?)?;
     }
     Ok(Symbols::from_vec(items))
 }

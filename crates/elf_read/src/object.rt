@@ -1,5 +1,6 @@
 ghost use Rattle.std.specs.Prelude.{◌≡◌, []};
 
+use crate::name::Name;
 use orc_ids::Bytes;
 use std::alloc::Global;
 use std::marker::Model;
@@ -58,7 +59,7 @@ impl Relocs {
 /// in the file, and else has `size` bytes.
 #[derive(Debug, Drop)]
 pub struct Section {
-    pub name: Bytes,
+    pub name: Name,
     pub kind: u32,
     pub flags: u64,
     pub align: u64,
@@ -125,7 +126,7 @@ pub enum SymPlace {
 /// and `vis` is the visibility of `st_other`.
 #[derive(Debug, Drop)]
 pub struct Symbol {
-    pub name: Bytes,
+    pub name: Name,
     pub bind: u8,
     pub kind: u8,
     pub vis: u8,

@@ -12,7 +12,9 @@ use crate::symbols::check_symbols;
 use crate::table::Table;
 use std::alloc::Global;
 
-/// The object that bytes are, or the first check that they fail. The work is linear in the bytes.
+/// The object that bytes are, or the first check that they fail. The work is linear in the bytes and in
+/// the lengths of the names of non-local symbols, each of which has 4,096 bytes at most; the memory is
+/// linear in the bytes.
 ///
 /// The checks, in their order: header and section table; the sections; their names; their ranges;
 /// the symbols; the relocations.

@@ -16,7 +16,6 @@ use crate::gabi::{
 };
 use crate::header::is_power;
 use crate::name_set::NameSet;
-use crate::names::{bytes_from, ended_text, first_bytes, section_bytes};
 use crate::sections::symtab_header;
 use crate::table::Table;
 use std::alloc::{AllocError, Global};
@@ -57,11 +56,14 @@ pub(crate) fn symbol_entry(table: &Table, j: u32) -> SymbolEntry
 
 /// The name of a symbol; none where it is not in the string table, not ended there, or too long.
 #[tactic(auto, unfolding(crate::specs::Symbols::name_of))]
-fn name_of<'a>(table: &Table<'a>, entry: &SymbolEntry) -> Option<&'a [u8]>
+pub(crate) fn name_of<'a>(table: &Table<'a>, entry: &SymbolEntry) -> Option<&'a [u8]>
     ensures { MatchOption result (want.name_of table.now entry.now ≡ None) (λ text. want.name_of table.now entry.now ≡ Some text.now) }
 {
-    let strings = section_bytes(table.bytes(), &table.section(symtab_header(table).link));
-    ended_text(first_bytes(bytes_from(strings, entry.name as u64), LONGEST_NAME + 1))
+    let name = table.symbol_text(entry.name)?;
+    if name.len() as u64 > LONGEST_NAME {
+        return None;
+    }
+    Some(name)
 }
 
 /// The name of symbol j, which is not symbol 0.

@@ -1,35 +1,43 @@
-ghost use Rattle.std.specs.Prelude.{◌≡◌, ℕ, ◌<◌, ◌≤◌, ◌+◌, ◌*◌, ◌&&◌, ◌==◌, map, length, slice_index_or, replicate, IfOk, None};
+ghost use Rattle.std.specs.Prelude.{◌≡◌, ℕ, ◌<◌, ◌≤◌, ◌+◌, ◌*◌, ◌&&◌, ◌==◌, map, length, drop, slice_index_or, replicate, IfOk, MatchOption, Some, None};
 ghost use Rattle.elf_read.specs.Choice.{when, ◌otherwise◌};
 ghost use Rattle.elf_read.specs.File.{section};
 ghost use Rattle.elf_read.specs.Gabi.{sht_rela};
-ghost use Rattle.elf_read.specs.Sections.{symtab_of, rela_of};
+ghost use Rattle.elf_read.specs.Index.{section_strings, symbol_strings};
+ghost use Rattle.elf_read.specs.Sections.{symtab_of, rela_of, text_in};
+ghost use Rattle.elf_read.specs.Sections as want;
 ghost use Rattle.elf_read.specs.Symbols.{numbers, kept_below};
 
 use crate::fields::SectionHeader;
 use crate::file::ElfFile;
 use crate::gabi::{SHT_RELA, SHT_SYMTAB};
+use crate::string_table::{StringTable, section_bytes};
 use std::alloc::{AllocError, Global};
 use std::marker::Model;
 
-/// A file with what its checks look up: the symbol table's number, and for each section the number
-/// of its relocations and how many kept sections stand before it.
+/// A file with what its checks look up: the symbol table's number, for each section the number of its
+/// relocations and how many kept sections stand before it, and where names end.
 #[derive(Drop)]
 pub(crate) struct Table<'a> {
     file: ElfFile<'a>,
     symtab: Option<u32>,
     relas: Vec<Option<u32>>,
     kept: Vec<u32>,
+    section_names: StringTable<'a>,
+    symbol_names: StringTable<'a>,
 }
 
 impl<'a> Model for Table<'a> {
+    ghost use Rattle.std.specs.Prelude.{◌≡◌};
     ghost use Rattle.elf_read.specs.File.{File};
-    ghost use Rattle.elf_read.specs.Index.{IsIndex};
+    ghost use Rattle.elf_read.specs.Index.{IsIndex, section_strings, symbol_strings};
 
     ghost Value = { File };
 
     ghost view = { λ t. t.file };
 
-    ghost invariant = { λ t. IsIndex t.file t.symtab t.relas.items t.kept.items };
+    ghost invariant = { λ t. IsIndex t.file t.symtab t.relas.items t.kept.items
+        × (t.section_names ≡ section_strings t.file)
+        × (t.symbol_names ≡ symbol_strings t.file) };
 }
 
 fn first_symtab(file: &ElfFile) -> Option<u32>
@@ -86,19 +94,50 @@ fn kept_before(alloc: Global, file: &ElfFile) -> Result<Vec<u32>, AllocError>
     Ok(before)
 }
 
+/// The table of the sections' names.
+fn find_section_names<'a>(alloc: Global, file: &ElfFile<'a>) -> Result<StringTable<'a>, AllocError>
+    ensures { IfOk result (λ strings. strings ≡ section_strings file.now) }
+{
+    StringTable::new(
+        alloc,
+        section_bytes(file.bytes(), &file.section(file.names())),
+    )
+}
+
+/// The table of the symbols' names; empty where there is no symbol table.
+#[tactic(auto, unfolding(crate::specs::Sections::symtab))]
+fn find_symbol_names<'a>(
+    alloc: Global,
+    file: &ElfFile<'a>,
+    number: Option<u32>,
+) -> Result<StringTable<'a>, AllocError>
+    requires { number ≡ symtab_of file.now }
+    ensures { IfOk result (λ strings. strings ≡ symbol_strings file.now) }
+{
+    let symtab = file.section(number.unwrap_or(0));
+    StringTable::new(
+        alloc,
+        section_bytes(file.bytes(), &file.section(symtab.link)),
+    )
+}
+
 impl<'a> Table<'a> {
-    /// Looks up the symbol table and the relocations of each section.
+    /// Looks up the symbol table, the relocations of each section and the ends of names.
     pub fn new(alloc: Global, file: ElfFile<'a>) -> Result<Table<'a>, AllocError>
         ensures { IfOk result (λ t. t ≡ file.entry) }
     {
         let symtab = first_symtab(&file);
         let relas = first_relas(alloc, &file)?;
         let kept = kept_before(alloc, &file)?;
+        let section_names = find_section_names(alloc, &file)?;
+        let symbol_names = find_symbol_names(alloc, &file, symtab)?;
         Ok(Table {
             file,
             symtab,
             relas,
             kept,
+            section_names,
+            symbol_names,
         })
     }
 
@@ -159,5 +198,35 @@ impl<'a> Table<'a> {
         ensures { result ≡ length (kept_below self.now i) }
     {
         self.kept[i as usize]
+    }
+
+    /// The bytes of the table of the sections' names.
+    pub fn section_strings(&self) -> &'a [u8]
+        ensures { result.now ≡ section_strings self.now }
+    {
+        self.section_names.bytes()
+    }
+
+    /// The bytes of the table of the symbols' names.
+    pub fn symbol_strings(&self) -> &'a [u8]
+        ensures { result.now ≡ symbol_strings self.now }
+    {
+        self.symbol_names.bytes()
+    }
+
+    /// The name of a section; none where it is not in the name table, and ended there.
+    #[tactic(auto, unfolding(crate::specs::Sections::section_name))]
+    pub fn section_name(&self, i: u32) -> Option<&'a [u8]>
+        ensures { MatchOption result (want.section_name self.now i ≡ None) (λ name. want.section_name self.now i ≡ Some name.now) }
+    {
+        self.section_names.text(self.section(i).name as usize)
+    }
+
+    /// The text of a place in the table of the symbols' names; none where it isn't ended there.
+    pub fn symbol_text(&self, at: u32) -> Option<&'a [u8]>
+        ensures { MatchOption result (text_in (drop at (symbol_strings self.now)) ≡ None)
+            (λ text. text_in (drop at (symbol_strings self.now)) ≡ Some text.now) }
+    {
+        self.symbol_names.text(at as usize)
     }
 }

@@ -1,3 +1,5 @@
+mod shared;
+
 use elf_read::{ElfError, SymPlace, read_object};
 use std::test::Fail;
 

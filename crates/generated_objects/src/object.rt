@@ -6,7 +6,7 @@ ghost use Rattle.elf_read.specs.Symbols.{symbol_zero};
 ghost use Rattle.generated_objects.specs.Objects.{code, defined, function_name, generated_object, linked_object, lone_object, object_calling, text_section};
 
 use crate::rings::next;
-use elf_read::{ElfObject, Reloc, Relocs, Section, Sections, SymPlace, Symbol, Symbols};
+use elf_read::{ElfObject, Name, Reloc, Relocs, Section, Sections, SymPlace, Symbol, Symbols};
 use link_model::kinds::CALL_PLT;
 use orc_ids::Bytes;
 use std::alloc::{AllocError, Global};
@@ -43,12 +43,12 @@ const LOAD: u32 = 0x513;
 const RETURN: u32 = 0x0000_8067;
 
 /// The name of function `k`.
-fn text_of(alloc: Global, k: u32) -> Result<Bytes, AllocError>
-    ensures { IfOk result (λ text. text ≡ function_name k) }
+fn name_of(alloc: Global, k: u32) -> Result<Name, AllocError>
+    ensures { IfOk result (λ name. name ≡ function_name k) }
 {
     let mut text = Vec::new(alloc);
     put_numbered(&mut text, b"f", k)?;
-    Ok(Bytes::from_vec(text))
+    Name::from_bytes(alloc, Bytes::from_vec(text))
 }
 
 /// A word in little-endian order.
@@ -90,7 +90,7 @@ fn text_section(alloc: Global, symbol: u32, k: u32) -> Result<Section, AllocErro
         addend: 0,
     })?;
     Ok(Section {
-        name: Bytes::copy_of(alloc, b".text")?,
+        name: Name::copy_of(alloc, b".text")?,
         kind: PROGBITS,
         flags: CODE,
         align: 4,
@@ -101,11 +101,11 @@ fn text_section(alloc: Global, symbol: u32, k: u32) -> Result<Section, AllocErro
 }
 
 /// Symbol 0 is empty.
-fn symbol_zero(alloc: Global) -> Symbol
+fn symbol_zero() -> Symbol
     ensures { result ≡ symbol_zero }
 {
     Symbol {
-        name: Bytes::new(alloc),
+        name: Name::empty(),
         bind: 0,
         kind: 0,
         vis: 0,
@@ -120,7 +120,7 @@ fn function_symbol(alloc: Global, k: u32, place: SymPlace) -> Result<Symbol, All
     ensures { IfOk result (λ symbol. symbol ≡ record (defined k) { place = place }) }
 {
     Ok(Symbol {
-        name: text_of(alloc, k)?,
+        name: name_of(alloc, k)?,
         bind: GLOBAL,
         kind: 0,
         vis: 0,
@@ -147,7 +147,7 @@ fn lone_object(alloc: Global, k: u32) -> Result<ElfObject, AllocError>
     ensures { IfOk result (λ object. object ≡ lone_object k) }
 {
     let mut symbols = Vec::with_capacity(alloc, 2)?;
-    symbols.push(symbol_zero(alloc))?;
+    symbols.push(symbol_zero())?;
     symbols.push(function_symbol(alloc, k, SymPlace::In(0))?)?;
     object(text_section(alloc, 1, k)?, alloc, symbols)
 }
@@ -157,7 +157,7 @@ fn linked_object(alloc: Global, callee: u32, k: u32) -> Result<ElfObject, AllocE
     ensures { IfOk result (λ object. object ≡ linked_object callee k) }
 {
     let mut symbols = Vec::with_capacity(alloc, 3)?;
-    symbols.push(symbol_zero(alloc))?;
+    symbols.push(symbol_zero())?;
     symbols.push(function_symbol(alloc, k, SymPlace::In(0))?)?;
     symbols.push(function_symbol(alloc, callee, SymPlace::Undef)?)?;
     object(text_section(alloc, 2, k)?, alloc, symbols)

@@ -4,8 +4,7 @@ ghost use Rattle.rv_asm.specs.Symbols as want;
 
 use crate::order::{SymbolOrder, is_local_mark, marks_of};
 use asm_state::{Definition, Marks, SymbolBook};
-use elf_read::{SymPlace, Symbol, Symbols};
-use orc_ids::Bytes;
+use elf_read::{Name, SymPlace, Symbol, Symbols};
 use std::alloc::{AllocError, Global};
 
 const STB_LOCAL: u8 = 0;
@@ -87,7 +86,7 @@ fn entry_of(alloc: Global, name: &[u8], marks: &Marks) -> Result<Symbol, AllocEr
     ensures { IfOk result (λ s. s ≡ want.entry_of name.now marks.now) }
 {
     Ok(Symbol {
-        name: Bytes::copy_of(alloc, name)?,
+        name: Name::copy_of(alloc, name)?,
         bind: bind_of(marks),
         kind: kind_of(marks.definition),
         vis: vis_of(marks),
@@ -110,11 +109,11 @@ fn symbol_of(alloc: Global, symbols: &SymbolBook, number: u32) -> Result<Symbol,
 }
 
 /// Symbol 0 is the empty, absolute 0.
-fn zero_symbol(alloc: Global) -> Symbol
+fn zero_symbol() -> Symbol
     ensures { result ≡ symbol_zero }
 {
     Symbol {
-        name: Bytes::new(alloc),
+        name: Name::empty(),
         bind: 0,
         kind: 0,
         vis: 0,
@@ -137,7 +136,7 @@ pub(crate) fn symbol_table(
     ensures count { IfOk result (λ s. length s ≡ 1 + length order.now) }
 {
     let mut items = Vec::with_capacity(alloc, 1)?;
-    items.push(zero_symbol(alloc))?;
+    items.push(zero_symbol())?;
     push_symbols(alloc, symbols, order.numbers(), &mut items)?;
     Ok(Symbols::from_vec(items))
 }
