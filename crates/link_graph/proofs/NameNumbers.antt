@@ -1,14 +1,16 @@
 -- The number of a name, and which names have one.
-use Rattle.std.proofs.Common.{◌≡◌, ℕ, zero, suc, ◌+◌, ◌<◌, List, [], ◌∷◌, length, get_or, Option, Some, None, refl, sym, ap, subst, ◌∙◌, inl, inr, arith}
-use Rattle.std.specs.Prelude.{slice_get, Contains, IsTrue, IsSome, IfSome, ◌↔◌}
+use Rattle.std.proofs.Common.{◌≡◌, false, ℕ, zero, suc, ◌+◌, ◌<◌, List, [], ◌∷◌, length, get_or, Option, Some, None, refl, sym, ap, subst, ◌∙◌, inl, inr, arith}
+use Rattle.std.specs.Prelude.{slice_get, Contains, Result, Ok, Err, OnOk, OnErr, IsTrue, IsSome, IfSome, ◌↔◌, ◌⊎◌, ◌++◌}
 use Rattle.std.specs.List.{position_from}
 use Rattle.std.specs.Str.{bytes_eq}
 use Rattle.std.specs.Cmp.Lexicographic.{nat_list_eq_equiv, same_text}
 use Rattle.std.proofs.lemmas.Bool.{cases_Bool, cases_lt}
+use Rattle.std.proofs.lemmas.List.Elements.{Contains-push_cases, Contains-get_or}
 use Rattle.std.proofs.lemmas.Option.{none-some, same_Some, slice_get_within, slice_get-get_or}
 use Rattle.elf_read.specs.declared.object.Symbol.{Symbol}
 use Rattle.orc_ids.specs.declared.ids.NameId.{NameId}
 use Rattle.link_graph.specs.Object.{name_number, is_global}
+use Rattle.link_graph.specs.Read.{AddsNamesOf}
 use Rattle.orc_names.specs.Numbers.{IsNumberOf, KeepsNumbers}
 
 -- the first place of a text, where it has only one
@@ -66,4 +68,41 @@ one_more_named old new symbols n s keeps within is here before k d lt global = e
       let same : k ≡ n = omega arith in
       let item : get_or symbols k d ≡ s = ap (λ i. get_or symbols i d) same ∙ any_default symbols n d s within ∙ sym is in
       subst (λ (x : Symbol). Contains new x.name) (sym item) (here (subst (λ (x : Symbol). IsTrue (is_global x)) item global)))
+]
+
+-- ---- no other text is added
+
+known_later : (x text : List ℕ) (xs : List (List ℕ)) (k : ℕ) → k < length (x ∷ xs) → get_or (x ∷ xs) k text ≡ text → (x ≡ text) ⊎ Contains xs text
+known_later x text xs zero lt is = inl is
+known_later x text xs (suc k) lt is = inr (k, omega arith, is)
+
+known_or_not : (names : List (List ℕ)) (text : List ℕ) → Contains names text ⊎ (Contains names text → ⊥)
+known_or_not [] text = inr (λ c. let lt = c.1 in absurd (omega arith))
+known_or_not (x ∷ xs) text = elim (cases_Bool (bytes_eq text x)) [
+  | inl t ↦ inl (0, omega arith, sym (same_text text x (sym t)))
+  | inr f ↦ elim (known_or_not xs text) [
+    | inl c ↦ inl (suc c.0, (let lt = c.1 in omega arith), c.2)
+    | inr none ↦ inr (λ c. elim (known_later x text xs c.0 c.1 c.2) [
+      | inl is ↦ absurd (let same : bytes_eq text text ≡ false = subst (λ (y : List ℕ). bytes_eq text y ≡ false) is f in let here = nat_list_eq_equiv.refl text in cc)
+      | inr later ↦ none later
+    ])
+  ]
+]
+
+-- a text that was known adds nothing, and any other itself
+pub adds_one : (old new : List (List ℕ)) (text : List ℕ) → (Contains old text → new ≡ old) → ((Contains old text → ⊥) → new ≡ old ++ text ∷ []) → (other : List ℕ) → Contains new other → Contains old other ⊎ (text ≡ other)
+adds_one old new text known added other c = elim (known_or_not old text) [
+  | inl there ↦ inl (subst (λ (ns : List (List ℕ)). Contains ns other) (known there) c)
+  | inr none ↦ Contains-push_cases old text other (subst (λ (ns : List (List ℕ)). Contains ns other) (added none) c)
+]
+
+pub adds_none : (old new : List (List ℕ)) (symbols : List Symbol) → new ≡ old → AddsNamesOf symbols old new
+adds_none old new symbols same text c = inl (subst (λ (ns : List (List ℕ)). Contains ns text) same c)
+
+-- one more symbol's name
+pub adds_name_of : (old mid new : List (List ℕ)) (symbols : List Symbol) (i : ℕ) (s : Symbol) → AddsNamesOf symbols old mid → i < length symbols → s ≡ get_or symbols i s → IsTrue (is_global s) →
+    ((other : List ℕ) → Contains new other → Contains mid other ⊎ (s.name ≡ other)) → AddsNamesOf symbols old new
+adds_name_of old mid new symbols i s before within is global one text c = elim (one text c) [
+  | inl earlier ↦ before text earlier
+  | inr same ↦ inr (s, (i, within, sym is), global, same)
 ]

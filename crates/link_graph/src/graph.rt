@@ -5,7 +5,7 @@ ghost use Rattle.link_graph.specs.Object.{blocks_of};
 ghost use Rattle.link_graph.specs.Padding.{all_cuts, trimmed};
 ghost use Rattle.link_graph.specs.Checks.{or_else, is_too_large, symbol_error, relocs_error, error_among, graph_of_object, Makes};
 ghost use Rattle.link_graph.specs.Parts.{IsSmall, Refuses, failed_check, trimmed_places, trimmed_edges, place_error};
-ghost use Rattle.link_graph.specs.Read.{IsRead, AreNamed, LeavesNames};
+ghost use Rattle.link_graph.specs.Read.{IsRead, AreNamed, AddsNamesOf, LeavesNames};
 
 use crate::blocks::all_blocks;
 use crate::cuts::{Cuts, all_cuts};
@@ -109,6 +109,7 @@ pub fn graph_of(alloc: Global, o: &ElfObject, names: &mut Names) -> Result<LinkG
     ensures sized { IfOk result (λ g. IsSized g) }
     ensures offers { IfOk result (λ g. OffersDiffer g) }
     ensures named { OnOk result (AreNamed names.new o.now.symbols) }
+    ensures only { AddsNamesOf o.now.symbols names.old names.new }
     ensures older { KeepsNumbers names.old names.new }
     ensures refused { IfErr result (λ why. LeavesNames why names.old names.new) }
 {

@@ -1,11 +1,11 @@
-ghost use Rattle.std.specs.Prelude.{◌≡◌, ◌+◌, ◌<◌, ◌≤◌, ◌^◌, [], length, map, Contains, IfOk, IfErr, OnOk};
+ghost use Rattle.std.specs.Prelude.{◌≡◌, ◌+◌, ◌<◌, ◌≤◌, ◌^◌, ◌⊎◌, [], List, ℕ, length, map, Contains, IfOk, IfErr, OnOk};
 ghost use Rattle.orc_names.specs.Numbers.{KeepsNumbers};
 ghost use Rattle.link_graph.specs.declared.error.GraphError.TheVariants.{NoMemory};
 ghost use Rattle.link_graph.specs.Object.{is_local, is_weak, is_function, is_exported, is_passed, is_global, graph_place, graph_flags, graph_symbol, graph_symbols, name_number};
 ghost use Rattle.link_model.specs.Image.{at_or};
 ghost use Rattle.link_graph.specs.Padding.{moved, trimmed_symbol};
 ghost use Rattle.link_graph.specs.Parts.{graph_places};
-ghost use Rattle.link_graph.specs.Read.{HasShortNames, AreNamed};
+ghost use Rattle.link_graph.specs.Read.{HasShortNames, AreNamed, AddsNamesOf};
 
 use crate::blocks::in_common;
 use crate::cuts::Cuts;
@@ -149,6 +149,7 @@ fn intern_name(names: &mut Names, text: &[u8]) -> Result<(), GraphError>
     requires { length text.now ≤ 4096 }
     ensures older { KeepsNumbers names.old names.new }
     ensures named { OnOk result (Contains names.new text.now) }
+    ensures only { (other : List ℕ) → Contains names.new other → Contains names.old other ⊎ (text.now ≡ other) }
     ensures err { IfErr result (λ why. why ≡ NoMemory) }
 {
     match names.intern(text) {
@@ -162,6 +163,7 @@ pub(crate) fn intern_names(names: &mut Names, symbols: &[Symbol]) -> Result<(), 
     requires { HasShortNames symbols.now }
     ensures older { KeepsNumbers names.old names.new }
     ensures named { OnOk result (AreNamed names.new symbols.now) }
+    ensures only { AddsNamesOf symbols.now names.old names.new }
     ensures err { IfErr result (λ why. why ≡ NoMemory) }
 {
     for s in symbols {

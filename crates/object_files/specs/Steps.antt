@@ -1,5 +1,5 @@
 -- What becomes of one file, those before it having been taken in.
-use Rattle.std.specs.Prelude.{◌≡◌, ℕ, ◌+◌, ◌<◌, ◌≤◌, ◌^◌, ◌⊎◌, List, length, All, ⊤}
+use Rattle.std.specs.Prelude.{◌≡◌, ℕ, ◌+◌, ◌<◌, ◌≤◌, ◌^◌, ◌⊎◌, List, [], ◌∷◌, length, All, ⊤}
 use Rattle.orc_ids.specs.declared.ids.UnitName.TheVariants.{Object}
 use Rattle.orc_io.specs.Causes.{Rose}
 use Rattle.orc_io.specs.Contents.{HasContent, IsLongerThan}
@@ -11,6 +11,7 @@ use Rattle.link_model.specs.declared.graph.LinkGraph.{LinkGraph}
 use Rattle.session_model.specs.Meaning.{Meaning}
 use Rattle.session_units.specs.Meaning.{graph_meaning}
 use Rattle.object_files.specs.Files.{Told, HasAddresses, IsObject, IsRefused}
+use Rattle.object_files.specs.Reads.{Use, AreReadIn, IsFaultAfter}
 use Rattle.object_files.specs.declared.error.LoadError.{LoadError}
 use Rattle.object_files.specs.declared.error.LoadError.TheVariants.{Fault, TooLong, Refused, NoMemory}
 use Rattle.object_files.specs.declared.load.TheConstants.{TOTAL_LIMIT}
@@ -62,3 +63,8 @@ IsStoppedAt told faults now number before name (Fault k) = (k ≡ number) × Ros
 IsStoppedAt told faults now number before name (TooLong k) = (k ≡ number) × IsTooLong told before name
 IsStoppedAt told faults now number before name (Refused k why) = (k ≡ number) × ((bytes : List ℕ) × IsNext told before name bytes × IsRefused bytes why)
 IsStoppedAt told faults now number before name NoMemory = ⊤
+
+-- the next file was read, and nothing else; the read was a fault where the answer says so
+abbrev pub IsReadFor : List ℕ → Use → Use → LoadError → Type 0
+IsReadFor name old new (Fault k) = IsFaultAfter [] name old new
+IsReadFor name old new _ = AreReadIn (name ∷ []) old new

@@ -1,8 +1,9 @@
-ghost use Rattle.std.specs.Prelude.{◌≡◌, ◌+◌, ◌<◌, ◌≤◌, length, map, IfOk, IfErr};
+ghost use Rattle.std.specs.Prelude.{◌≡◌, ◌+◌, ◌<◌, ◌≤◌, ◌∷◌, [], length, map, IfOk, IfErr, OnOk};
 ghost use Rattle.orc_names.specs.Numbers.{KeepsNumbers};
 ghost use Rattle.session_units.specs.Units.{meaning_of};
 ghost use Rattle.object_files.specs.Files.{AreLoaded, HasStopped};
-ghost use Rattle.object_files.specs.Steps.{IsTaken, IsNext, IsStoppedAt};
+ghost use Rattle.object_files.specs.Reads.{use_of, AreReadIn, AreReadUntil};
+ghost use Rattle.object_files.specs.Steps.{IsTaken, IsNext, IsStoppedAt, IsReadFor};
 
 use crate::distinct::number_of;
 use crate::error::LoadError;
@@ -20,7 +21,7 @@ pub const TOTAL_LIMIT: usize = 256 * 1024 * 1024;
 /// its file. The symbols' names are interned after those that the table has already.
 ///
 /// A file that can't be read stops the load, and else one that has more than 16 MiB, then one that makes
-/// the sum greater than 256 MiB, and then one whose bytes are refused. There are at most 2^32 files; where
+/// the sum greater than 256 MiB, and then one whose bytes are refused. None after it is read, and no file twice. There are at most 2^32 files; where
 /// there is one more, the answer is that of memory.
 pub fn load_files<F: Files>(
     alloc: Global,
@@ -30,6 +31,10 @@ pub fn load_files<F: Files>(
 ) -> Result<Vec<ObjectUnit>, LoadError>
     ensures loaded { IfOk result (λ units. AreLoaded (F.holds files.old) (map (λ w. w.now) file_names.now) names.new (map meaning_of units.items)) }
     ensures stopped { IfErr result (λ e. HasStopped (F.holds files.old) (F.faults files.old) (F.faults files.new) (map (λ w. w.now) file_names.now) e) }
+    ensures read { OnOk result (AreReadIn (map (λ w. w.now) file_names.now)
+        (use_of (F.reads files.old) (F.faults files.old)) (use_of (F.reads files.new) (F.faults files.new))) }
+    ensures read_until { IfErr result (λ e. AreReadUntil (map (λ w. w.now) file_names.now)
+        (use_of (F.reads files.old) (F.faults files.old)) (use_of (F.reads files.new) (F.faults files.new)) e) }
     ensures older { KeepsNumbers names.old names.new }
     ensures counted { F.faults files.old ≤ F.faults files.new }
     ensures same { F.holds files.new ≡ F.holds files.old }
@@ -58,6 +63,10 @@ fn next_unit<F: Files>(
     ensures taken { IfOk result (λ next. IsTaken (F.holds files.old) names.new number total name.now (meaning_of next.0) next.1) }
     ensures stopped { IfErr result (λ e. IsStoppedAt (F.holds files.old) (F.faults files.old) (F.faults files.new) number total name.now e) }
     ensures older { KeepsNumbers names.old names.new }
+    ensures read { OnOk result (AreReadIn (name.now ∷ [])
+        (use_of (F.reads files.old) (F.faults files.old)) (use_of (F.reads files.new) (F.faults files.new))) }
+    ensures read_for { IfErr result (λ e. IsReadFor name.now
+        (use_of (F.reads files.old) (F.faults files.old)) (use_of (F.reads files.new) (F.faults files.new)) e) }
     ensures counted { F.faults files.old ≤ F.faults files.new }
     ensures same { F.holds files.new ≡ F.holds files.old }
 {
@@ -78,6 +87,10 @@ fn read_next<F: Files>(
     requires { total ≤ TOTAL_LIMIT }
     ensures next { IfOk result (λ bytes. IsNext (F.holds files.old) total name.now bytes) }
     ensures stopped { IfErr result (λ e. IsStoppedAt (F.holds files.old) (F.faults files.old) (F.faults files.new) number total name.now e) }
+    ensures read { OnOk result (AreReadIn (name.now ∷ [])
+        (use_of (F.reads files.old) (F.faults files.old)) (use_of (F.reads files.new) (F.faults files.new))) }
+    ensures read_for { IfErr result (λ e. IsReadFor name.now
+        (use_of (F.reads files.old) (F.faults files.old)) (use_of (F.reads files.new) (F.faults files.new)) e) }
     ensures counted { F.faults files.old ≤ F.faults files.new }
     ensures same { F.holds files.new ≡ F.holds files.old }
 {

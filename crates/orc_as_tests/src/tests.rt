@@ -60,7 +60,7 @@ fn an_object_that_was_written_runs(rt: HostRuntime) -> Result<(), Fail> {
     let _ = call(&rt, &["orc", "as", "t.s"], &mut outside)?;
     let object = Bytes::copy_of(alloc, outside.out.bytes())?;
     outside.files.put(alloc, "t.o", object)?;
-    outside.out = MemSink::new(alloc, Vec::new(alloc), 6);
+    outside.out = MemSink::new(alloc, Vec::new(alloc), 6)?;
     let ended = call(&rt, &["orc", "run", "t.o"], &mut outside)?;
     assert_eq!(rt; outside.out.bytes(), b"hello\n".as_slice());
     assert_eq!(rt; ended.status, 0);
@@ -125,10 +125,10 @@ fn a_write_that_fails(rt: HostRuntime) -> Result<(), Fail> {
     let alloc = rt.alloc();
     let words = ["orc", "as", "t.s"];
     let mut outside = Outside::with_text(alloc, HELLO_TEXT)?;
-    outside.out.room = 10;
+    outside.out = MemSink::new(alloc, Vec::new(alloc), 10)?;
     expect(&rt, &words, outside, &HELLO[..10], b"", 103)?;
     let mut outside = Outside::with_text(alloc, HELLO_TEXT)?;
-    outside.log.room = 5;
+    outside.log = MemSink::new(alloc, Vec::new(alloc), 5)?;
     expect(&rt, &words, outside, HELLO.as_slice(), b"end d", 103)?;
     // whatever was found before
     let mut outside = Outside::with_text(alloc, b"frob\n")?;

@@ -54,8 +54,8 @@ fn expect_meeting<R: Threads + Wait + Sync + RandomSource + Abort + AllocGlobal>
     }
     let mut source = MemSource::new(Bytes::from_vec(script), Vec::new(alloc));
     let mut files = files(alloc)?;
-    let mut out = MemSink::new(alloc, Vec::new(alloc), ROOM);
-    let mut log = MemSink::new(alloc, Vec::new(alloc), ROOM);
+    let mut out = MemSink::new(alloc, Vec::new(alloc), ROOM)?;
+    let mut log = MemSink::new(alloc, Vec::new(alloc), ROOM)?;
     let gate = Meeting::new();
     let notes: Vec<Note> = Vec::new(alloc);
     let ended = orc(

@@ -1,4 +1,5 @@
 ghost use Rattle.std.specs.Prelude.{◌≡◌};
+ghost use Rattle.orc_io.specs.Causes.{is_fault};
 ghost use Rattle.orc_io.specs.declared.errors.FileError.TheVariants as file_error;
 ghost use Rattle.orc_io.specs.declared.errors.ReadError.TheVariants as read_error;
 
@@ -75,4 +76,11 @@ impl From<Failed> for ReadError {
     fn from(_: Failed) -> ReadError {
         ReadError::Failed
     }
+}
+
+/// Whether the read of a file was a fault.
+pub(crate) fn is_fault(answer: &Result<Bytes, FileError>) -> bool
+    ensures { result ≡ is_fault answer.now }
+{
+    matches!(answer, Err(FileError::Failed))
 }

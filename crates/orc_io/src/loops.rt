@@ -25,6 +25,8 @@ pub fn read_source<S: Source>(
     ensures too_long { IfErr result (HasLongerFront limit (S.left source.old) (S.left source.new)) }
     ensures failed { IsErrOf result ReadError.Failed → Rose (S.faults source.old) (S.faults source.new) }
     ensures counted { S.faults source.old ≤ S.faults source.new }
+    ensures once { S.faults source.new ≤ S.faults source.old + 1 }
+    ensures passed { (IsErrOf result ReadError.Failed → ⊥) → S.faults source.new ≡ S.faults source.old }
 {
     read_expected(alloc, source, limit, EXPECTED)
 }
@@ -43,6 +45,8 @@ pub fn read_expected<S: Source>(
     ensures too_long { IfErr result (HasLongerFront limit (S.left source.old) (S.left source.new)) }
     ensures failed { IsErrOf result ReadError.Failed → Rose (S.faults source.old) (S.faults source.new) }
     ensures counted { S.faults source.old ≤ S.faults source.new }
+    ensures once { S.faults source.new ≤ S.faults source.old + 1 }
+    ensures passed { (IsErrOf result ReadError.Failed → ⊥) → S.faults source.new ≡ S.faults source.old }
 {
     let mut buffer = Vec::new(alloc);
     buffer.resize(expected.min(limit).saturating_add(1), 0)?;
@@ -92,6 +96,8 @@ fn read_behind<S: Source>(
     ensures not_long { IfErr result HasNoFront }
     ensures failed { IsErrOf result ReadError.Failed → Rose (S.faults source.old) (S.faults source.new) }
     ensures counted { S.faults source.old ≤ S.faults source.new }
+    ensures once { S.faults source.new ≤ S.faults source.old + 1 }
+    ensures passed { (IsErrOf result ReadError.Failed → ⊥) → S.faults source.new ≡ S.faults source.old }
 {
     if filled == buffer.len() {
         lengthen(buffer, limit)?;
@@ -105,6 +111,8 @@ pub fn write_all<K: Sink>(sink: &mut K, text: &[u8]) -> Result<(), Failed>
     ensures part { OnErr result (AppendsPartOf (K.held sink.old) (K.held sink.new) text.now) }
     ensures failed { OnErr result (Rose (K.faults sink.old) (K.faults sink.new)) }
     ensures counted { K.faults sink.old ≤ K.faults sink.new }
+    ensures once { K.faults sink.new ≤ K.faults sink.old + 1 }
+    ensures passed { OnOk result (K.faults sink.new ≡ K.faults sink.old) }
 {
     let mut done = 0;
     while done < text.len() {

@@ -1,4 +1,4 @@
-ghost use Rattle.std.specs.Prelude.{ℕ, ◌<◌, ◌≤◌, List, Option, length, IfOk, OnErr};
+ghost use Rattle.std.specs.Prelude.{◌≡◌, ℕ, ◌+◌, ◌<◌, ◌≤◌, List, Option, length, IfOk, OnOk, OnErr};
 ghost use Rattle.std.specs.Io.{WritesAtMost};
 ghost use Rattle.std.specs.Io.KnownBytes.{WriteAppends};
 ghost use Rattle.orc_io.specs.Causes.{Rose};
@@ -20,5 +20,7 @@ pub trait Sink {
         ensures bytes { WriteAppends (held self.old) (held self.new) result bytes.now }
         ensures progress { IfOk result (λ taken. 0 < length bytes.now → 0 < taken) }
         ensures counted { faults self.old ≤ faults self.new }
+        ensures once { faults self.new ≤ faults self.old + 1 }
+        ensures passed { OnOk result (faults self.new ≡ faults self.old) }
         ensures failed { OnErr result (Rose (faults self.old) (faults self.new)) };
 }

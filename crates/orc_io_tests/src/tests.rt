@@ -71,7 +71,7 @@ fn files_fail_at_their_listed_reads_and_where_one_is_missing(rt: HostRuntime) ->
 #[test]
 fn a_sink_fails_at_its_listed_writes_and_where_it_is_full(rt: HostRuntime) -> Result<(), Fail> {
     let alloc = rt.alloc();
-    let mut sink = MemSink::new(alloc, vec![in alloc; 0]?, 3);
+    let mut sink = MemSink::new(alloc, vec![in alloc; 0]?, 3)?;
     assert_eq!(rt; sink.write(b"ab"), Err(Failed));
     assert_eq!(rt; sink.write(b"ab"), Ok(2));
     assert_eq!(rt; sink.write(b"cd"), Ok(1));
@@ -88,7 +88,7 @@ fn a_text_is_written_whole_or_in_part(rt: HostRuntime) -> Result<(), Fail> {
     let mut sure = SureSink::new(alloc);
     assert_eq!(rt; write_all(&mut sure, b"journal"), Ok(()));
     assert_eq!(rt; sure.bytes(), Some(b"journal".as_slice()));
-    let mut full = MemSink::new(alloc, Vec::new(alloc), 3);
+    let mut full = MemSink::new(alloc, Vec::new(alloc), 3)?;
     assert_eq!(rt; write_all(&mut full, b"journal"), Err(Failed));
     assert_eq!(rt; full.bytes(), b"jou".as_slice());
     Ok(())

@@ -30,8 +30,8 @@ impl Outside {
         Ok(Outside {
             source: MemSource::new(Bytes::copy_of(alloc, b"unread")?, Vec::new(alloc)),
             files,
-            out: MemSink::new(alloc, Vec::new(alloc), ROOM),
-            log: MemSink::new(alloc, Vec::new(alloc), ROOM),
+            out: MemSink::new(alloc, Vec::new(alloc), ROOM)?,
+            log: MemSink::new(alloc, Vec::new(alloc), ROOM)?,
         })
     }
 }

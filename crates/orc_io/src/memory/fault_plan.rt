@@ -1,4 +1,4 @@
-ghost use Rattle.std.specs.Prelude.{◌≡◌, ◌≤◌, ◌↔◌, IsErr, OnOk, OnErr};
+ghost use Rattle.std.specs.Prelude.{◌≡◌, ◌+◌, ◌≤◌, ◌↔◌, IsErr, OnOk, OnErr};
 ghost use Rattle.orc_io.specs.Causes.{Rose};
 
 use crate::errors::Failed;
@@ -36,6 +36,7 @@ impl FaultPlan {
         ensures call { CountsCall self.old self.new }
         ensures passed { OnOk result (self.new.faults ≡ self.old.faults) }
         ensures counted { self.old.faults ≤ self.new.faults }
+        ensures once { self.new.faults ≤ self.old.faults + 1 }
         ensures failed { OnErr result (Rose self.old.faults self.new.faults) }
     {
         let listed = self.failing.contains(&self.calls);
@@ -46,6 +47,7 @@ impl FaultPlan {
     /// A fault: the count rises, or stands at the end of its type.
     pub fn fail(&mut self) -> Failed
         ensures counted { self.old.faults ≤ self.new.faults }
+        ensures once { self.new.faults ≤ self.old.faults + 1 }
         ensures failed { Rose self.old.faults self.new.faults }
         ensures calls { self.new.calls ≡ self.old.calls }
         ensures failing { self.new.failing.items ≡ self.old.failing.items }

@@ -1,4 +1,4 @@
-ghost use Rattle.std.specs.Prelude.{◌≡◌, ◌<◌, ◌≤◌, ◌-◌, [], Some, IfOk, IsErr, OnErr, length, min, vec_len};
+ghost use Rattle.std.specs.Prelude.{◌≡◌, ◌+◌, ◌<◌, ◌≤◌, ◌-◌, ◌↔◌, ◌⊎◌, [], Some, IfOk, IsErr, OnOk, OnErr, length, min, vec_len, vec_capacity};
 ghost use Rattle.std.specs.Io.{WritesAtMost};
 ghost use Rattle.std.specs.Io.KnownBytes.{WriteAppends};
 ghost use Rattle.orc_io.specs.Causes.{Rose};
@@ -7,33 +7,35 @@ ghost use Rattle.orc_io.specs.Plans.{NextIsListed, CountsCall};
 use crate::errors::Failed;
 use crate::memory::fault_plan::FaultPlan;
 use crate::sink::Sink;
-use std::alloc::Global;
+use std::alloc::{AllocError, Global};
 
 /// A sink in memory. It tells its bytes, and fails at the calls of `write` that it is made with, and
-/// where it is full. Want of memory is a fault of it too.
+/// where it is full. The memory for all that it can hold is taken when it is made.
 #[derive(Debug, Drop)]
 pub struct MemSink {
-    pub held: Vec<u8>,
+    held: Vec<u8>,
     /// How many bytes it can hold.
-    pub room: usize,
+    room: usize,
     pub plan: FaultPlan,
+    ghost within: { vec_len held ≤ room },
+    ghost reserved: { room ≤ vec_capacity held },
 }
 
 impl MemSink {
     /// An empty sink whose writes with these numbers fail, counted from 0, and which is full once it
     /// holds `room` bytes.
-    pub fn new(alloc: Global, failing: Vec<u64>, room: usize) -> MemSink
-        ensures held { ⟦<MemSink as Sink>⟧.held result ≡ Some [] }
-        ensures room { result.room ≡ room }
-        ensures failing { result.plan.failing.items ≡ failing.items }
-        ensures calls { result.plan.calls ≡ 0 }
-        ensures faults { ⟦<MemSink as Sink>⟧.faults result ≡ 0 }
+    pub fn new(alloc: Global, failing: Vec<u64>, room: usize) -> Result<MemSink, AllocError>
+        ensures held { IfOk result (λ sink. ⟦<MemSink as Sink>⟧.held sink ≡ Some []) }
+        ensures room { IfOk result (λ sink. sink.room ≡ room) }
+        ensures failing { IfOk result (λ sink. sink.plan.failing.items ≡ failing.items) }
+        ensures calls { IfOk result (λ sink. sink.plan.calls ≡ 0) }
+        ensures faults { IfOk result (λ sink. ⟦<MemSink as Sink>⟧.faults sink ≡ 0) }
     {
-        MemSink {
-            held: Vec::new(alloc),
+        Ok(MemSink {
+            held: Vec::with_capacity(alloc, room)?,
             room,
             plan: FaultPlan::new(failing),
-        }
+        })
     }
 
     /// The bytes that it holds.
@@ -49,25 +51,27 @@ impl Sink for MemSink {
 
     ghost faults = { λ s. s.plan.faults };
 
-    /// Fails where the number of the call is listed, and where the sink is full; else it takes all that
-    /// it has room for, or fails for want of memory.
+    /// Fails exactly where the number of the call is listed, or the sink is full and the piece isn't
+    /// empty; else it takes all that it has room for.
     fn write(&mut self, bytes: &[u8]) -> Result<usize, Failed>
         ensures bound { WritesAtMost result bytes.now }
         ensures bytes { WriteAppends (⟦<MemSink as Sink>⟧.held self.old)
             (⟦<MemSink as Sink>⟧.held self.new) result bytes.now }
         ensures progress { IfOk result (λ taken. 0 < length bytes.now → 0 < taken) }
         ensures counted { self.old.plan.faults ≤ self.new.plan.faults }
+        ensures once { self.new.plan.faults ≤ self.old.plan.faults + 1 }
+        ensures passed { OnOk result (self.new.plan.faults ≡ self.old.plan.faults) }
         ensures failed { OnErr result (Rose self.old.plan.faults self.new.plan.faults) }
 
-        ensures listed { NextIsListed self.old.plan → IsErr result }
-        ensures full { 0 < length bytes.now → self.old.room ≤ vec_len self.old.held → IsErr result }
+        ensures listed_or_full { IsErr result ↔ (NextIsListed self.old.plan ⊎
+            ((0 < length bytes.now) × (vec_len self.old.held ≡ self.old.room))) }
         ensures taken { IfOk result (λ taken.
             taken ≡ min (self.old.room - vec_len self.old.held) (length bytes.now)) }
         ensures room { self.new.room ≡ self.old.room }
         ensures call { CountsCall self.old.plan self.new.plan }
     {
         self.plan.begin()?;
-        let free = self.room.saturating_sub(self.held.len());
+        let free = self.room - self.held.len();
         let count = free.min(bytes.len());
         if count == 0 && !bytes.is_empty() {
             return Err(self.plan.fail());

@@ -1,4 +1,4 @@
-ghost use Rattle.std.specs.Prelude.{◌≡◌, ◌≤◌, ◌↔◌, Some, IsErr, OnErr};
+ghost use Rattle.std.specs.Prelude.{◌≡◌, ◌+◌, ◌≤◌, ◌↔◌, Some, IsErr, OnOk, OnErr};
 ghost use Rattle.std.specs.Io.{ReadsAtMost};
 ghost use Rattle.std.specs.Io.KnownBytes.{ReadConsumes};
 ghost use Rattle.orc_io.specs.Causes.{Rose};
@@ -43,6 +43,8 @@ impl Source for MemSource {
         ensures bytes { ReadConsumes (⟦<MemSource as Source>⟧.left self.old)
             (⟦<MemSource as Source>⟧.left self.new) result buf.new }
         ensures counted { self.old.plan.faults ≤ self.new.plan.faults }
+        ensures once { self.new.plan.faults ≤ self.old.plan.faults + 1 }
+        ensures passed { OnOk result (self.new.plan.faults ≡ self.old.plan.faults) }
         ensures failed { OnErr result (Rose self.old.plan.faults self.new.plan.faults) }
 
         ensures listed { IsErr result ↔ NextIsListed self.old.plan }

@@ -5,6 +5,7 @@ ghost use Rattle.orc_io.specs.Contents.{HasContent, KeepsOtherFiles};
 use crate::errors::FileError;
 use crate::files::Files;
 use crate::memory::file_table::{FileTable, copy_within_limit, put_file};
+use crate::reads::Reads;
 use orc_ids::Bytes;
 use std::alloc::{AllocError, Global};
 use std::collections::HashMap;
@@ -14,16 +15,19 @@ use std::collections::HashMap;
 #[derive(Drop)]
 pub struct SureFiles {
     contents: FileTable,
+    reads: Reads,
 }
 
 impl SureFiles {
     /// Files that are all empty.
     pub fn new(alloc: Global) -> SureFiles
-        ensures { IfSome (⟦<SureFiles as Files>⟧.holds result) (λ contents.
+        ensures empty { IfSome (⟦<SureFiles as Files>⟧.holds result) (λ contents.
             (name : List ℕ) → contents name ≡ Some []) }
+        ensures read { ⟦<SureFiles as Files>⟧.reads result ≡ [] }
     {
         SureFiles {
             contents: HashMap::new(alloc),
+            reads: Reads::new(),
         }
     }
 
@@ -33,6 +37,7 @@ impl SureFiles {
         ensures others { OnOk result (KeepsOtherFiles (⟦<SureFiles as Files>⟧.holds self.old)
             (⟦<SureFiles as Files>⟧.holds self.new) name.now) }
         ensures err { OnErr result (⟦<SureFiles as Files>⟧.holds self.new ≡ ⟦<SureFiles as Files>⟧.holds self.old) }
+        ensures read { ⟦<SureFiles as Files>⟧.reads self.new ≡ ⟦<SureFiles as Files>⟧.reads self.old }
     {
         put_file(alloc, &mut self.contents, name, bytes)
     }
@@ -43,7 +48,10 @@ impl Files for SureFiles {
 
     ghost faults = { λ _. 0 };
 
+    ghost reads = { λ f. f.reads.list };
+
     fn read_file(&mut self, alloc: Global, name: &str) -> Result<Bytes, FileError> {
+        self.reads = self.reads.and(name, false);
         match self.contents.get(name) {
             None => Ok(Bytes::new(alloc)),
             Some(bytes) => copy_within_limit(alloc, bytes),

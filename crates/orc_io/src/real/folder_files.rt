@@ -1,9 +1,10 @@
-ghost use Rattle.std.specs.Prelude.{◌≡◌, ◌≤◌, None, IfOk, length};
+ghost use Rattle.std.specs.Prelude.{◌≡◌, ◌≤◌, [], None, IfOk, length};
 
-use crate::errors::{FileError, ReadError};
+use crate::errors::{FileError, ReadError, is_fault};
 use crate::files::Files;
 use crate::limits::FILE_LIMIT;
 use crate::loops::read_expected;
+use crate::reads::Reads;
 use crate::real::std_source::StdSource;
 use orc_ids::Bytes;
 use std::alloc::Global;
@@ -16,14 +17,20 @@ use std::fs::OpenFile;
 pub struct FolderFiles<R: fs::Files> {
     runtime: R,
     faults: u64,
+    reads: Reads,
 }
 
 impl<R: fs::Files> FolderFiles<R> {
     pub fn new(runtime: R) -> FolderFiles<R>
         ensures holds { ⟦<FolderFiles<R> as Files>⟧.holds result ≡ None }
         ensures faults { ⟦<FolderFiles<R> as Files>⟧.faults result ≡ 0 }
+        ensures read { ⟦<FolderFiles<R> as Files>⟧.reads result ≡ [] }
     {
-        FolderFiles { runtime, faults: 0 }
+        FolderFiles {
+            runtime,
+            faults: 0,
+            reads: Reads::new(),
+        }
     }
 }
 
@@ -32,11 +39,15 @@ impl<R: fs::Files> Files for FolderFiles<R> {
 
     ghost faults = { λ f. f.faults };
 
+    ghost reads = { λ f. f.reads.list };
+
     fn read_file(&mut self, alloc: Global, name: &str) -> Result<Bytes, FileError> {
         let answer = read_by_name(alloc, &self.runtime, name);
-        if let Err(FileError::Failed) = answer {
+        let failed = is_fault(&answer);
+        if failed {
             self.faults = self.faults.saturating_add(1);
         }
+        self.reads = self.reads.and(name, failed);
         answer
     }
 }

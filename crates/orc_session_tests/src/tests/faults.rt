@@ -3,7 +3,7 @@
 use super::outside::{Outside, call};
 use super::texts::text_of;
 use super::{CYCLE, CYCLE_TEXT};
-use orc_io::FaultPlan;
+use orc_io::{FaultPlan, MemSink};
 use std::alloc::{AllocError, Global};
 use std::process::Abort;
 use std::random::RandomSource;
@@ -61,7 +61,7 @@ fn a_read_of_a_file_fails(rt: HostRuntime) -> Result<(), Fail> {
 fn a_write_on_out_fails(rt: HostRuntime) -> Result<(), Fail> {
     let alloc = rt.alloc();
     let mut outside = Outside::with_script(alloc, CYCLE)?;
-    outside.out.room = 10;
+    outside.out = MemSink::new(alloc, Vec::new(alloc), 10)?;
     expect_fault(&rt, outside, "1 s0 dylib", "", 103)?;
     let mut outside = Outside::with_script(alloc, CYCLE)?;
     outside.out.plan = failing(alloc, 0)?;
@@ -72,7 +72,7 @@ fn a_write_on_out_fails(rt: HostRuntime) -> Result<(), Fail> {
 fn a_write_on_log_fails(rt: HostRuntime) -> Result<(), Fail> {
     let alloc = rt.alloc();
     let mut outside = Outside::with_script(alloc, CYCLE)?;
-    outside.log.room = 3;
+    outside.log = MemSink::new(alloc, Vec::new(alloc), 3)?;
     expect_fault(&rt, outside, CYCLE_TEXT, "end", 103)?;
     // whatever was found before
     let mut outside = Outside::with_script(alloc, "frob\n")?;

@@ -31,8 +31,8 @@ impl Outside {
         Ok(Outside {
             source: MemSource::new(text, Vec::new(alloc)),
             files: all_files(alloc)?,
-            out: MemSink::new(alloc, Vec::new(alloc), ROOM),
-            log: MemSink::new(alloc, Vec::new(alloc), ROOM),
+            out: MemSink::new(alloc, Vec::new(alloc), ROOM)?,
+            log: MemSink::new(alloc, Vec::new(alloc), ROOM)?,
         })
     }
 }

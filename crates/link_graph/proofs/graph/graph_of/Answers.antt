@@ -29,3 +29,12 @@ pub returns-clause-offers : goal.returns-clause-offers
 returns-clause-offers c =
     graph_offers c.intern_names.new.names c.args.o.now _ c.requires (search rules)
     (graph_is c.intern_names.new.names c.args.o.now c.from_vec.result c.from_vec-2.result c.from_vec-3.result (search rules) (search rules) (search rules))
+
+pub returns-in_err-intern_names-clause-only : goal.returns-in_err-intern_names-clause-only
+returns-in_err-intern_names-clause-only c = rw c.as_slice-symbols.ensures at c.intern_names.ensures.only
+
+pub returns-in_err-symbols-clause-only : goal.returns-in_err-symbols-clause-only
+returns-in_err-symbols-clause-only c = rw c.as_slice-symbols.ensures at c.intern_names.ensures.only
+
+pub returns-clause-only : goal.returns-clause-only
+returns-clause-only c = rw c.as_slice-symbols.ensures at c.intern_names.ensures.only

@@ -1,6 +1,7 @@
-use Rattle.std.proofs.Common.{◌≡◌, ◌≤◌, map}
+use Rattle.std.proofs.Common.{◌≡◌, ◌≤◌, map, take}
 use Rattle.orc_names.specs.Numbers.{KeepsNumbers}
 use Rattle.session_units.specs.Units.{meaning_of}
+use Rattle.object_files.specs.Reads.{AreReadIn, use_of}
 use Rattle.object_files.proofs.SoFar.{AreSoFar}
 use Rattle.object_files.proofs.load.load_files.Given as goal
 
@@ -10,4 +11,5 @@ invariant-loop-name g l = record {
   older : KeepsNumbers l.fn.names l.names;
   counted : g.F.Files.faults l.fn.files ≤ g.F.Files.faults l.files;
   same : g.F.Files.holds l.files ≡ g.F.Files.holds l.fn.files;
+  read : AreReadIn (take l.name-index (map (λ w. w.now) l.file_names)) (use_of (g.F.Files.reads l.fn.files) (g.F.Files.faults l.fn.files)) (use_of (g.F.Files.reads l.files) (g.F.Files.faults l.files));
 }

@@ -1,4 +1,4 @@
-use Rattle.std.proofs.Common.{◌+◌, ◌-◌, ◌<◌, ◌≤◌, length, take}
+use Rattle.std.proofs.Common.{◌+◌, ◌-◌, ◌<◌, ◌≤◌, ◌≡◌, length, take}
 use Rattle.std.specs.Io.KnownBytes.{Consumes}
 use Rattle.orc_io.proofs.loops.read_expected.Given as goal
 
@@ -9,7 +9,7 @@ invariant-loop-filled g l = record {
   longest : length l.buffer.items ≤ l.limit + 1;
   within : l.filled ≤ length l.buffer.items;
   taken : Consumes (g.S.Source.left l.initial.source) (g.S.Source.left l.source) (take l.filled l.buffer.items);
-  counted : g.S.Source.faults l.initial.source ≤ g.S.Source.faults l.source;
+  passed : g.S.Source.faults l.source ≡ g.S.Source.faults l.initial.source;
 }
 
 abbrev pub decreases-loop-filled : goal.decreases-loop-filled

@@ -1,4 +1,4 @@
-use Rattle.std.proofs.Common.{take-add, arith}
+use Rattle.std.proofs.Common.{take-add, arith, ◌∙◌}
 use Rattle.std.proofs.lemmas.Grind.{common_steps}
 use Rattle.std.proofs.lemmas.List.{take_rest}
 use Rattle.std.proofs.KnownBytes.{Appends-trans}
@@ -9,5 +9,5 @@ loop-done-preserved g c = record {
   within = grind (arith, common_steps);
   written = let more = simp take_rest at (Appends-trans _ _ _ _ _ c.loop-done.invariant.written c.in_ok-done.ensures.bytes) in
       rw take-add more;
-  counted = omega arith;
+  passed = c.in_ok-done.ensures.passed ∙ c.loop-done.invariant.passed;
 }
