@@ -1,0 +1,14 @@
+pub mod Standing
+pub mod Numbers
+pub mod Entries
+pub mod Head
+pub mod Texts
+pub mod Growth
+pub mod Sections
+pub mod Written
+pub mod Tables
+pub mod Relas
+pub mod Row
+pub mod Parts
+pub mod Limits
+pub mod Fits

@@ -1,0 +1,10 @@
+pub mod Tests
+pub mod InFile
+pub mod Found
+pub mod SymbolTable
+pub mod ReadSections
+pub mod SectionChecks
+pub mod Overlaps
+pub mod Distinct
+pub mod SymbolChecks
+pub mod Reading
