@@ -9,10 +9,10 @@ use session_model::{Entry, UnitKind};
 use turn_lock::Counted;
 
 /// A session, whose history is its journal. The journal tells which query has a notifier, with which
-/// note.
+/// note. It lies on the heap, so that a turn hands on where it is and doesn't move it.
 pub struct Home<U: UnitKind, N: Notify, const JMAX: usize> {
-    pub(crate) session: Session<U, N, JMAX>,
-    ghost noted: { AreNoted (plain_history U.meaning session.journal) session.armed },
+    pub(crate) session: Box<Session<U, N, JMAX>>,
+    ghost noted: { AreNoted (plain_history U.meaning session.value.journal) session.value.armed },
 }
 
 impl<U: UnitKind, N: Notify, const JMAX: usize> Counted for Home<U, N, JMAX> {
@@ -21,7 +21,7 @@ impl<U: UnitKind, N: Notify, const JMAX: usize> Counted for Home<U, N, JMAX> {
 
     type Entry = Entry<U>;
 
-    ghost history = { λ home. home.session.journal };
+    ghost history = { λ home. home.session.value.journal };
 
     ghost seat_of = { seat_of };
 

@@ -1,5 +1,5 @@
 //! How a shared session begins and ends.
-ghost use Rattle.std.specs.Prelude.{◌≡◌, ◌≤◌, ◌<◌, IfOk};
+ghost use Rattle.std.specs.Prelude.{◌≡◌, ◌≤◌, ◌<◌, [], IfOk};
 ghost use Rattle.session_model.specs.State.{plain_history};
 ghost use Rattle.execution_session.specs.declared.session.TheConstants.{JOURNAL_LIMIT};
 ghost use Rattle.note_laws.specs.Notes.{AreNoted};
@@ -32,12 +32,12 @@ pub fn open<U: UnitKind, N: Notify, const JMAX: usize>(
     requires seats { 0 < seats }
     ensures { IfOk result (λ r. (turn_of r.1 ≡ turn_id r.0) × (view r.1 ≡ first_view (seats, 0))) }
 {
-    let session = Session::open(alloc)?;
+    let session = open_home(alloc)?;
     match Turn::open(alloc, Home { session }, seats) {
         Ok(opened) => Ok(opened),
         Err(refused) => {
             let Home { session } = refused.value;
-            session.end();
+            Box::into_inner(session).end();
             Err(AllocError)
         }
     }
@@ -54,5 +54,21 @@ pub fn close<U: UnitKind, N: Notify, const JMAX: usize, R: Wait>(
     ensures noted { AreNoted (plain_history U.meaning result.journal) result.armed }
 {
     let Home { session } = shared.close(rt, pass);
-    session
+    Box::into_inner(session)
+}
+
+/// A session with no entry yet, on the heap.
+fn open_home<U: UnitKind, N: Notify, const JMAX: usize>(
+    alloc: Global,
+) -> Result<Box<Session<U, N, JMAX>>, AllocError>
+    requires { JMAX ≤ JOURNAL_LIMIT }
+    ensures { IfOk result (λ home. (home.value.journal ≡ []) × (home.value.armed ≡ [])) }
+{
+    match Box::new(alloc, Session::open(alloc)?) {
+        Ok(home) => Ok(home),
+        Err(refused) => {
+            refused.value.end();
+            Err(AllocError)
+        }
+    }
 }

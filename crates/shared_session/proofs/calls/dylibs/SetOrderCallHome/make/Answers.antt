@@ -1,8 +1,9 @@
 use Rattle.note_laws.proofs.Events.{quiet_is_noted}
 use Rattle.session_model.specs.declared.entry.Event.TheVariants as event
+use Rattle.shared_session.proofs.Lent.{legal_lent, noted_lent}
 use Rattle.shared_session.specs.Does.{seat}
 use Rattle.std.proofs.Common.{refl}
 use Rattle.shared_session.proofs.calls.dylibs.SetOrderCallHome.make.Goals as goal
 
 pub invariant_of-home : goal.invariant_of-home
-invariant_of-home g c = record { noted = quiet_is_noted g.U.UnitKind.meaning g.row.JMAX c.args.home.now.session c.set_order.new.self (seat c.args.seat) (event.SetOrder c.args.self.dylib c.args.self.order.now) c.set_order.result c.requires.lawful.legal c.args.home.now.noted refl c.set_order.ensures.armed c.set_order.ensures.performs }
+invariant_of-home g c = record { noted = quiet_is_noted g.U.UnitKind.meaning g.row.JMAX c.deref_mut.result.now c.set_order.new.self (seat c.args.seat) (event.SetOrder c.args.self.dylib c.args.self.order.now) c.set_order.result (legal_lent g.U.UnitKind.meaning c.deref_mut.result.now c.args.home.now.session.value c.deref_mut.ensures.value g.row.JMAX c.requires.lawful.legal) (noted_lent g.U.UnitKind.meaning c.deref_mut.result.now c.args.home.now.session.value c.deref_mut.ensures.value c.args.home.now.noted) refl c.set_order.ensures.armed c.set_order.ensures.performs }

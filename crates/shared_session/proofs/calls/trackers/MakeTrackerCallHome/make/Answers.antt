@@ -1,8 +1,9 @@
 use Rattle.note_laws.proofs.Events.{quiet_is_noted}
 use Rattle.session_model.specs.declared.entry.Event.TheVariants as event
+use Rattle.shared_session.proofs.Lent.{legal_lent, noted_lent}
 use Rattle.shared_session.specs.Does.{seat}
 use Rattle.std.proofs.Common.{refl}
 use Rattle.shared_session.proofs.calls.trackers.MakeTrackerCallHome.make.Goals as goal
 
 pub invariant_of-home : goal.invariant_of-home
-invariant_of-home g c = record { noted = quiet_is_noted g.U.UnitKind.meaning g.row.JMAX c.args.home.now.session c.tracker.new.self (seat c.args.seat) (event.Tracker c.args.self.dylib) c.tracker.result c.requires.lawful.legal c.args.home.now.noted refl c.tracker.ensures.armed c.tracker.ensures.performs }
+invariant_of-home g c = record { noted = quiet_is_noted g.U.UnitKind.meaning g.row.JMAX c.deref_mut.result.now c.tracker.new.self (seat c.args.seat) (event.Tracker c.args.self.dylib) c.tracker.result (legal_lent g.U.UnitKind.meaning c.deref_mut.result.now c.args.home.now.session.value c.deref_mut.ensures.value g.row.JMAX c.requires.lawful.legal) (noted_lent g.U.UnitKind.meaning c.deref_mut.result.now c.args.home.now.session.value c.deref_mut.ensures.value c.args.home.now.noted) refl c.tracker.ensures.armed c.tracker.ensures.performs }
