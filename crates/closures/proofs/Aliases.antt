@@ -36,7 +36,7 @@ is_its_alias unit None e alias = absurd (both_ways false refl e)
 is_its_alias unit (Some d) e alias = alias
 
 -- an alias has the form of one
-alias_is : (x : UnitRow) (g : LinkGraph) → is_alias x ≡ true → IsObject x.meaning g → IsAlias x.meaning
+pub alias_is : (x : UnitRow) (g : LinkGraph) → is_alias x ≡ true → IsObject x.meaning g → IsAlias x.meaning
 alias_is x g e (inl is) = absurd (both_ways (is_alias x) (no_alias x g is) e)
 alias_is x g e (inr bare) = is_its_alias x.meaning x.meaning.source e bare.0.alias
 

@@ -20,7 +20,7 @@ use Rattle.session_model.specs.declared.entry.Entry.{Entry}
 use Rattle.session_model.specs.declared.rows.UnitPhase.TheVariants as stage
 use Rattle.session_units.specs.Meaning.{addresses}
 use Rattle.static_links.proofs.Apart.{lies_apart}
-use Rattle.static_links.proofs.Lists.{any_found, filtered}
+use Rattle.static_links.proofs.Chosen.{mapped_chosen}
 use Rattle.static_links.proofs.Mapped.{mapped_inside}
 use Rattle.static_links.specs.Laws.{HasLabels, ImageIsLinked, IsToldSo}
 use Rattle.static_links.specs.Links.{Member, Spots, Pairs, IsMapped, InBlock, InCell, InStub, IsLinkedProgram, chosen_edges, linked_byte, uses_cell, uses_stub}
@@ -32,36 +32,13 @@ use Rattle.closures.proofs.Told.{told_so}
 use Rattle.closures.proofs.Units.{IsKept}
 
 -- what a legal history keeps
-kept_by : (jmax : ℕ) (h : List (Entry Meaning)) → IsLegal jmax h → IsKept (state h)
+pub kept_by : (jmax : ℕ) (h : List (Entry Meaning)) → IsLegal jmax h → IsKept (state h)
 kept_by jmax h legal = record {
   bound = done_is_bound jmax h legal;
   depends = dependencies_are_kept jmax h legal;
   live = instances_are_live jmax h legal;
   apart = placements_lie_apart jmax h legal;
 }
-
--- Mapped places
-
--- some edge of a chosen block passes
-edge_chosen : (chosen : ℕ → Bool) (test : Edge → Bool) (g : LinkGraph) (s : ℕ) → some_edge test (chosen_edges chosen g) s ≡ true → (b : ℕ) × (chosen b ≡ true)
-edge_chosen chosen test g s on =
-    let e = any_found (λ (x : Edge). x.target == s && test x) (chosen_edges chosen g) on in
-    (e.0.block, (filtered (λ (x : Edge). chosen x.block) g.edges e.0 e.1).1)
-
-stub_chosen : (chosen : ℕ → Bool) (n : Member) (s : ℕ) → uses_stub chosen n s ≡ true → (b : ℕ) × (chosen b ≡ true)
-stub_chosen chosen n s on = edge_chosen chosen needs_stub n.graph s (and_parts (is_some (offset_of n.layout.stubs s)) (some_edge needs_stub (chosen_edges chosen n.graph) s) on).1
-
-cell_chosen : (chosen : ℕ → Bool) (n : Member) (s : ℕ) → uses_cell chosen n s ≡ true → (b : ℕ) × (chosen b ≡ true)
-cell_chosen chosen n s on = elim (or_cases (some_edge needs_cell (chosen_edges chosen n.graph) s) (uses_stub chosen n s) on) [
-  | inl cell ↦ edge_chosen chosen needs_cell n.graph s cell
-  | inr stub ↦ stub_chosen chosen n s stub
-]
-
--- where a place is mapped, some block is chosen
-mapped_chosen : (n : Member) (chosen : ℕ → Bool) (place : ℕ) → IsMapped n chosen place → (b : ℕ) × (chosen b ≡ true)
-mapped_chosen n chosen place (InBlock block lt on low high) = (block, on)
-mapped_chosen n chosen place (InCell p here on low high) = cell_chosen chosen n p.0 on
-mapped_chosen n chosen place (InStub p here on low high) = stub_chosen chosen n p.0 on
 
 -- The program
 

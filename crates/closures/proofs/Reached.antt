@@ -116,7 +116,7 @@ followed m graphs spots i u a k s v b None given r external at needed spot is e 
 followed m graphs spots i u a k s v b (Some p) given r external at needed spot is e = entered_end m graphs spots i p.0.0 v b spot.block given (bound_reached m graphs spots i u a k s p given r external at needed) is.1 e
 
 -- an emitted instance hasn't failed
-emitted_unfailed : (rows : List InstRow) (i : ℕ) → emitted_at rows i ≡ true → failed_at rows i ≡ false
+pub emitted_unfailed : (rows : List InstRow) (i : ℕ) → emitted_at rows i ≡ true → failed_at rows i ≡ false
 emitted_unfailed rows i e = with_row (test_parts (λ (r : InstRow). is_emitted r.phase) rows i e)
   where
     at_phase : (p : Phase) → is_emitted p ≡ true → is_failed p ≡ false

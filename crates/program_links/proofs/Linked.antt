@@ -19,7 +19,7 @@ use Rattle.session_model.specs.History.{IsLegal}
 use Rattle.session_model.specs.Match.{row_of}
 use Rattle.session_model.specs.Meaning.{Bindings, Meaning, bound_instances}
 use Rattle.session_model.specs.Owed.{IsIntact}
-use Rattle.session_model.specs.Plain.{Plain, UnitRow, address_at, failed_at, is_emitted, own_rows, phase_address, phase_deps, present_at}
+use Rattle.session_model.specs.Plain.{Plain, UnitRow, address_at, failed_at, own_rows, phase_address, phase_deps, present_at}
 use Rattle.session_model.specs.Reach.{IsReady, deps_at}
 use Rattle.session_model.specs.State.{state}
 use Rattle.session_model.specs.declared.entry.Entry.{Entry}
@@ -32,7 +32,7 @@ use Rattle.session_units.proofs.Lawful.{bound_are}
 use Rattle.session_units.proofs.Sharing.{on_found}
 use Rattle.session_units.specs.Meaning.{instances}
 use Rattle.session_laws.proofs.Elements.{element_below, mapped_some, same_element}
-use Rattle.session_laws.proofs.Facts.{deps_parts, no_dep, ready_emitted, test_from, test_parts}
+use Rattle.session_laws.proofs.Facts.{deps_parts, no_dep, test_from, test_parts}
 use Rattle.session_laws.proofs.Losing.{deps_in_groups, numbers_all}
 use Rattle.session_laws.proofs.Paths.{closed_reached}
 use Rattle.session_laws.proofs.Replies.{row_here}
@@ -48,7 +48,9 @@ use Rattle.closures.specs.Laws.{IntactHoldsClosure}
 use Rattle.program_names.specs.Laws.{HasRow, IsObjectUnit, IsOfObjects, IsOfSymbol, NamesAreDefined}
 use Rattle.program_names.specs.Names.{definition}
 use Rattle.program_names.specs.Programs.{IsProgram}
-use Rattle.program_links.specs.Laws.{IsLinkedByNames, MemoryHoldsProgram, ProgramIsLinkedByNames}
+use Rattle.chain_ends.proofs.Had.{ready_address}
+use Rattle.chain_ends.specs.Maps.{ClosuresAreThere}
+use Rattle.program_links.specs.Laws.{IsLinkedByNames, MemoryHoldsProgram, ProgramIsLinkedByNames, ReadyNameHasProgram}
 use Rattle.program_links.specs.Programs.{HasAddresses, bases_of, name_spot, program_members, spot_in, spots_by_name}
 use Rattle.program_links.proofs.Binding.{IsDefinition, WasMatched, bound_defined, instance_bound, unbound_undefined, was_matched}
 use Rattle.program_links.proofs.Members.{graphs_are, member_there, members_are, own_ends}
@@ -195,20 +197,6 @@ row_stands jmax h graphs run name address row e f = split (definition graphs nam
     split None d = absurd (none-some row (sym (run.objects.undefined name d) ∙ e))
     split (Some d) is = found d.0 d.1 is (run.objects.defined name d.0 d.1 is)
 
--- an emitted instance has an address
-emitted_address : (rows : List InstRow) (i : ℕ) → IsReady rows i → (address : ℕ) × (address_at rows i ≡ Some address)
-emitted_address rows i ready = with_row (test_parts (λ (r : InstRow). is_emitted r.phase) rows i (ready_emitted rows i ready))
-  where
-    at_phase : (p : Phase) → is_emitted p ≡ true → (address : ℕ) × (phase_address p ≡ Some address)
-    at_phase (phase.Emitted a ds) e = (a, refl)
-    at_phase phase.Unsearched e = absurd (both_ways false refl e)
-    at_phase phase.Claimed e = absurd (both_ways false refl e)
-    at_phase (phase.Resolved a) e = absurd (both_ways false refl e)
-    at_phase phase.Failed e = absurd (both_ways false refl e)
-
-    with_row : (r : InstRow) × (slice_get rows i ≡ Some r) × (is_emitted r.phase ≡ true) → (address : ℕ) × (address_at rows i ≡ Some address)
-    with_row r = let p = at_phase r.0.phase r.2 in (p.0, ap (λ o. option_map_or (λ (q : InstRow). phase_address q.phase) o None) r.1 ∙ p.1)
-
 -- The laws
 
 pub linked_by_names : NamesAreDefined → ProgramIsLinkedByNames
@@ -233,6 +221,13 @@ linked_by_names names jmax h l graphs p sized = record {
     members : members_of m.units graphs ≡ program_members graphs (bases_of m.units)
     members = members_are graphs m objects
 
+-- where a name's row is ready, its definition lies in the block of that instance
+ready_block : ProgramIsLinkedByNames → (jmax : ℕ) (h : List (Entry Meaning)) → IsLegal jmax h → (graphs : List LinkGraph) → IsProgram graphs h → All HasAddresses graphs → (name : ℕ) (row : Row) → row_of (state h).rows 0 name ≡ Some row → IsReady (state h).rows row.inst.0 →
+    (name_spot graphs (program_members graphs (bases_of (state h).units)) name).block ≡ block_at graphs (state h).rows row.inst.0
+ready_block linked jmax h l graphs p sized name row e ready =
+    let has = ready_address (state h).rows row.inst.0 ready in
+    ap (λ (s : Spot). s.block) ((linked jmax h l graphs p sized).stands name has.0 row e has.1)
+
 pub holds_program : ProgramIsLinkedByNames → IntactHoldsClosure → MemoryHoldsProgram
 holds_program linked closures jmax h l graphs p sized name row e ready program is at byte f =
     closures jmax h l graphs by.graphs_are spots by.map row.inst.0 (by.intact name row e ready) (block_at graphs m.rows row.inst.0) (by.own row.inst.0) program closure at byte f
@@ -246,11 +241,29 @@ holds_program linked closures jmax h l graphs p sized name row e ready program i
     spots : Spots
     spots = spots_by_name graphs (program_members graphs (bases_of m.units))
 
-    has : (address : ℕ) × (address_at m.rows row.inst.0 ≡ Some address)
-    has = emitted_address m.rows row.inst.0 ready
-
     first : (name_spot graphs (program_members graphs (bases_of m.units)) name).block ≡ block_at graphs m.rows row.inst.0
-    first = ap (λ (s : Spot). s.block) (by.stands name has.0 row e has.1)
+    first = ready_block linked jmax h l graphs p sized name row e ready
 
     closure : IsLinkedProgram (members_of m.units graphs) spots (block_at graphs m.rows row.inst.0) program
     closure = subst (λ ms. IsLinkedProgram ms spots (block_at graphs m.rows row.inst.0) program) (sym by.members) (subst (λ b. IsLinkedProgram (program_members graphs (bases_of m.units)) spots b program) first is)
+
+pub has_program : ProgramIsLinkedByNames → ClosuresAreThere → ReadyNameHasProgram
+has_program linked closures jmax h l graphs p sized name row e ready = (made.0, subst (λ b. IsLinkedProgram members spots b made.0) (sym first) (subst (λ ms. IsLinkedProgram ms spots (block_at graphs m.rows row.inst.0) made.0) by.members made.1))
+  where
+    m : Plain
+    m = state h
+
+    members : List Member
+    members = program_members graphs (bases_of m.units)
+
+    spots : Spots
+    spots = spots_by_name graphs members
+
+    by : IsLinkedByNames graphs m
+    by = linked jmax h l graphs p sized
+
+    first : (name_spot graphs members name).block ≡ block_at graphs m.rows row.inst.0
+    first = ready_block linked jmax h l graphs p sized name row e ready
+
+    made : (program : ℕ → Option ℕ) × IsLinkedProgram (members_of m.units graphs) spots (block_at graphs m.rows row.inst.0) program
+    made = closures jmax h l graphs by.graphs_are spots by.map row.inst.0 (by.intact name row e ready) (block_at graphs m.rows row.inst.0) (by.own row.inst.0)

@@ -38,3 +38,9 @@ MemoryHoldsProgram = (jmax : ℕ) (h : List (Entry Meaning)) → IsLegal jmax h 
     (program : ℕ → Option ℕ) →
     IsLinkedProgram (program_members graphs (bases_of (state h).units)) (spots_by_name graphs (program_members graphs (bases_of (state h).units))) (name_spot graphs (program_members graphs (bases_of (state h).units)) name).block program →
     (at byte : ℕ) → program at ≡ Some byte → memory (state h) at ≡ Some byte
+
+-- and there is that program
+abbrev pub ReadyNameHasProgram : Type 0
+ReadyNameHasProgram = (jmax : ℕ) (h : List (Entry Meaning)) → IsLegal jmax h → (graphs : List LinkGraph) → IsProgram graphs h → All HasAddresses graphs →
+    (name : ℕ) (row : Row) → row_of (state h).rows 0 name ≡ Some row → IsReady (state h).rows row.inst.0 →
+    (program : ℕ → Option ℕ) × IsLinkedProgram (program_members graphs (bases_of (state h).units)) (spots_by_name graphs (program_members graphs (bases_of (state h).units))) (name_spot graphs (program_members graphs (bases_of (state h).units)) name).block program

@@ -1,6 +1,6 @@
 //! What memory holds of a program.
 
-ghost use Rattle.program_links.specs.Laws.{MemoryHoldsProgram, ProgramIsLinkedByNames};
+ghost use Rattle.program_links.specs.Laws.{MemoryHoldsProgram, ProgramIsLinkedByNames, ReadyNameHasProgram};
 
 /// A session of the objects binds each name to its definition, and what a ready instance reaches is there.
 pub fn program_is_linked_by_names()
@@ -10,4 +10,9 @@ pub fn program_is_linked_by_names()
 /// Memory has the statically linked program of an entry that is ready, at every address that it maps.
 pub fn memory_holds_program()
     ensures { MemoryHoldsProgram }
+{}
+
+/// An entry that is ready has a statically linked program.
+pub fn ready_name_has_program()
+    ensures { ReadyNameHasProgram }
 {}

@@ -7,4 +7,4 @@
 
 mod laws;
 
-pub use laws::{memory_holds_program, program_is_linked_by_names};
+pub use laws::{memory_holds_program, program_is_linked_by_names, ready_name_has_program};

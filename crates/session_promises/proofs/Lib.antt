@@ -1,3 +1,4 @@
+pub mod Closing
 pub mod Entries
 pub mod Failures
 pub mod FoundReady

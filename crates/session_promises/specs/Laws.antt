@@ -5,6 +5,7 @@ use Rattle.orc_ids.specs.declared.ids.QueryId.{QueryId}
 use Rattle.orc_ids.specs.declared.lookup.Level.TheVariants.{Ready}
 use Rattle.code_memory.specs.Mapped.{byte_at}
 use Rattle.code_memory.specs.declared.image.Segment.{Segment}
+use Rattle.link_model.specs.declared.graph.LinkGraph.{LinkGraph}
 use Rattle.rv_hart.specs.Map.{Map}
 use Rattle.exec_run.specs.Larger.{Stays}
 use Rattle.exec_run.specs.Run.{RunsTo}
@@ -13,6 +14,7 @@ use Rattle.session_model.specs.Calls.{Lookup, Looks}
 use Rattle.session_model.specs.History.{IsLegal}
 use Rattle.session_model.specs.Meaning.{Bindings, Meaning}
 use Rattle.session_model.specs.Memory.{memory}
+use Rattle.session_model.specs.Owed.{IsIntact}
 use Rattle.session_model.specs.Plain.{failed_at}
 use Rattle.session_model.specs.Reach.{IsHit, IsReady}
 use Rattle.session_model.specs.State.{state}
@@ -20,6 +22,7 @@ use Rattle.session_model.specs.declared.entry.Entry.{Entry}
 use Rattle.session_model.specs.declared.entry.Event.TheVariants as event
 use Rattle.session_model.specs.declared.entry.Reply.TheVariants as reply
 use Rattle.session_laws.specs.Failures.{IsFailure}
+use Rattle.closures.specs.Closures.{AreObjects}
 use Rattle.session_promises.specs.Failures.{roots_of}
 use Rattle.session_promises.specs.Lookups.{AreCallsOf, IsFailedAt, IsFoundAt}
 use Rattle.session_promises.specs.Runs.{IsClosure}
@@ -51,6 +54,10 @@ FailureHitsThose = (h : List (Entry Meaning)) (n : ℕ) (e : Entry Meaning) → 
 abbrev pub NothingElseFails : Type 0
 NothingElseFails = (h : List (Entry Meaning)) (n : ℕ) (e : Entry Meaning) → slice_get h n ≡ Some e → (i : ℕ) →
     failed_at (state (take n h)).rows i ≡ false → failed_at (state (take (n + 1) h)).rows i ≡ true → IsFailure e.event e.reply
+
+-- an intact instance has a closure, where the units are those of objects
+abbrev pub IntactHasClosure : Type 0
+IntactHasClosure = (jmax : ℕ) (h : List (Entry Meaning)) → IsLegal jmax h → (graphs : List LinkGraph) → AreObjects (state h).units graphs → (i : ℕ) → IsIntact (state h).rows i → (closure : Map) × IsClosure (state h) i closure
 
 -- a run from an intact symbol is the run of the statically linked program of its closure, where that stays within it
 abbrev pub IntactRunsAsLinked : Type 0

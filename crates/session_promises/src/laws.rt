@@ -1,5 +1,5 @@
 //! The laws.
-ghost use Rattle.session_promises.specs.Laws.{FailedWhereLost, FailureHitsThose, FoundIsReady, FoundWhereSettled, IntactRunsAsLinked, NothingElseFails};
+ghost use Rattle.session_promises.specs.Laws.{FailedWhereLost, FailureHitsThose, FoundIsReady, FoundWhereSettled, IntactHasClosure, IntactRunsAsLinked, NothingElseFails};
 
 /// A lookup that is found is answered with addresses at exactly the first entry that leaves all its matches at
 /// its level.
@@ -25,6 +25,11 @@ pub fn failure_hits_those()
 /// Nothing but a fail or a removal puts an instance in error.
 pub fn nothing_else_fails()
     ensures { NothingElseFails }
+{}
+
+/// An intact instance has a closure.
+pub fn intact_has_closure()
+    ensures { IntactHasClosure }
 {}
 
 /// A run from an intact symbol has the end and the output of the statically linked program of its closure.

@@ -1,4 +1,5 @@
 pub mod Apart
+pub mod Chosen
 pub mod Folds
 pub mod Leading
 pub mod Linked

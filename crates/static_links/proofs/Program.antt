@@ -8,12 +8,13 @@ use Rattle.link_model.specs.Image.{at_or}
 use Rattle.link_model.specs.Layout.{unit_need, CELL_SIZE, STUB_SIZE}
 use Rattle.link_model.specs.Sound.{sizes}
 use Rattle.link_model.specs.declared.graph.LinkGraph.{LinkGraph}
-use Rattle.static_links.specs.Links.{Member, Spots, IsMapped, InBlock, InCell, InStub, IsLinkedAt, uses_cell, uses_stub, linked_byte}
-use Rattle.static_links.specs.Laws.{laid_out, IsLaidOut, LieApart, ProgramIsThere}
+use Rattle.static_links.specs.Links.{Member, Spots, IsMapped, InBlock, InCell, InStub, IsNeeded, IsLinkedAt, uses_cell, uses_stub, linked_byte}
+use Rattle.static_links.specs.Laws.{laid_out, IsLaidOut, IsNeededMember, LieApart, ProgramIsThere}
 use Rattle.static_links.proofs.Apart.{lies_apart}
 use Rattle.static_links.proofs.Folds.{Among}
 use Rattle.static_links.proofs.Leading.{is_needed, needed_is, is_needed_all}
 use Rattle.static_links.proofs.Lists.{found, first_found, any_found, any_there, numbers, number_there, number_below}
+use Rattle.static_links.proofs.Chosen.{mapped_chosen}
 use Rattle.static_links.proofs.Mapped.{mapped_inside}
 
 -- ---- the test for mapped places
@@ -125,13 +126,28 @@ place_below m chosen at laid here =
     let low = here.0 in
     (low, omega (arith, inside, low))
 
-one_member : (members : List Member) (chosen : ℕ → ℕ → Bool) (j k at : ℕ) (m n : Member) → ((i : ℕ) (x : Member) → slice_get members i ≡ Some x → IsLaidOut x) → LieApart members → slice_get members j ≡ Some m → slice_get members k ≡ Some n → HasPlace m (chosen j) at → HasPlace n (chosen k) at → j ≡ k
-one_member members chosen j k at m n laid apart there there' here here' = elim (cases_eq j k) [
+-- what is chosen is needed, and the needed members were laid out and lie apart
+record IsLinkable (members : List Member) (spots : Spots) (first : Option (ℕ × ℕ)) (chosen : ℕ → ℕ → Bool) : Type 0 where
+  needed : (o b : ℕ) → chosen o b ≡ true → IsNeeded members spots first (o, b)
+  laid : (k : ℕ) (m : Member) → IsNeededMember members spots first k m → IsLaidOut m
+  apart : LieApart members spots first
+
+-- a member with a mapped place is needed
+place_needed : (members : List Member) (spots : Spots) (first : Option (ℕ × ℕ)) (chosen : ℕ → ℕ → Bool) (k at : ℕ) (m : Member) → IsLinkable members spots first chosen → slice_get members k ≡ Some m → HasPlace m (chosen k) at → IsNeededMember members spots first k m
+unfolding HasPlace
+place_needed members spots first chosen k at m linkable there here =
+    let block = mapped_chosen m (chosen k) (at - m.base) here.1 in
+    record { there = there; block = block.0; needed = linkable.needed k block.0 block.1 }
+
+one_member : (members : List Member) (spots : Spots) (first : Option (ℕ × ℕ)) (chosen : ℕ → ℕ → Bool) (j k at : ℕ) (m n : Member) → IsLinkable members spots first chosen → slice_get members j ≡ Some m → slice_get members k ≡ Some n → HasPlace m (chosen j) at → HasPlace n (chosen k) at → j ≡ k
+one_member members spots first chosen j k at m n linkable there there' here here' = elim (cases_eq j k) [
   | inl same ↦ same
   | inr differ ↦
-      let one = place_below m (chosen j) at (laid j m there) here in
-      let other = place_below n (chosen k) at (laid k n there') here' in
-      absurd (elim (apart j k m n there there' differ) [
+      let needed = place_needed members spots first chosen j at m linkable there here in
+      let needed' = place_needed members spots first chosen k at n linkable there' here' in
+      let one = place_below m (chosen j) at (linkable.laid j m needed) here in
+      let other = place_below n (chosen k) at (linkable.laid k n needed') here' in
+      absurd (elim (linkable.apart j k m n needed needed' differ) [
         | inl before ↦ omega (arith, before, one.1, other.0)
         | inr after ↦ omega (arith, after, one.0, other.1)
       ])
@@ -182,19 +198,19 @@ some_owner members chosen at k m there here =
     first_found test (numbers (length members))
     (any_there test (numbers (length members)) k (number_there (length members) k (slice_get_within members k m there)) (holds_all (slice_get members k) (chosen k) at m there here))
 
-owner_there : (members : List Member) (chosen : ℕ → ℕ → Bool) (at k : ℕ) (m : Member) → ((i : ℕ) (x : Member) → slice_get members i ≡ Some x → IsLaidOut x) → LieApart members → slice_get members k ≡ Some m → HasPlace m (chosen k) at → owner_of members chosen at ≡ Some k
-owner_there members chosen at k m laid apart there here =
+owner_there : (members : List Member) (spots : Spots) (entry : Option (ℕ × ℕ)) (chosen : ℕ → ℕ → Bool) (at k : ℕ) (m : Member) → IsLinkable members spots entry chosen → slice_get members k ≡ Some m → HasPlace m (chosen k) at → owner_of members chosen at ≡ Some k
+owner_there members spots entry chosen at k m linkable there here =
     let first = some_owner members chosen at k m there here in
     let owner = owner_is members chosen at first.0 first.1 in
-    first.1 ∙ ap (λ (j : ℕ). Some j) (one_member members chosen first.0 k at owner.0 m laid apart owner.1 there owner.2 here)
+    first.1 ∙ ap (λ (j : ℕ). Some j) (one_member members spots entry chosen first.0 k at owner.0 m linkable owner.1 there owner.2 here)
 
-memory_has : (members : List Member) (spots : Spots) (chosen : ℕ → ℕ → Bool) → ((i : ℕ) (x : Member) → slice_get members i ≡ Some x → IsLaidOut x) → LieApart members → (o place : ℕ) (m : Member) → slice_get members o ≡ Some m → IsMapped m (chosen o) place → memory_of members spots chosen (m.base + place) ≡ Some (linked_byte m (chosen o) (λ s. (spots o s).address) place)
+memory_has : (members : List Member) (spots : Spots) (first : Option (ℕ × ℕ)) (chosen : ℕ → ℕ → Bool) → IsLinkable members spots first chosen → (o place : ℕ) (m : Member) → slice_get members o ≡ Some m → IsMapped m (chosen o) place → memory_of members spots chosen (m.base + place) ≡ Some (linked_byte m (chosen o) (λ s. (spots o s).address) place)
 unfolding memory_of byte_by byte_of HasPlace
-memory_has members spots chosen laid apart o place m there here =
+memory_has members spots first chosen linkable o place m there here =
     let at : ℕ = m.base + place in
     let back : at - m.base ≡ place = omega arith in
     let mapped : IsMapped m (chosen o) (at - m.base) = subst (λ (p : ℕ). IsMapped m (chosen o) p) (sym back) here in
-    ap (byte_by members spots chosen at) (owner_there members chosen at o m laid apart there (omega arith, mapped))
+    ap (byte_by members spots chosen at) (owner_there members spots first chosen at o m linkable there (omega arith, mapped))
     ∙ ap (λ (x : Option Member). byte_of x (chosen o) (λ s. (spots o s).address) at) there
     ∙ ap (λ (p : ℕ). Some (linked_byte m (chosen o) (λ s. (spots o s).address) p)) back
 
@@ -212,13 +228,14 @@ memory_only members spots chosen at some = only_by members spots chosen at (owne
 
 pub program_is_there : ProgramIsThere
 program_is_there members spots first laid apart =
-    let chosen : ℕ → ℕ → Bool = λ o b. is_needed members spots first (o, b) in (
+    let chosen : ℕ → ℕ → Bool = λ o b. is_needed members spots first (o, b) in
+    let needed : (o b : ℕ) → chosen o b ≡ true → IsNeeded members spots first (o, b) = λ o b e. needed_is members spots first (o, b) e in (
       memory_of members spots chosen,
       record {
         chosen = chosen;
-        needed = λ o b e. needed_is members spots first (o, b) e;
+        needed = needed;
         closed = λ o b e. is_needed_all members spots first (o, b) e;
-        has = memory_has members spots chosen laid apart;
+        has = memory_has members spots first chosen (record { needed = needed; laid = laid; apart = apart });
         only = memory_only members spots chosen;
       },
     )

@@ -6,7 +6,7 @@ use Rattle.link_model.specs.Sound.{Sound}
 use Rattle.link_model.specs.declared.graph.Edge.{Edge}
 use Rattle.link_model.specs.declared.graph.GPlace.TheVariants.{In}
 use Rattle.link_model.specs.declared.graph.LinkGraph.{LinkGraph}
-use Rattle.static_links.specs.Links.{Member, Spots, IsMapped, IsLinkedProgram, linked_byte}
+use Rattle.static_links.specs.Links.{Member, Spots, IsMapped, IsNeeded, IsLinkedProgram, linked_byte}
 
 -- a graph that was laid out with these live names, at a base
 abbrev pub laid_out : LinkGraph → List Bool → ℕ → Member
@@ -33,13 +33,19 @@ pub record IsLaidOut (m : Member) : Type 0 where
   pub is : m ≡ laid_out m.graph live m.base
   pub sound : Sound m.graph
 
--- members lie apart: the one's memory ends before the other's begins
-abbrev pub LieApart : List Member → Type 0
-LieApart members = (j k : ℕ) (m n : Member) → slice_get members j ≡ Some m → slice_get members k ≡ Some n → j ≢ k →
+-- the member that the entry needs a block of
+pub record IsNeededMember (members : List Member) (spots : Spots) (first : Option (ℕ × ℕ)) (k : ℕ) (m : Member) : Type 0 where
+  pub there : slice_get members k ≡ Some m
+  pub block : ℕ
+  pub needed : IsNeeded members spots first (k, block)
+
+-- such members lie apart: the one's memory ends before the other's begins
+abbrev pub LieApart : List Member → Spots → Option (ℕ × ℕ) → Type 0
+LieApart members spots first = (j k : ℕ) (m n : Member) → IsNeededMember members spots first j m → IsNeededMember members spots first k n → j ≢ k →
     (m.base + m.layout.shape.need ≤ n.base) ⊎ (n.base + n.layout.shape.need ≤ m.base)
 
 -- there is a linked program of each entry
 abbrev pub ProgramIsThere : Type 0
 ProgramIsThere = (members : List Member) (spots : Spots) (first : Option (ℕ × ℕ)) →
-    ((k : ℕ) (m : Member) → slice_get members k ≡ Some m → IsLaidOut m) → LieApart members →
+    ((k : ℕ) (m : Member) → IsNeededMember members spots first k m → IsLaidOut m) → LieApart members spots first →
     (memory : ℕ → Option ℕ) × IsLinkedProgram members spots first memory

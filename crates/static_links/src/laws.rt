@@ -7,7 +7,7 @@ pub fn image_is_linked()
     ensures { ImageIsLinked }
 {}
 
-/// Where the objects lie apart, there is a linked program of each entry.
+/// Where the objects that an entry needs lie apart, there is a linked program of it.
 pub fn program_is_there()
     ensures { ProgramIsThere }
 {}

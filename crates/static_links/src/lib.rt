@@ -4,7 +4,7 @@
 //!
 //! `specs/Links` says what such a program is. Two laws, which are contracts of functions with empty bodies,
 //! say that the image of a unit holds it wherever the unit was told the map's addresses, and that there is
-//! such a program wherever its objects lie apart. Read `link_model` first.
+//! such a program wherever the objects that its entry needs lie apart. Read `link_model` first.
 #![tactic(auto)]
 
 mod laws;
