@@ -73,7 +73,7 @@ one_place before (name ∷ names) j k x e f = split (one_place before names j k 
         let P : ℕ → Bool → Type 0 = λ i c. slice_get (if c then distinct_after before names else name ∷ distinct_after (name ∷ before) names) i ≡ Some x in
         places after j k (subst (P j) b e) (subst (P k) b f)
 
-one_file : (words : List (List ℕ)) (word j k : ℕ) → IsFileOf words word j → IsFileOf words word k → j ≡ k
+pub one_file : (words : List (List ℕ)) (word j k : ℕ) → IsFileOf words word j → IsFileOf words word k → j ≡ k
 one_file words word j k a b = one_place [] words j k b.0 (a.2 ∙ ap Some (same_Some a.0 b.0 (sym a.1 ∙ b.1))) b.2
 
 -- What holds of all files holds of all words
