@@ -7,9 +7,9 @@ use Rattle.command_line.specs.declared.error.UsageKind.TheVariants.{BadWords}
 use Rattle.command_line.specs.declared.command.Command.{Command}
 use Rattle.command_line.specs.declared.name.CommandName.{CommandName}
 use Rattle.command_line.specs.declared.name.CommandName.TheVariants as by_name
-use Rattle.command_line.specs.Numbers.{at_most, number_of, number_or}
+use Rattle.command_line.specs.Numbers.{at_most, from_one, number_of, number_or}
 use Rattle.clap.specs.Words.{Row, first_of}
-use Rattle.command_line.specs.Words.{Asked, Run, Session, Assembly, KeepsLimits, assembly_app, assembly_by, assembly_of, assembly_with, asked_of, command_named, command_of, entry_in, files_in, fits_run, fuel_in, is_up_to, matched, named_command, own_command, run_app, run_by, run_of, run_with, session_app, session_by, session_of, session_with, workers_in}
+use Rattle.command_line.specs.Words.{Asked, Run, Session, Assembly, Generation, KeepsLimits, assembly_app, assembly_by, assembly_of, assembly_with, asked_of, command_named, command_of, entry_in, files_in, fits_run, fuel_in, generation_app, generation_by, generation_from, generation_of, generation_with, is_up_to, matched, named_command, objects_of, own_command, run_app, run_by, run_of, run_with, session_app, session_by, session_of, session_with, workers_in}
 
 at_most_is_small : (most n : ℕ) (number : Option ℕ) → at_most most number ≡ Some n → n ≤ most
 at_most_is_small most n (Some m) h = grind (arith, nat_tests)
@@ -64,6 +64,22 @@ assembly_by_within : (rows : Option (List Row)) (asked : Asked) → assembly_by 
 assembly_by_within (Some rows) asked h = assembly_with_within (first_of (codes "file") rows) asked h
 assembly_by_within None asked h = absurd cc
 
+from_one_within : (most n : ℕ) (number : Option ℕ) → from_one (at_most most number) ≡ Some n → (1 ≤ n) × (n ≤ most)
+from_one_within most n (Some m) h = grind (arith, nat_tests)
+from_one_within most n None h = absurd cc
+
+generation_with_within : (objects : Option ℕ) (asked : Asked) → ((n : ℕ) → objects ≡ Some n → (1 ≤ n) × (n ≤ 4096)) → generation_with objects ≡ Ok asked → KeepsLimits asked
+generation_with_within (Some objects) asked fits h = let same : Generation objects ≡ asked = cc in subst KeepsLimits same (fits objects refl)
+generation_with_within None asked fits h = absurd cc
+
+generation_from_within : (text : Option (List ℕ)) (asked : Asked) → generation_from text ≡ Ok asked → KeepsLimits asked
+generation_from_within (Some text) asked h = generation_with_within (objects_of text) asked (λ n. from_one_within 4096 n (number_of text)) h
+generation_from_within None asked h = absurd cc
+
+generation_by_within : (rows : Option (List Row)) (asked : Asked) → generation_by rows ≡ Ok asked → KeepsLimits asked
+generation_by_within (Some rows) asked h = generation_from_within (first_of (codes "objects") rows) asked h
+generation_by_within None asked h = absurd cc
+
 run_within : (words : List (List ℕ)) (asked : Asked) → run_of words ≡ Ok asked → KeepsLimits asked
 run_within words asked h = run_by_within (matched run_app words) asked h
 
@@ -73,10 +89,14 @@ session_within words asked h = session_by_within (matched session_app words) ask
 assembly_within : (words : List (List ℕ)) (asked : Asked) → assembly_of words ≡ Ok asked → KeepsLimits asked
 assembly_within words asked h = assembly_by_within (matched assembly_app words) asked h
 
+generation_within : (words : List (List ℕ)) (asked : Asked) → generation_of words ≡ Ok asked → KeepsLimits asked
+generation_within words asked h = generation_by_within (matched generation_app words) asked h
+
 named_within : (name : Option CommandName) (words : List (List ℕ)) (asked : Asked) → named_command name words ≡ Ok asked → KeepsLimits asked
 named_within (Some by_name.Run) words asked h = run_within words asked h
 named_within (Some by_name.Session) words asked h = session_within words asked h
 named_within (Some by_name.As) words asked h = assembly_within words asked h
+named_within (Some by_name.Gen) words asked h = generation_within words asked h
 named_within None words asked h = absurd cc
 
 own_within : (words : List (List ℕ)) (asked : Asked) → own_command words ≡ Ok asked → KeepsLimits asked
@@ -100,3 +120,7 @@ session_answer_within words (Err e) read = tt
 pub assembly_answer_within : (words : List (List ℕ)) (answer : Result Command CommandError) → IfOk answer (λ command. assembly_of words ≡ Ok (asked_of command)) → IfOk answer (λ command. KeepsLimits (asked_of command))
 assembly_answer_within words (Ok command) read = assembly_within words (asked_of command) read
 assembly_answer_within words (Err e) read = tt
+
+pub generation_answer_within : (words : List (List ℕ)) (answer : Result Command CommandError) → IfOk answer (λ command. generation_of words ≡ Ok (asked_of command)) → IfOk answer (λ command. KeepsLimits (asked_of command))
+generation_answer_within words (Ok command) read = generation_within words (asked_of command) read
+generation_answer_within words (Err e) read = tt

@@ -21,6 +21,11 @@ abbrev pub at_most : ℕ → Option ℕ → Option ℕ
 at_most most (Some n) = if nat_le n most then Some n else None
 at_most most None = None
 
+-- a number, if it isn't 0
+abbrev pub from_one : Option ℕ → Option ℕ
+from_one (Some n) = if nat_eq n 0 then None else Some n
+from_one None = None
+
 -- the number that a text is, where one is given, and else the usual one
 abbrev pub number_or : ℕ → ℕ → Option (List ℕ) → Option ℕ
 number_or usual most (Some text) = at_most most (number_of text)

@@ -14,7 +14,7 @@ use Rattle.command_line.specs.declared.command.Command.TheVariants as command
 use Rattle.command_line.specs.declared.command.RunWords.{RunWords}
 use Rattle.command_line.specs.declared.name.CommandName.{CommandName}
 use Rattle.command_line.specs.declared.name.CommandName.TheVariants as by_name
-use Rattle.command_line.specs.Numbers.{number_or}
+use Rattle.command_line.specs.Numbers.{at_most, from_one, number_of, number_or}
 
 -- What is asked of a run: to link the objects in files by so many workers, and to run them from an entry, for at most so
 -- many instructions.
@@ -24,11 +24,13 @@ pub record Request : Type 0 where
   pub fuel : ℕ
   pub workers : ℕ
 
--- What a command line asks for: a run, a session with so many workers, or the object of the assembly text in a file.
+-- What a command line asks for: a run, a session with so many workers, the object of the assembly text in a file, or a session of so many
+-- generated objects.
 pub data Asked : Type 0 where
   Run : Request → Asked
   Session : ℕ → Asked
   Assembly : List ℕ → Asked
+  Generation : ℕ → Asked
 
 -- The commands, as clap's. None has a help flag.
 
@@ -39,9 +41,9 @@ without_help app = record app { top = record (app.top) { disable_help_flag = tru
 abbrev pub files_rule : Rule
 files_rule = record (new_rule (codes "files")) { action = Some Append }
 
--- one FILE word, which has to be there
-abbrev pub file_rule : Rule
-file_rule = record (new_rule (codes "file")) { required = true; action = Some Set }
+-- one word, which has to be there
+abbrev pub word_rule : List ℕ → Rule
+word_rule name = record (new_rule name) { required = true; action = Some Set }
 
 -- an option with a value, which may be left out
 abbrev pub option_rule : List ℕ → Rule
@@ -57,7 +59,11 @@ session_app = with_rule (without_help (new_app (codes "session"))) (option_rule 
 
 -- as FILE
 abbrev pub assembly_app : App
-assembly_app = with_rule (without_help (new_app (codes "as"))) file_rule
+assembly_app = with_rule (without_help (new_app (codes "as"))) (word_rule (codes "file"))
+
+-- gen N
+abbrev pub generation_app : App
+generation_app = with_rule (without_help (new_app (codes "gen"))) (word_rule (codes "objects"))
 
 -- what is matched where there is no fault
 abbrev pub unless_faulty : Kinds → List Row → Option (List Row)
@@ -88,6 +94,10 @@ fuel_in rows = number_or 1000000 (2 ^ 40) (first_of (codes "fuel") rows)
 -- the workers: 0 where no value is given, and at most 16
 abbrev pub workers_in : List Row → Option ℕ
 workers_in rows = number_or 0 16 (first_of (codes "workers") rows)
+
+-- the objects of a generated session: 1 to 4096
+abbrev pub objects_of : List ℕ → Option ℕ
+objects_of text = from_one (at_most 4096 (number_of text))
 
 -- at least 1, and at most so many
 abbrev pub is_up_to : ℕ → ℕ → Bool
@@ -122,6 +132,18 @@ abbrev pub assembly_by : Option (List Row) → Result Asked UsageKind
 assembly_by (Some rows) = assembly_with (first_of (codes "file") rows)
 assembly_by None = Err BadWords
 
+abbrev pub generation_with : Option ℕ → Result Asked UsageKind
+generation_with (Some objects) = Ok (Generation objects)
+generation_with None = Err BadNumber
+
+abbrev pub generation_from : Option (List ℕ) → Result Asked UsageKind
+generation_from (Some text) = generation_with (objects_of text)
+generation_from None = Err BadWords
+
+abbrev pub generation_by : Option (List Row) → Result Asked UsageKind
+generation_by (Some rows) = generation_from (first_of (codes "objects") rows)
+generation_by None = Err BadWords
+
 -- what the words of each command ask for, of which the first is the command's
 abbrev pub run_of : List (List ℕ) → Result Asked UsageKind
 run_of words = run_by (matched run_app words)
@@ -132,18 +154,23 @@ session_of words = session_by (matched session_app words)
 abbrev pub assembly_of : List (List ℕ) → Result Asked UsageKind
 assembly_of words = assembly_by (matched assembly_app words)
 
+abbrev pub generation_of : List (List ℕ) → Result Asked UsageKind
+generation_of words = generation_by (matched generation_app words)
+
 -- the command of a name
 abbrev pub command_named : List ℕ → Option CommandName
 command_named name =
     if bytes_eq name (codes "run") then Some by_name.Run else
     if bytes_eq name (codes "session") then Some by_name.Session else
-    if bytes_eq name (codes "as") then Some by_name.As else None
+    if bytes_eq name (codes "as") then Some by_name.As else
+    if bytes_eq name (codes "gen") then Some by_name.Gen else None
 
 -- what the words of a command ask for, of which the first is its name
 abbrev pub named_command : Option CommandName → List (List ℕ) → Result Asked UsageKind
 named_command (Some by_name.Run) words = run_of words
 named_command (Some by_name.Session) words = session_of words
 named_command (Some by_name.As) words = assembly_of words
+named_command (Some by_name.Gen) words = generation_of words
 named_command None words = Err UnknownCommand
 
 -- what the words after the program's name ask for
@@ -174,6 +201,7 @@ abbrev pub KeepsLimits : Asked → Type 0
 KeepsLimits (Run request) = IsWithinLimits request
 KeepsLimits (Session workers) = workers ≤ 16
 KeepsLimits (Assembly file) = ⊤
+KeepsLimits (Generation objects) = (1 ≤ objects) × (objects ≤ 4096)
 
 -- what words that were read ask for
 abbrev pub request : RunWords → Request
@@ -183,6 +211,7 @@ abbrev pub asked_of : Command → Asked
 asked_of (command.Run words) = Run (request words)
 asked_of (command.Session words) = Session words.workers
 asked_of (command.Assembly words) = Assembly words.file.now
+asked_of (command.Generation words) = Generation words.objects
 
 -- an error says why the words are refused, unless memory ran out
 abbrev pub Explains : Result Asked UsageKind → CommandError → Type 0

@@ -1,13 +1,13 @@
 ghost use Rattle.std.specs.Prelude.{◌≡◌, Some, Ok, IfOk, IfErr, map};
-ghost use Rattle.command_line.specs.Words.{texts, asked_by, own_command, named_command, files_in, workers_in, run_by, run_of, session_of, assembly_of, asked_of, Explains, KeepsLimits};
+ghost use Rattle.command_line.specs.Words.{texts, asked_by, own_command, named_command, files_in, workers_in, run_by, run_of, session_of, assembly_of, generation_of, generation_with, objects_of, asked_of, Explains, KeepsLimits};
 ghost use Rattle.command_line.specs.Answers.{asked_or, rows_in};
 
 use crate::error::{CommandError, UsageKind};
-use crate::limits::{FILES_LIMIT, FUEL_LIMIT, NAME_LIMIT, WORKER_LIMIT};
+use crate::limits::{FILES_LIMIT, FUEL_LIMIT, NAME_LIMIT, OBJECTS_LIMIT, WORKER_LIMIT};
 use crate::matching::{files_of, matched, value_of};
 use crate::name::CommandName;
-use crate::number::number_or;
-use crate::syntax::{assembly_syntax, run_syntax, session_syntax};
+use crate::number::{number_from_one, number_or};
+use crate::syntax::{assembly_syntax, generation_syntax, run_syntax, session_syntax};
 use clap::ArgMatches;
 use std::alloc::Global;
 use std::rc::RcStr;
@@ -25,6 +25,7 @@ pub enum Command<'a> {
     Run(RunWords<'a>),
     Session(SessionWords),
     Assembly(AssemblyWords<'a>),
+    Generation(GenerationWords),
 }
 
 /// `run FILE.. [--entry NAME] [--fuel N] [--workers N]` links the objects in the files with N workers, and
@@ -47,6 +48,12 @@ pub struct SessionWords {
 #[derive(Clone, Copy, Debug)]
 pub struct AssemblyWords<'a> {
     pub file: &'a str,
+}
+
+/// `gen N` makes the calls of a session of N generated objects.
+#[derive(Clone, Copy, Debug)]
+pub struct GenerationWords {
+    pub objects: u32,
 }
 
 /// The command of a command line: word 0 is the program's name, word 1 the command.
@@ -87,6 +94,7 @@ fn read_named(
         Some(CommandName::Run) => read_run(alloc, words),
         Some(CommandName::Session) => read_session(alloc, words),
         Some(CommandName::As) => read_assembly(alloc, words),
+        Some(CommandName::Gen) => read_generation(alloc, words),
         None => Err(CommandError::Usage(UsageKind::UnknownCommand)),
     }
 }
@@ -147,6 +155,30 @@ fn read_assembly(alloc: Global, words: &[RcStr]) -> Result<Command<'_>, CommandE
     match value_of(&matches, "file") {
         Some(file) => Ok(Command::Assembly(AssemblyWords { file })),
         None => Err(CommandError::Usage(UsageKind::BadWords)),
+    }
+}
+
+/// The words of a generated session.
+fn read_generation(alloc: Global, words: &[RcStr]) -> Result<Command<'_>, CommandError>
+    ensures read { IfOk result (λ generation. generation_of (texts words.now) ≡ Ok (asked_of generation)) }
+    ensures refused { IfErr result (Explains (generation_of (texts words.now))) }
+{
+    let matches = matched(generation_syntax(alloc)?, words)?;
+    match value_of(&matches, "objects") {
+        Some(number) => Ok(generation_words(number)?),
+        None => Err(CommandError::Usage(UsageKind::BadWords)),
+    }
+}
+
+/// The generated session that a number asks for.
+fn generation_words<'a>(number: &str) -> Result<Command<'a>, UsageKind>
+    ensures { asked_or result ≡ generation_with (objects_of number.now) }
+{
+    match number_from_one(number, u64::from(OBJECTS_LIMIT)) {
+        Some(objects) => Ok(Command::Generation(GenerationWords {
+            objects: objects as u32,
+        })),
+        None => Err(UsageKind::BadNumber),
     }
 }
 

@@ -7,6 +7,7 @@ pub enum CommandName {
     Run,
     Session,
     As,
+    Gen,
 }
 
 impl CommandName {
@@ -20,6 +21,7 @@ impl CommandName {
             "run" => Some(CommandName::Run),
             "session" => Some(CommandName::Session),
             "as" => Some(CommandName::As),
+            "gen" => Some(CommandName::Gen),
             _ => None,
         }
     }

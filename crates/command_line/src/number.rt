@@ -1,6 +1,6 @@
 ghost use Rattle.std.specs.Prelude.{◌≡◌};
 ghost use Rattle.std.specs.Option.{option_copied};
-ghost use Rattle.command_line.specs.Numbers.{is_padded, at_most, number_of, number_or};
+ghost use Rattle.command_line.specs.Numbers.{is_padded, at_most, from_one, number_of, number_or};
 
 /// The number that an option gives, if it is one that it may give; the usual one where it isn't given.
 pub fn number_or(usual: u64, most: u64, text: Option<&str>) -> Option<u64>
@@ -9,6 +9,16 @@ pub fn number_or(usual: u64, most: u64, text: Option<&str>) -> Option<u64>
     match text {
         Some(text) => read_number(text, most),
         None => Some(usual),
+    }
+}
+
+/// The number that a text is, if it is from 1 up to this.
+pub fn number_from_one(text: &str, most: u64) -> Option<u64>
+    ensures { result ≡ from_one (at_most most (number_of text.now)) }
+{
+    match read_number(text, most) {
+        Some(0) => None,
+        number => number,
     }
 }
 

@@ -1,7 +1,7 @@
 //! What clap is to match of each command.
 ghost use Rattle.std.specs.Prelude.{◌≡◌, IfOk, true, false};
 ghost use Rattle.clap.specs.Words.{app_of, is_simple_and_free, rule_of};
-ghost use Rattle.command_line.specs.Words.{files_rule, file_rule, option_rule, run_app, session_app, assembly_app};
+ghost use Rattle.command_line.specs.Words.{files_rule, word_rule, option_rule, run_app, session_app, assembly_app, generation_app};
 
 use clap::{Arg, ArgAction, Command};
 use std::alloc::{AllocError, Global};
@@ -14,14 +14,12 @@ fn files<'a>(alloc: Global) -> Arg<'a>
     Arg::new(alloc, "files").action(ArgAction::Append)
 }
 
-/// One FILE word.
-fn file<'a>(alloc: Global) -> Arg<'a>
-    ensures rule { rule_of result ≡ file_rule }
+/// One word.
+fn word<'a>(alloc: Global, name: &'a str) -> Arg<'a>
+    ensures rule { rule_of result ≡ word_rule name.entry.now }
     ensures local { result.global ≡ false }
 {
-    Arg::new(alloc, "file")
-        .required(true)
-        .action(ArgAction::Set)
+    Arg::new(alloc, name).required(true).action(ArgAction::Set)
 }
 
 /// An option with a value.
@@ -62,5 +60,15 @@ pub(crate) fn assembly_syntax<'a>(alloc: Global) -> Result<Command<'a>, AllocErr
 {
     Command::new(alloc, "as")
         .disable_help_flag(true)
-        .arg(file(alloc))
+        .arg(word(alloc, "file"))
+}
+
+/// `gen N`.
+pub(crate) fn generation_syntax<'a>(alloc: Global) -> Result<Command<'a>, AllocError>
+    ensures is { IfOk result (λ command. app_of command ≡ generation_app) }
+    ensures simple { IfOk result (λ command. is_simple_and_free (app_of command) ≡ true) }
+{
+    Command::new(alloc, "gen")
+        .disable_help_flag(true)
+        .arg(word(alloc, "objects"))
 }

@@ -19,6 +19,7 @@ fn asked_run(alloc: Global, words: &[RcStr]) -> Result<RunWords<'_>, Fail> {
         Command::Run(run) => Ok(run),
         Command::Session(_) => Err(Fail::new("a session")),
         Command::Assembly(_) => Err(Fail::new("an assembly")),
+        Command::Generation(_) => Err(Fail::new("a generated session")),
     }
 }
 
@@ -28,6 +29,7 @@ fn asked_session(alloc: Global, words: &[RcStr]) -> Result<SessionWords, Fail> {
         Command::Run(_) => Err(Fail::new("a run")),
         Command::Session(session) => Ok(session),
         Command::Assembly(_) => Err(Fail::new("an assembly")),
+        Command::Generation(_) => Err(Fail::new("a generated session")),
     }
 }
 
@@ -37,6 +39,17 @@ fn asked_assembly(alloc: Global, words: &[RcStr]) -> Result<AssemblyWords<'_>, F
         Command::Run(_) => Err(Fail::new("a run")),
         Command::Session(_) => Err(Fail::new("a session")),
         Command::Assembly(assembly) => Ok(assembly),
+        Command::Generation(_) => Err(Fail::new("a generated session")),
+    }
+}
+
+/// The generated session that words ask for.
+fn asked_generation(alloc: Global, words: &[RcStr]) -> Result<GenerationWords, Fail> {
+    match read_command(alloc, words)? {
+        Command::Run(_) => Err(Fail::new("a run")),
+        Command::Session(_) => Err(Fail::new("a session")),
+        Command::Assembly(_) => Err(Fail::new("an assembly")),
+        Command::Generation(generation) => Ok(generation),
     }
 }
 
@@ -359,4 +372,49 @@ fn an_assembly_has_nothing_but_its_file(rt: HostRuntime) -> Result<(), Fail> {
         "orc as --help",
     ];
     expect_refused(&rt, alloc, UsageKind::BadWords, &lines)
+}
+
+#[test]
+fn a_generated_session_has_a_number_of_objects(rt: HostRuntime) -> Result<(), Fail> {
+    let alloc = rt.alloc();
+    let lines = [
+        ("orc gen 1", 1),
+        ("orc gen 8", 8),
+        ("orc gen -- 1000", 1000),
+        ("orc gen 4096 --", 4096),
+    ];
+    for (line, objects) in lines {
+        let words = words_in(alloc, line)?;
+        assert_eq!(rt; asked_generation(alloc, &words)?.objects, objects, "{line}");
+    }
+    Ok(())
+}
+
+#[test]
+fn a_generated_session_has_nothing_but_its_number(rt: HostRuntime) -> Result<(), Fail> {
+    let alloc = rt.alloc();
+    let lines = [
+        "orc gen",
+        "orc gen --",
+        "orc gen 1 2",
+        "orc gen 8 ",
+        "orc gen -8",
+        "orc gen --workers 0 8",
+        "orc gen --fuel=1 8",
+        "orc gen --help",
+    ];
+    expect_refused(&rt, alloc, UsageKind::BadWords, &lines)?;
+    let numbers = [
+        "orc gen 0",
+        "orc gen 08",
+        "orc gen +8",
+        "orc gen 4097",
+        "orc gen 18446744073709551617",
+        "orc gen 8x",
+        "orc gen 0x8",
+        "orc gen ",
+        "orc gen -",
+        "orc gen -- -8",
+    ];
+    expect_refused(&rt, alloc, UsageKind::BadNumber, &numbers)
 }

@@ -4,3 +4,4 @@ pub mod Takes
 pub mod Lines
 pub mod Asked
 pub mod Short
+pub mod Few

@@ -9,30 +9,39 @@ use Rattle.script_laws.specs.declared.line_end.LineEnd.{LineEnd}
 use Rattle.script_laws.specs.declared.line_end.LineEnd.TheVariants.{Looked, Ran, Replied}
 use Rattle.generated_session.specs.Scripts.{heads, removals}
 use Rattle.generated_session.specs.declared.counts.Counts.{Counts}
+use Rattle.generated_session.specs.declared.counts.EndKind.{EndKind}
+use Rattle.generated_session.specs.declared.counts.EndKind.TheVariants as kind
 
 -- ---- how a line ended
 
-abbrev pub is_found : LineEnd → Bool
+unfoldable pub is_found : LineEnd → Bool
 is_found (Looked (look.Found matches)) = true
 is_found end = false
 
-abbrev pub is_lost : LineEnd → Bool
+unfoldable pub is_lost : LineEnd → Bool
 is_lost (Looked (look.Failed i)) = true
 is_lost (Looked (look.InError i)) = true
 is_lost end = false
 
-abbrev pub is_missing : LineEnd → Bool
+unfoldable pub is_missing : LineEnd → Bool
 is_missing (Looked (look.Missing name)) = true
 is_missing end = false
 
-abbrev pub is_gone : LineEnd → Bool
+unfoldable pub is_gone : LineEnd → Bool
 is_gone (Replied reply.Removed) = true
 is_gone end = false
 
 -- the exit code of a run, where it exited
-abbrev pub exit_code : LineEnd → ℕ
+unfoldable pub exit_code : LineEnd → ℕ
 exit_code (Ran (run.Exited code) output) = code
 exit_code end = 0
+
+-- by what it counts as
+abbrev pub is_of : EndKind → LineEnd → Bool
+is_of kind.Found = is_found
+is_of kind.Lost = is_lost
+is_of kind.Missing = is_missing
+is_of kind.Gone = is_gone
 
 abbrev pub how_many : (LineEnd → Bool) → List LineEnd → ℕ
 how_many test ends = length (filter test ends)

@@ -1,15 +1,11 @@
 -- The history of such a session, without workers.
-use Rattle.std.specs.Prelude.{◌≡◌, ℕ, Bool, true, false, List, [], ◌∷◌, length, slice_get, Option, Some, None, Ok}
-use Rattle.std.specs.List.{list_any}
+use Rattle.std.specs.Prelude.{◌≡◌, ℕ, Bool, true, false, List, [], ◌∷◌, length, slice_get, Option, Some, Ok}
 use Rattle.orc_ids.specs.declared.ids.UnitName.TheVariants.{Object}
 use Rattle.orc_ids.specs.declared.lookup.Stop.{Stop}
 use Rattle.link_graph.specs.Checks.{graph_of_object}
 use Rattle.link_model.specs.declared.graph.LinkGraph.{LinkGraph}
 use Rattle.session_model.specs.Meaning.{Meaning}
 use Rattle.session_model.specs.declared.entry.Entry.{Entry}
-use Rattle.session_model.specs.declared.entry.Event.{Event}
-use Rattle.session_model.specs.declared.entry.Event.TheVariants as event
-use Rattle.session_model.specs.declared.entry.Why.TheVariants as why
 use Rattle.session_units.specs.Meaning.{graph_meaning}
 use Rattle.script_laws.specs.Scripts.{IsScriptRun}
 use Rattle.script_laws.specs.declared.line_end.LineEnd.{LineEnd}
@@ -32,17 +28,7 @@ pub record IsGeneratedRun (jmax n : ℕ) (stopped : Option Stop) (ends : List Li
   pub are : AreUnits n n units
   pub run : IsScriptRun jmax 0 (generated_script n units) stopped (ends ∷ []) h
 
--- a unit that is given up for want of memory
-abbrev pub wants_memory : Event Meaning → Bool
-wants_memory (event.Fail u why.NoMemory) = true
-wants_memory e = false
-
+-- a call of the line was stopped
 abbrev pub is_stopped : LineEnd → Bool
 is_stopped (Stopped st) = true
 is_stopped end = false
-
--- No call was stopped, and no unit was given up for want of memory.
-pub record IsWhole (jmax n : ℕ) (ends : List LineEnd) (h : List (Entry Meaning)) : Type 0 where
-  pub run : IsGeneratedRun jmax n None ends h
-  pub unstopped : list_any is_stopped ends ≡ false
-  pub kept : list_any (λ (e : Entry Meaning). wants_memory e.event) h ≡ false

@@ -1,7 +1,7 @@
 -- A call that found its answer and finished, and what follows of it.
 use Rattle.std.proofs.Common.{◌≡◌, ℕ, List, [], Result, Ok, Err, refl, subst, inl, inr}
 use Rattle.std.specs.Prelude.{◌≢◌}
-use Rattle.command_line.specs.Words.{Asked, Assembly, Request, Run, Session, command_of}
+use Rattle.command_line.specs.Words.{Asked, Assembly, Generation, Request, Run, Session, command_of}
 use Rattle.command_line.specs.declared.error.UsageKind.{UsageKind}
 use Rattle.command_line.proofs.Within.{command_within}
 use Rattle.execution_session.specs.declared.session.TheConstants.{JOURNAL_LIMIT}
@@ -24,6 +24,7 @@ words_ask : (words : Result Asked UsageKind) (run : Request) (asked : Result Req
 words_ask (Ok (Run other)) run asked asks is = cc
 words_ask (Ok (Session workers)) run asked asks is = absurd asks
 words_ask (Ok (Assembly file)) run asked asks is = absurd asks
+words_ask (Ok (Generation objects)) run asked asks is = absurd asks
 words_ask (Err kind) run asked asks is = absurd (cc)
 
 -- a journal of as many places as one can have is never full, since no command line names more than 1,024 files

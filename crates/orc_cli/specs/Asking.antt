@@ -1,6 +1,6 @@
 -- Which promise a call keeps, by what its words ask for.
 use Rattle.std.specs.Prelude.{◌≡◌, ◌≢◌, ℕ, List, Result, Ok, Err}
-use Rattle.command_line.specs.Words.{Asked, Assembly, Request, Run, Session}
+use Rattle.command_line.specs.Words.{Asked, Assembly, Generation, Request, Run, Session}
 use Rattle.command_line.specs.declared.error.UsageKind.{UsageKind}
 
 -- the words ask for this run, or for nothing, for this reason
@@ -8,6 +8,7 @@ abbrev pub AsksRun : Result Asked UsageKind → Result Request UsageKind → Typ
 AsksRun (Ok (Run request)) asked = asked ≡ Ok request
 AsksRun (Ok (Session workers)) asked = ⊥
 AsksRun (Ok (Assembly file)) asked = ⊥
+AsksRun (Ok (Generation objects)) asked = ⊥
 AsksRun (Err kind) asked = asked ≡ Err kind
 
 -- where the words ask for a run, or for nothing, this holds of it
@@ -21,6 +22,10 @@ ForSession words P = (workers : ℕ) → words ≡ Ok (Session workers) → P wo
 -- where the words ask for an assembly, this holds of its file
 abbrev pub ForAssembly : Result Asked UsageKind → (List ℕ → Type 0) → Type 0
 ForAssembly words P = (file : List ℕ) → words ≡ Ok (Assembly file) → P file
+
+-- where the words ask for a generated session, this holds of its objects
+abbrev pub ForGeneration : Result Asked UsageKind → (ℕ → Type 0) → Type 0
+ForGeneration words P = (objects : ℕ) → words ≡ Ok (Generation objects) → P objects
 
 -- this holds unless the words ask for a session
 abbrev pub ButForSession : Result Asked UsageKind → Type 0 → Type 0

@@ -1,18 +1,23 @@
 //! What the words of a call ask for, and what is found.
 ghost use Rattle.std.specs.Prelude.{◌≡◌, ◌≤◌, [], map, All, None, Ok};
-ghost use Rattle.command_line.specs.Words.{Assembly, Session, asked_by};
+ghost use Rattle.command_line.specs.Words.{Assembly, Generation, Session, asked_by};
 ghost use Rattle.as_answers.specs.Found.{IsFound as IsAssemblyFound};
+ghost use Rattle.gen_answers.specs.Found.{IsFound as IsSummaryFound};
 ghost use Rattle.noted.specs.Heard.{AllHaveHeard};
 ghost use Rattle.run_answers.specs.Answered.{IsFound};
 ghost use Rattle.session_answers.specs.Found.{IsFound as IsSessionFound};
-ghost use Rattle.orc_cli.specs.Asking.{ButForSession, ForAssembly, ForRun, ForSession};
+ghost use Rattle.orc_cli.specs.Asking.{ButForSession, ForAssembly, ForGeneration, ForRun, ForSession};
 
 use crate::finding::{find_run, silent};
+use crate::generating::of_summary;
 use crate::running::Found;
 use answers::Answer;
 use as_command::{AssemblyFound, find_assembly};
-use command_line::{AssemblyWords, Command, CommandError, RunWords, SessionWords, read_command};
+use command_line::{
+    AssemblyWords, Command, CommandError, GenerationWords, RunWords, SessionWords, read_command,
+};
 use execution_session::JOURNAL_LIMIT;
+use gen_command::find_summary;
 use noted::{Noted, Notes};
 use orc_ids::Bytes;
 use orc_io::{Files, Gate, Notify, Source};
@@ -105,6 +110,9 @@ pub(crate) fn ask<
         (F.holds files.old) (F.faults files.old) (F.faults files.new)
         result.found.answer result.found.output) }
     ensures assembly_log { ForAssembly (asked_by words.now) (λ file. result.found.journal ≡ []) }
+    ensures generation { ForGeneration (asked_by words.now) (λ objects. IsSummaryFound JOURNAL_LIMIT objects
+        result.found.answer result.found.output) }
+    ensures generation_log { ForGeneration (asked_by words.now) (λ objects. result.found.journal ≡ []) }
     ensures heard { AllHaveHeard N.heard result.notes }
     ensures notes { ButForSession (asked_by words.now) (result.notes ≡ map Noted.Unfired notes.items) }
     ensures source_left { ButForSession (asked_by words.now) (S.left source.new ≡ S.left source.old) }
@@ -127,6 +135,10 @@ pub(crate) fn ask<
         Ok(Command::Assembly(AssemblyWords { file })) => {
             let found = find_assembly(alloc, files, file);
             untold(of_assembly(alloc, found), notes)
+        }
+        Ok(Command::Generation(GenerationWords { objects })) => {
+            let found = find_summary(rt, alloc, hasher, objects);
+            untold(of_summary(alloc, found), notes)
         }
         Err(CommandError::Usage(kind)) => untold(silent(alloc, Answer::Usage(kind)), notes),
         Err(CommandError::NoMemory) => untold(silent(alloc, Answer::NoMemory), notes),

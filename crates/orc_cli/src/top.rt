@@ -3,10 +3,11 @@ ghost use Rattle.command_line.specs.Words.{asked_by};
 ghost use Rattle.answers.specs.Answers.{status_of};
 ghost use Rattle.answers.specs.Written.{held_by};
 ghost use Rattle.as_answers.specs.Clauses.{AsAnswers, as_call};
+ghost use Rattle.gen_answers.specs.Clauses.{GenAnswers, gen_call};
 ghost use Rattle.noted.specs.Heard.{AllHaveHeard};
 ghost use Rattle.run_answers.specs.Clauses.{Answers, call_of};
 ghost use Rattle.session_answers.specs.Clauses.{SessionAnswers, session_call};
-ghost use Rattle.orc_cli.specs.Asking.{ButForSession, ForAssembly, ForRun, ForSession};
+ghost use Rattle.orc_cli.specs.Asking.{ButForSession, ForAssembly, ForGeneration, ForRun, ForSession};
 
 use crate::asking::{Asked, ask};
 use crate::writing::write_found;
@@ -37,7 +38,8 @@ pub struct Ended<N: Notify> {
 /// `run` reads the files, links their objects in a session, runs the program from the entry, writes the run's
 /// output on `out`, and on `log` the session's journal and the end line. `session` reads the script on the source
 /// and its files, runs its session, writes on `out` the journal and the result of each line, and on `log` the end
-/// line. `as` reads the file, assembles its text, writes on `out` the object, and on `log` the end line.
+/// line. `as` reads the file, assembles its text, writes on `out` the object, and on `log` the end line. `gen` makes
+/// the session of generated objects, writes on `out` what it came to, and on `log` the end line.
 ///
 /// Word 0 is the program's name, word 1 the command. The runtime gives the threads of clients and workers, and the
 /// seed by which names are hashed. The notifiers are for the watch lines of a script.
@@ -79,6 +81,10 @@ pub fn orc<
     // What the assembly of a file is answered.
     ensures assembly { ForAssembly (asked_by words.now) (λ file. AsAnswers (as_call file
         (F.holds files.old) (F.faults files.old) (F.faults files.new)
+        (held_by (O.held out.old) (O.faults out.old)) (held_by (O.held out.new) (O.faults out.new))
+        (held_by (L.held log.old) (L.faults log.old)) (held_by (L.held log.new) (L.faults log.new))) result.answer) }
+    // What the session of so many generated objects is answered. Its journal has as many places as one can have.
+    ensures generation { ForGeneration (asked_by words.now) (λ objects. GenAnswers JOURNAL_LIMIT (gen_call objects
         (held_by (O.held out.old) (O.faults out.old)) (held_by (O.held out.new) (O.faults out.new))
         (held_by (L.held log.old) (L.faults log.old)) (held_by (L.held log.new) (L.faults log.new))) result.answer) }
 
@@ -142,6 +148,10 @@ pub fn orc_sized<
     // What the assembly of a file is answered.
     ensures assembly { ForAssembly (asked_by words.now) (λ file. AsAnswers (as_call file
         (F.holds files.old) (F.faults files.old) (F.faults files.new)
+        (held_by (O.held out.old) (O.faults out.old)) (held_by (O.held out.new) (O.faults out.new))
+        (held_by (L.held log.old) (L.faults log.old)) (held_by (L.held log.new) (L.faults log.new))) result.answer) }
+    // What the session of so many generated objects is answered. Its journal has as many places as one can have.
+    ensures generation { ForGeneration (asked_by words.now) (λ objects. GenAnswers JOURNAL_LIMIT (gen_call objects
         (held_by (O.held out.old) (O.faults out.old)) (held_by (O.held out.new) (O.faults out.new))
         (held_by (L.held log.old) (L.faults log.old)) (held_by (L.held log.new) (L.faults log.new))) result.answer) }
 

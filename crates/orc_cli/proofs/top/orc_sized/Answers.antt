@@ -3,6 +3,7 @@ use Rattle.command_line.specs.Words.{texts}
 use Rattle.run_answers.proofs.Kept.{answers_are_kept}
 use Rattle.session_answers.proofs.Kept.{session_answers_are_kept}
 use Rattle.as_answers.proofs.Kept.{as_answers_are_kept}
+use Rattle.gen_answers.proofs.Kept.{gen_answers_are_kept}
 use Rattle.orc_cli.proofs.Finished.{answered, never_full_at, without_journal}
 use Rattle.orc_cli.proofs.top.orc_sized.Goals as goal
 
@@ -19,3 +20,7 @@ returns-clause-session g c workers asks = session_answers_are_kept g.N.Notify.he
 pub returns-clause-assembly : goal.returns-clause-assembly
 returns-clause-assembly g c file asks = as_answers_are_kept _ _ _ _ (c.ask-found.ensures.assembly file asks)
     (without_journal _ _ _ _ _ _ _ _ (c.ask-found.ensures.assembly_log file asks) c.write_found-answer.ensures.written)
+
+pub returns-clause-generation : goal.returns-clause-generation
+returns-clause-generation g c objects asks = gen_answers_are_kept _ _ _ _ _ (c.ask-found.ensures.generation objects asks)
+    (without_journal _ _ _ _ _ _ _ _ (c.ask-found.ensures.generation_log objects asks) c.write_found-answer.ensures.written)

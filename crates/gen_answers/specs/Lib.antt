@@ -1,0 +1,3 @@
+pub mod Found
+pub mod Clauses
+pub mod Laws

@@ -1,0 +1,15 @@
+//! `orc gen`: the session of n generated objects is made and run, and what it came to is counted and put in words.
+//! What is found is that text and an answer; nothing is written here.
+//!
+//! `summary` has the text, or the stop of the call that ended it, which is never want of a place where the journal
+//! has enough of them. `find_summary` keeps `IsFound` of `gen_answers`. Read `generated_session` for what the session
+//! is, `generated_plan` for its calls, and `script_session` for how they are made.
+#![tactic(auto)]
+
+mod finding;
+mod session;
+mod stops;
+mod telling;
+
+pub use finding::{SummaryFound, find_summary};
+pub use session::summary;

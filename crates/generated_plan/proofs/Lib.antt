@@ -1,0 +1,4 @@
+pub mod Definitions
+pub mod SetUps
+pub mod Clients
+pub mod Plans
