@@ -111,10 +111,8 @@ def expected(path):
     return lines
 
 
-def answers(dump, paths):
-    """The lines of the program for each file."""
-    command = [dump, *map(str, paths)]
-    out = subprocess.run(command, check=True, capture_output=True, text=True).stdout
+def lines_of(out):
+    """The lines of the program's output for each file."""
     found = {}
     for line in out.splitlines():
         if line.startswith("file "):
@@ -122,6 +120,12 @@ def answers(dump, paths):
         else:
             current.append(line)
     return found
+
+
+def answers(dump, paths):
+    """The lines of the program for each file."""
+    command = [dump, *map(str, paths)]
+    return lines_of(subprocess.run(command, check=True, capture_output=True, text=True).stdout)
 
 
 def main():

@@ -1,20 +1,30 @@
 #!/usr/bin/env python3
 """Damages copies of objects, and compares the reader's answers with those of `elf_checks`.
 
-    damaged_objects.py DUMP FOLDER [COUNT [SEED]]
+    damaged_objects.py DUMP FOLDER [--count COUNT] [--seed SEED] [--jobs JOBS]
 
-Each copy has one to three changes: a byte, a bit, a field set to an extreme, a cut, or two sections'
-headers exchanged. Names the copies that are answered otherwise; ends with 1 where there are any.
+DUMP is the built program of the crate elf_dump. Each copy has one to three changes: a byte, a bit, a field set to
+an extreme, a cut, or two sections' headers exchanged. Names the copies that are answered otherwise, at which the
+program doesn't end as it should, or for which it has more memory than 64 MiB and four times the file; ends with 1
+where there are any.
 """
+import argparse
+import multiprocessing
+import os
 import random
+import subprocess
 import sys
 import tempfile
 import time
 from collections import Counter
 from pathlib import Path
 
-from compare_objects import answers
+from compare_objects import lines_of
 from elf_checks import answer, number
+
+# how many copies one run of the program reads, and the memory that it may have beside four times the file
+BATCH = 250
+ROOM = 64 << 20
 
 EXTREMES = [0, 1, 2, 3, 4, 7, 8, 9, 16, 17, 23, 24, 25, 64, 4095, 4096, 4097, 0xFFF1, 0xFFF2, 0xFFFF]
 WIDE = [1 << 31, (1 << 32) - 1, 1 << 62, (1 << 63) - 1, 1 << 63, (1 << 64) - 1, (1 << 64) - 64]
@@ -63,37 +73,88 @@ def damage(data, chance):
                 set_field(data, chance, number(data, at + 24, 8) + 24 * chance.randrange(size // 24), fields)
 
 
-def main():
-    dump, folder, *rest = sys.argv[1:]
-    count, seed = ([int(word) for word in rest] + [10000, 1][len(rest) :])[:2]
-    chance = random.Random(seed)
-    sources = [path.read_bytes() for path in sorted(Path(folder).glob("*.o"))]
-    kinds, bad = Counter(), 0
+def copies(sources, chance, count):
+    """Damaged copies, each with one to three changes."""
+    made = []
+    for _ in range(count):
+        data = bytearray(chance.choice(sources))
+        for _ in range(chance.choice([1, 1, 1, 2, 3])):
+            if len(data) > 64:
+                damage(data, chance)
+        made.append(bytes(data))
+    return made
+
+
+def run(dump, paths):
+    """What the program prints for each file, its status, and the most memory that it had."""
+    with tempfile.TemporaryFile() as out:
+        child = subprocess.Popen([dump, *paths], stdout=out, stderr=subprocess.DEVNULL)
+        _, status, used = os.wait4(child.pid, 0)
+        child.returncode = os.waitstatus_to_exitcode(status)
+        out.seek(0)
+        return lines_of(out.read().decode()), child.returncode, used.ru_maxrss << 10
+
+
+def check(task):
+    """One batch of copies: how often each kind of answer came, and what is wrong, as a list of texts."""
+    dump, sources, seed, batch, count = task
+    kinds, wrong, most = Counter(), [], 0
+    made = copies(sources, random.Random(f"{seed} {batch}"), count)
     with tempfile.TemporaryDirectory() as place:
-        copies = {}
-        for k in range(count):
-            data = bytearray(chance.choice(sources))
-            for _ in range(chance.choice([1, 1, 1, 2, 3])):
-                if len(data) > 64:
-                    damage(data, chance)
-            path = Path(place, str(k))
-            path.write_bytes(data)
-            copies[str(path)] = bytes(data)
-        began = time.monotonic()
-        got = answers(dump, copies)
-        took = time.monotonic() - began
-        for path, data in copies.items():
+        paths = [str(Path(place, str(k))) for k in range(count)]
+        for path, data in zip(paths, made):
+            Path(path).write_bytes(data)
+        got, status, most = run(dump, paths)
+        limit = ROOM + 4 * max(map(len, made))
+        if status or most > limit:
+            for path, data in zip(paths, made):
+                lines, status, used = run(dump, [path])
+                got.update(lines)
+                if status or used > ROOM + 4 * len(data):
+                    wrong.append(keep(seed, batch, path, data) + f": ends with {status}, {used >> 10} KiB of memory")
+        for path, data in zip(paths, made):
             want = answer(data)
             kinds[" ".join(want[0].split()[:2]) if want[0].startswith("refused") else "read"] += 1
-            if got[path] != want:
-                bad += 1
-                kept = Path(tempfile.gettempdir(), f"differs-{seed}-{Path(path).name}.o")
-                kept.write_bytes(data)
-                print(f"{kept}: ours {got[path][0][:100]}, theirs {want[0][:100]}")
+            if got.get(path) != want:
+                ours = (got.get(path) or ["nothing"])[0]
+                wrong.append(keep(seed, batch, path, data) + f": ours {ours[:100]}, theirs {want[0][:100]}")
+    return kinds, wrong, most
+
+
+def keep(seed, batch, path, data):
+    kept = Path(tempfile.gettempdir(), f"differs-{seed}-{batch}-{Path(path).name}.o")
+    kept.write_bytes(data)
+    return str(kept)
+
+
+def main():
+    words = argparse.ArgumentParser()
+    words.add_argument("dump", metavar="DUMP")
+    words.add_argument("folder", metavar="FOLDER")
+    words.add_argument("--count", type=int, default=10000)
+    words.add_argument("--seed", type=int, default=1)
+    words.add_argument("--jobs", type=int, default=os.cpu_count())
+    asked = words.parse_args()
+    sources = [path.read_bytes() for path in sorted(Path(asked.folder).glob("*.o"))]
+    tasks = [
+        (asked.dump, sources, asked.seed, batch, min(BATCH, asked.count - first))
+        for batch, first in enumerate(range(0, asked.count, BATCH))
+    ]
+    kinds, bad, most = Counter(), 0, 0
+    began = time.monotonic()
+    with multiprocessing.Pool(asked.jobs) as pool:
+        for found, wrong, used in pool.imap_unordered(check, tasks):
+            kinds += found
+            bad += len(wrong)
+            most = max(most, used)
+            for text in wrong:
+                print(text, flush=True)
+    took = time.monotonic() - began
     for kind, found in sorted(kinds.items()):
         print(f"{found:6} {kind}")
-    print(f"{count} copies in {took:.1f} s, {bad} answered otherwise")
-    return 1 if bad else 0
+    print(f"the largest object has {max(map(len, sources)) >> 10} KiB; the reader had {most >> 10} KiB of memory at most")
+    print(f"{asked.count} copies in {took:.1f} s, {bad} answered otherwise, not at all, or with too much memory")
+    return 1 if bad or sum(kinds.values()) != asked.count else 0
 
 
 if __name__ == "__main__":

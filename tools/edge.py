@@ -139,6 +139,12 @@ def files_of(hello, even, odd):
     }
 
 
+def summary(*counts):
+    """The text of what a generated session came to."""
+    labels = ("objects", "heads", "sum", "removed", "found", "failed", "missing")
+    return "".join(f"{label} {count}\n" for label, count in zip(labels, counts))
+
+
 # An assembly text and the answer: its first bad line, for each reason.
 REFUSED_TEXTS = [
     (b"nop\n1x: nop\n", "2 label"),
@@ -203,6 +209,16 @@ CASES = [
     (["as", "hello.s", "hello.s"], 100, "", "end usage bad words\n"),
     (["as", "hello.s", "--workers", "0"], 100, "", "end usage bad words\n"),
     (["as", "--help"], 100, "", "end usage bad words\n"),
+    (["gen", "1"], 0, summary(1, 0, 0, 1, 0, 0, 1), "end done\n"),
+    (["gen", "8"], 0, summary(8, 1, 7, 3, 1, 4, 3), "end done\n"),
+    (["gen", "1000"], 0, summary(1000, 71, 8876, 334, 331, 335, 334), "end done\n"),
+    (["gen", "4096"], 0, summary(4096, 293, 37339, 1366, 1363, 1367, 1366), "end done\n"),
+    (["gen"], 100, "", "end usage bad words\n"),
+    (["gen", "8", "8"], 100, "", "end usage bad words\n"),
+    (["gen", "-8"], 100, "", "end usage bad words\n"),
+    (["gen", "0"], 100, "", "end usage bad number\n"),
+    (["gen", "08"], 100, "", "end usage bad number\n"),
+    (["gen", "4097"], 100, "", "end usage bad number\n"),
     *((["as", f"bad{k}.s"], 115, "", f"end asm refused {line}\n") for k, (_, line) in enumerate(REFUSED_TEXTS)),
 ]
 

@@ -3,12 +3,13 @@
 
     large_objects.py DUMP [ORC]
 
-Each has 16 MiB: many symbols and relocations, many sections, and names and ranges that are made to
-cost much. With ORC, the program, it is also measured how long objects with as many symbols and
-relocations as an object may have take to be linked and to do one instruction, and how long one takes whose
-symbols nearly all lie in another object, which it refers to by their addresses, or calls; and as long of half
-as many. DUMP may be - then. Beside each is ld.lld with one thread on the same files, where it is installed. Times
-are the least of three runs, in processor and in wall seconds.
+Each has 16 MiB or less: many symbols and relocations, many sections, names and ranges that are made to cost
+much, and long names that many sections or symbols share, these beside GNU readelf where it is installed. With ORC,
+the program, it is also measured how long objects with as many symbols and relocations as an object may have take to
+be linked and to do one instruction, and how long one takes whose symbols nearly all lie in another object, which it
+refers to by their addresses, or calls; and as long of half as many. DUMP may be - then. Beside each is ld.lld with
+one thread on the same files, where it is installed. Times are the least of three runs, in processor and in wall
+seconds, and memory is the most that a run had.
 """
 import os
 import random
@@ -135,6 +136,21 @@ def long_names():
     ])
 
 
+def shared_section_name(count=40):
+    """Sections that share one name of 14 MiB."""
+    names = b"\0" + b"n" * (14 * MIB) + b"\0"
+    return build([section(3, names)] + [section(1, bytes(8), flags=2, name=1) for _ in range(count)])
+
+
+def shared_symbol_name(count=140000):
+    """Local symbols that share one name of 4,096 bytes; they are more than an object may have that is linked."""
+    table = bytes(24) + symbol(1, 0, 2) * count
+    return build([
+        section(3, b"\0"), section(1, bytes(8), flags=6), section(2, table, link=4, info=count + 1, entsize=24),
+        section(3, b"\0" + b"n" * 4096 + b"\0"),
+    ])
+
+
 def no_zero_byte():
     """65,535 local symbols whose names have no end."""
     table = bytes(24) + b"".join(symbol(0, 0, 2) for _ in range(65535))
@@ -144,22 +160,45 @@ def no_zero_byte():
     ])
 
 
+def reading(command):
+    """The processor time and the most memory of a command that reads an object, and the second line that it prints."""
+    child = subprocess.Popen([str(word) for word in command], stdout=subprocess.PIPE, stderr=subprocess.DEVNULL)
+    line = b""
+    for _ in range(2):
+        line = child.stdout.readline(64)
+        rest = line
+        while rest and not rest.endswith(b"\n"):
+            rest = child.stdout.readline(MIB)
+    while child.stdout.read(MIB):
+        pass
+    _, status, used = os.wait4(child.pid, 0)
+    child.stdout.close()
+    child.returncode = os.waitstatus_to_exitcode(status)
+    return used.ru_utime + used.ru_stime, used.ru_maxrss >> 10, line[:40].decode().rstrip()
+
+
 def measure(dump, name, data):
     with tempfile.TemporaryDirectory() as place:
         path = Path(place, "large.o")
         path.write_bytes(data)
-        best, line = 1e9, ""
-        for _ in range(3):
-            began = time.monotonic()
-            out = subprocess.run([dump, str(path)], capture_output=True, check=True).stdout
-            best = min(best, time.monotonic() - began)
-            line = out.split(b"\n", 2)[1][:40].decode()
-    print(f"{name:34} {len(data) / MIB:5.1f} MiB  {best:6.3f} s  {line}")
+        spent, memory, line = min(reading([dump, path]) for _ in range(3))
+        print(f"{name:34} {len(data) / MIB:5.1f} MiB  {spent:6.3f} s  {memory:5} MiB  {line}")
+
+
+def measure_shared(dump, name, data):
+    """The same beside GNU readelf, where it is installed; most of both times is that of printing the names."""
+    measure(dump, name, data)
+    if shutil.which("readelf"):
+        with tempfile.TemporaryDirectory() as place:
+            path = Path(place, "large.o")
+            path.write_bytes(data)
+            spent, memory, _ = reading(["readelf", "--wide", "--section-headers", "--symbols", path])
+            print(f"{'  by readelf':34} {'':9}  {spent:6.3f} s  {memory:5} MiB")
 
 
 def least(command, place):
-    """The least processor and wall times of three runs of a command, and the last line of its log."""
-    processor = wall = float("inf")
+    """The least processor and wall times of three runs of a command, its memory in MiB, and the last line of its log."""
+    processor = wall = memory = float("inf")
     for _ in range(3):
         with open(Path(place, "log"), "wb") as log:
             began = time.monotonic()
@@ -168,7 +207,8 @@ def least(command, place):
             wall = min(wall, time.monotonic() - began)
             child.returncode = os.waitstatus_to_exitcode(status)
         processor = min(processor, used.ru_utime + used.ru_stime)
-    return processor, wall, (Path(place, "log").read_bytes().splitlines() or [b""])[-1].decode()
+        memory = min(memory, used.ru_maxrss >> 10)
+    return processor, wall, memory, (Path(place, "log").read_bytes().splitlines() or [b""])[-1].decode()
 
 
 def measure_run(orc, name, files):
@@ -178,11 +218,11 @@ def measure_run(orc, name, files):
         for word, data in zip(words, files):
             Path(place, word).write_bytes(data)
         size = sum(map(len, files)) / MIB
-        spent, wall, line = least([orc, "run", *words, "--entry", "s1", "--fuel", "1"], place)
-        print(f"{name:34} {size:5.1f} MiB  {spent:6.3f} s processor, {wall:6.3f} s wall  {line}")
+        spent, wall, memory, line = least([orc, "run", *words, "--entry", "s1", "--fuel", "1"], place)
+        print(f"{name:34} {size:5.1f} MiB  {spent:6.3f} s processor, {wall:6.3f} s wall  {memory:5} MiB  {line}")
         if shutil.which("ld.lld"):
-            linked, wall, line = least(["ld.lld", "--threads=1", "-static", "-e", "s1", *words, "-o", "linked"], place)
-            print(f"{'  by ld.lld':34} {'':9}  {linked:6.3f} s processor, {wall:6.3f} s wall  {line}")
+            linked, wall, memory, line = least(["ld.lld", "--threads=1", "-static", "-e", "s1", *words, "-o", "linked"], place)
+            print(f"{'  by ld.lld':34} {'':9}  {linked:6.3f} s processor, {wall:6.3f} s wall  {memory:5} MiB  {line}")
         return spent
 
 
@@ -197,6 +237,9 @@ def measure_externals(orc, name, kind, width):
 def measure_runs(orc, fine):
     measure_run(orc, "symbols, relocations, run", [fine])
     measure_run(orc, "symbols, pairs, run", [many_pairs()])
+    # objects, though none that can be run: no symbol is s1, and of symbols one has too many (g6)
+    measure_run(orc, "sections that share a name", [shared_section_name()])
+    measure_run(orc, "symbols that share a name", [shared_symbol_name()])
     # R_RISCV_64, R_RISCV_CALL_PLT
     measure_externals(orc, "addresses of another object", 2, 8)
     measure_externals(orc, "calls of another object", 19, 8)
@@ -213,6 +256,8 @@ def main():
         measure(dump, "sections, the last overlaps", many_sections())
         measure(dump, "long names, the last symbol is bad", long_names())
         measure(dump, "names without end", no_zero_byte())
+        measure_shared(dump, "sections that share a name", shared_section_name())
+        measure_shared(dump, "symbols that share a name", shared_symbol_name())
     if len(sys.argv) > 2:
         measure_runs(Path(sys.argv[2]).resolve(), fine)
 
