@@ -21,11 +21,8 @@ use Rattle.session_model.specs.declared.entry.Reply.TheVariants as reply
 use Rattle.session_laws.proofs.Elements.{changed_length, mapped_length, numbered_length}
 use Rattle.session_laws.proofs.Settling.{settling_keeps}
 use Rattle.closure_laws.proofs.Homing.{settled_frame}
-use Rattle.run_laws.proofs.Calm.{AsMany, IsUnoffered, after_many, answer_unoffered, is_call}
+use Rattle.run_laws.proofs.Calm.{AsMany, IsUnoffered, after_many, answer_unoffered, is_call, settled_many}
 use Rattle.run_laws.proofs.Falling.{total}
-
-settled_many : (m : Plain) → length (settled m).units ≡ length m.units
-settled_many m = settling_keeps (λ n. length n.units ≡ length m.units) (λ u k q n p w b e. changed_length u linked_unit n.units ∙ p) 0 m.queries m refl
 
 -- ---- the client
 

@@ -13,10 +13,9 @@ use Rattle.given_names.specs.Given.{Given, address_of}
 use Rattle.script_laws.specs.Lines.{AreLines, AtEnd, CallsOf, CopiesAndRuns, Goes, IsCopy, IsLine, OneCall, Stops}
 use Rattle.script_laws.specs.declared.line_end.LineEnd.{LineEnd}
 use Rattle.script_laws.specs.declared.line_end.LineEnd.TheVariants.{Looked, Ran, Replied, Unfound}
-use Rattle.run_laws.proofs.Costs.{Costs, NumberedCall, NumberedUnoffered, each_front, each_joined, looks_cost, taken, total_joined}
+use Rattle.run_laws.proofs.Costs.{Costs, NumberedCall, NumberedUnoffered, each_back, each_front, each_joined, front_length, looks_cost, taken, total_joined}
 use Rattle.run_laws.proofs.Falling.{total}
 use Rattle.generated_session.proofs.Frames.{client_call, is_client}
-use Rattle.generated_session.proofs.Lists.{each_back, front_short}
 
 -- it defines nothing
 abbrev pub IsTame : Line → Type 0
@@ -46,10 +45,10 @@ from_costs : (k : ℕ) (cs : List (ℕ × Entry Meaning)) → Costs k cs → Lin
 from_costs k cs c = record { calls = client_calls cs c.calls; few = c.few }
 
 one_cost : (c : ℕ × Entry Meaning) → NumberedClient c → LineCosts 1 (c ∷ [])
-one_cost c is = record { calls = (is, tt); few = λ ds rest e un. omega (arith, front_short (c ∷ []) ds rest e) }
+one_cost c is = record { calls = (is, tt); few = λ ds rest e un. omega (arith, front_length (c ∷ []) ds rest e) }
 
 no_cost : (k : ℕ) → LineCosts k []
-no_cost k = record { calls = tt; few = λ ds rest e un. omega (arith, front_short [] ds rest e) }
+no_cost k = record { calls = tt; few = λ ds rest e un. omega (arith, front_length [] ds rest e) }
 
 -- ---- a line
 

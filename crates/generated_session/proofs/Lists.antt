@@ -9,10 +9,6 @@ use Rattle.session_model.specs.declared.entry.Entry.{Entry}
 use Rattle.run_laws.proofs.Falling.{total}
 use Rattle.run_laws.proofs.Seats.{call_first}
 
-pub each_back : {X : Type 0} (P : X → Type 0) (xs ys : List X) → AllByRecursion P (xs ++ ys) → AllByRecursion P ys
-each_back P [] ys a = a
-each_back P (x ∷ xs) ys a = each_back P xs ys a.1
-
 pub each_mapped : {X Y : Type 0} (P : Y → Type 0) (f : X → Y) (xs : List X) → AllByRecursion P (map f xs) → AllByRecursion (λ x. P (f x)) xs
 each_mapped P f [] a = tt
 each_mapped P f (x ∷ xs) a = (a.0, each_mapped P f xs a.1)
@@ -24,9 +20,6 @@ each_image P f (x ∷ xs) a = (a.0, each_image P f xs a.1)
 pub total_mapped : {X Y : Type 0} (g : Y → ℕ) (f : X → Y) (xs : List X) → total (λ x. g (f x)) xs ≡ total g (map f xs)
 total_mapped g f [] = refl
 total_mapped g f (x ∷ xs) = ap (λ n. g (f x) + n) (total_mapped g f xs)
-
-pub front_short : {X : Type 0} (xs ds rest : List X) → xs ≡ ds ++ rest → length ds ≤ length xs
-front_short xs ds rest e = let n = ap length e in omega (arith, n, length-append ds rest)
 
 -- where there is one seat, its calls are the entries
 pub only_seat : (n : ℕ) (es : List (Entry Meaning)) → All (λ (e : Entry Meaning). e.seat.0 ≡ 1) es → map (λ (c : ℕ × Entry Meaning). c.1) (numbered_calls 1 n es) ≡ es
