@@ -51,13 +51,14 @@ use Rattle.seat_calls.specs.Did.{Did, Nothing, Promise, Single}
 use Rattle.seat_calls.proofs.Doing.{nothing_is_done}
 use Rattle.seat_calls.proofs.Numbers.{taken_start}
 use Rattle.link_worker.specs.Does.{Does}
-use Rattle.link_worker.specs.Jobs.{IsCause}
+use Rattle.link_worker.specs.Jobs.{IsCause, SpareAll}
 use Rattle.link_worker.specs.Looks.{Asking, EndsAs, HasAwaited, HasLooked, HasSettled, IsAsked, IsLodgedBy, LastIs, end_stopped, has_lodged, is_ask, left_of, lookup_of, offered_in}
 use Rattle.link_worker.specs.Works.{IsFree}
 use Rattle.link_worker.specs.declared.looking.LookEnd.{LookEnd}
 use Rattle.link_worker.specs.declared.looking.LookEnd.TheVariants as end
 use Rattle.link_worker.proofs.Collecting.{one_lacks}
 use Rattle.link_worker.proofs.Freeing.{ask_untaken, free_after, generate_untaken}
+use Rattle.link_worker.proofs.Sparing.{spare_both, spare_none, spare_one}
 use Rattle.link_worker.proofs.Stepping.{no_notices}
 use Rattle.link_worker.proofs.Telling.{does_both, does_none, does_one, places_nothing, told_by, told_none}
 use Rattle.link_worker.proofs.Turning.{TurnOf, legal_after, no_call, one_call, seen_is, seen_plain}
@@ -138,6 +139,7 @@ asking_stopped l h cs a = record { rest = (0, refused_entry l) ∷ []; would = a
 record WasOffered (l : Lookup) (g : GenId) (h : List (Entry Meaning)) (cs : List (ℕ × Entry Meaning)) : Type 0 where
   rest : (m : ℕ) (f : Entry Meaning) (ds : List (ℕ × Entry Meaning)) → f.event ≡ event.Generate g → Looks h l ds → Looks h l (cs ++ (m, f) ∷ ds)
   none : has_lodged cs ≡ false
+  spare : SpareAll cs
 
 abbrev used_by : GenId → Entry Meaning
 used_by g = record { seat = record { 0 = 0 }; event = event.Generate g; reply = reply.Spent g }
@@ -149,6 +151,7 @@ offered_stopped l g h cs a = record { rest = (0, used_by g) ∷ (0, refused_entr
 record Lodged (l : Lookup) (q : QueryId) (n : ℕ) (h : List (Entry Meaning)) (cs : List (ℕ × Entry Meaning)) : Type 0 where
   rest : (ds : List (ℕ × Entry Meaning)) → Works h q n ds → Looks h l (cs ++ ds)
   lodged : has_lodged cs ≡ true
+  spare : SpareAll cs
 
 -- only an offer offers a generator
 pub offered_is : (r : Reply) (g : GenId) → offered_in r ≡ Some g → r ≡ reply.Offer g
@@ -168,7 +171,7 @@ module _ {U N : Type 0} (means : U → Meaning) (hears : N → Option Outcome) (
 
   -- no ask was made
   pub asks_none : (v : View (Entry U)) (a : List (Notice N)) → Does means hears v v a a (Asking l)
-  asks_none v a = does_none means hears v v a (Asking l) (λ h. record { rest = λ ds looks. looks; none = refl }) (nothing_is_done means v)
+  asks_none v a = does_none means hears v v a (Asking l) (λ h. record { rest = λ ds looks. looks; none = refl; spare = spare_none }) (nothing_is_done means v)
 
   module _ (v x y : View (Entry U)) (a b c : List (Notice N)) (so : Does means hears v x a b (Asking l)) where
     abbrev pub AskOf : Result Reply Stop → Option (Unheard N) → List (Notice N) → Type 0
@@ -225,6 +228,7 @@ module _ {U N : Type 0} (means : U → Meaning) (hears : N → Option Outcome) (
             rest = λ m f es its looks. subst (Looks h l) (sym (append_assoc cs ((length (plain_history means t.old) + 1, plain_entry means (asked (reply.Offer g))) ∷ []) ((m, f) ∷ es)))
                 (w.rest ((length (plain_history means t.old) + 1, plain_entry means (asked (reply.Offer g))) ∷ (m, f) ∷ es) (Again (length (plain_history means t.old) + 1) m (plain_entry means (asked (reply.Offer g))) f g es refl refl its looks));
             none = lodged_both cs ((length (plain_history means t.old) + 1, plain_entry means (asked (reply.Offer g))) ∷ []) ∙ or_none (has_lodged cs) false w.none refl;
+            spare = spare_both cs ((length (plain_history means t.old) + 1, plain_entry means (asked (reply.Offer g))) ∷ []) w.spare (spare_one (length (plain_history means t.old) + 1) (plain_entry means (asked (reply.Offer g))) refl);
           })) so (one_ask (reply.Offer g) back fires t told)
 
       module _ (z : View (Entry U)) where
@@ -239,6 +243,7 @@ module _ {U N : Type 0} (means : U → Meaning) (hears : N → Option Outcome) (
             (λ h cs ds w s. subst (λ k. Asking l h (cs ++ k)) (sym s.0) (record {
               rest = λ es looks. subst (Looks h l) (sym (append_assoc cs ((length (plain_history means u.old) + 1, plain_entry means (used_entry r)) ∷ []) es)) (w.rest (length (plain_history means u.old) + 1) (plain_entry means (used_entry r)) es refl looks);
               none = lodged_both cs ((length (plain_history means u.old) + 1, plain_entry means (used_entry r)) ∷ []) ∙ or_none (has_lodged cs) false w.none refl;
+              spare = spare_both cs ((length (plain_history means u.old) + 1, plain_entry means (used_entry r)) ∷ []) w.spare (spare_one (length (plain_history means u.old) + 1) (plain_entry means (used_entry r)) refl);
             })) offered
             (does_one means hears y z (plain_history means u.old) (plain_entry means (used_entry r)) c c [] (sym (append-nil c)) (All-nil (λ k. hears k.what ≡ Some k.outcome))
             (told_none jmax (plain_history means u.old) (plain_entry means (used_entry r)) (legal_after means jmax y z _ u (used_entry r) u.did.grown) (unstirred (state (plain_history means u.old)) y.number (event.Generate g) r refl)) (places_nothing (state (plain_history means u.old)) (event.Generate g) r refl)
@@ -317,6 +322,7 @@ module _ {U N : Type 0} (means : U → Meaning) (hears : N → Option Outcome) (
         (λ h cs ds w s. subst (λ k. Lodged l q (number r back fires t) h (cs ++ k)) (sym s.0) (record {
           rest = λ es works. subst (Looks h l) (sym (append_assoc cs ((number r back fires t, entry r back fires t) ∷ []) es)) (w.rest ((number r back fires t, entry r back fires t) ∷ es) (Asks (number r back fires t) (entry r back fires t) es refl (ends h es works)));
           lodged = lodged_both cs ((number r back fires t, entry r back fires t) ∷ []) ∙ or_right (has_lodged cs) (has_lodged ((number r back fires t, entry r back fires t) ∷ [])) (ap (λ k. k || false) lodged);
+          spare = spare_both cs ((number r back fires t, entry r back fires t) ∷ []) w.spare (spare_one (number r back fires t) (entry r back fires t) refl);
         })) so (one_ask r back fires t told)
 
     module _ (z : View (Entry U)) (d : List (Notice N)) (back : Option (Unheard N)) (gone : back ≡ None) (q : QueryId) (n : ℕ) (first : Does means hears v y a c (Lodged l q n)) where
@@ -327,9 +333,9 @@ module _ {U N : Type 0} (means : U → Meaning) (hears : N → Option Outcome) (
       cut_wait s = does_both means hears v y z a c d (Lodged l q n) (λ h cs. IsStopped (Works h q n) cs) (λ h cs. IsStopped (Looks h l) cs × (back ≡ left_of then' cs))
           (λ h cs ds w k. (record { rest = k.rest; would = subst (Looks h l) (sym (append_assoc cs ds k.rest)) (w.rest (ds ++ k.rest) k.would) }, left_none cs ds w.lodged)) first s
 
-      end_wait : (e : LookEnd) → Does means hears y z c d (λ h cs. Works h q n cs × EndsAs e cs) → Does means hears v z a d (λ h cs. Looks h l cs × EndsAs e cs × (back ≡ left_of then' cs))
-      end_wait e s = does_both means hears v y z a c d (Lodged l q n) (λ h cs. Works h q n cs × EndsAs e cs) (λ h cs. Looks h l cs × EndsAs e cs × (back ≡ left_of then' cs))
-          (λ h cs ds w k. (w.rest ds k.0, ends_after e cs ds k.1, left_none cs ds w.lodged)) first s
+      end_wait : (e : LookEnd) → Does means hears y z c d (λ h cs. Works h q n cs × EndsAs e cs × SpareAll cs) → Does means hears v z a d (λ h cs. Looks h l cs × EndsAs e cs × (back ≡ left_of then' cs) × SpareAll cs)
+      end_wait e s = does_both means hears v y z a c d (Lodged l q n) (λ h cs. Works h q n cs × EndsAs e cs × SpareAll cs) (λ h cs. Looks h l cs × EndsAs e cs × (back ≡ left_of then' cs) × SpareAll cs)
+          (λ h cs ds w k. (w.rest ds k.0, ends_after e cs ds k.1, left_none cs ds w.lodged, spare_both cs ds w.spare k.2)) first s
 
       waited : (e : LookEnd) → HasAwaited means hears jmax y z c d q n e → HasLooked means hears jmax v z a d l then' e back
       waited (end.JournalFull len) k = (cut_wait k.0, stopped_since means jmax v.seen y.seen z.seen (stop.JournalFull len) first.did.later k.1)
@@ -342,12 +348,13 @@ module _ {U N : Type 0} (means : U → Meaning) (hears : N → Option Outcome) (
 
     -- the ask was refused
     refused : (r : Reply) (e : LookEnd) (back : Option (Unheard N)) (fires : List (Notice N)) (t : AskOf (Ok r) back fires) → Told hears fires b c → is_lodged r ≡ false → ((h : List (Entry Meaning)) → EndsAsk h (number r back fires t) r []) → ((cs : List (ℕ × Entry Meaning)) → LastIs cs r → EndsAs e cs) →
-        Does means hears v y a c (λ h cs. Looks h l cs × EndsAs e cs × (back ≡ left_of then' cs))
-    refused r e back fires t told lodged ends last = does_both means hears v x y a b c (Asking l) (Single (before r back fires t) (entry r back fires t)) (λ h cs. Looks h l cs × EndsAs e cs × (back ≡ left_of then' cs))
-        (λ h cs ds w s. subst (λ k. Looks h l (cs ++ k) × EndsAs e (cs ++ k) × (back ≡ left_of then' (cs ++ k))) (sym s.0) (
+        Does means hears v y a c (λ h cs. Looks h l cs × EndsAs e cs × (back ≡ left_of then' cs) × SpareAll cs)
+    refused r e back fires t told lodged ends last = does_both means hears v x y a b c (Asking l) (Single (before r back fires t) (entry r back fires t)) (λ h cs. Looks h l cs × EndsAs e cs × (back ≡ left_of then' cs) × SpareAll cs)
+        (λ h cs ds w s. subst (λ k. Looks h l (cs ++ k) × EndsAs e (cs ++ k) × (back ≡ left_of then' (cs ++ k)) × SpareAll (cs ++ k)) (sym s.0) (
           w.rest ((number r back fires t, entry r back fires t) ∷ []) (Asks (number r back fires t) (entry r back fires t) [] refl (ends h)),
           last (cs ++ (number r back fires t, entry r back fires t) ∷ []) (record { before = cs; number = number r back fires t; entry = entry r back fires t; are = refl; reply = refl }),
           t.did.1 ∙ (ap (λ k. if k then None else then') lodged ∙ ap (λ k. if k then None else then') (sym (lodged_both cs ((number r back fires t, entry r back fires t) ∷ []) ∙ or_none (has_lodged cs) (has_lodged ((number r back fires t, entry r back fires t) ∷ [])) w.none (ap (λ k. k || false) lodged)))),
+          spare_both cs ((number r back fires t, entry r back fires t) ∷ []) w.spare (spare_one (number r back fires t) (entry r back fires t) refl),
         )) so (one_ask r back fires t told)
 
     -- nothing was done since

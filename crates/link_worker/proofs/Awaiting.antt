@@ -16,15 +16,21 @@ use Rattle.session_laws.proofs.Elements.{same_element}
 use Rattle.session_laws.proofs.Ending.{query_stays}
 use Rattle.session_laws.proofs.Readying.{state_from_joined}
 use Rattle.turn_lock.specs.declared.view.View.{View}
+use Rattle.link_worker.specs.Jobs.{SpareAll, is_cut_fail}
 use Rattle.link_worker.specs.Looks.{LastIs, Waits}
 use Rattle.link_worker.specs.Works.{OneJobAtMost}
 use Rattle.link_worker.proofs.Knowing.{Between}
+use Rattle.link_worker.proofs.Sparing.{spare_both, spare_one}
 
 -- Lists
 
 split_last : {X : Type 0} (P : X → Type 0) (x : X) (xs : List X) → All P (x ∷ xs) → (before : List X) × (last : X) × (x ∷ xs ≡ before ++ last ∷ []) × P last
 split_last P x [] a = ([], x, refl, All-head P x [] a)
 split_last P x (y ∷ ys) a = let r = split_last P y ys (All-tail P x (y ∷ ys) a) in (x ∷ r.0, r.1, ap (λ l. x ∷ l) r.2, r.3)
+
+split_end : {X : Type 0} (x : X) (xs : List X) → (before : List X) × (last : X) × (x ∷ xs ≡ before ++ last ∷ [])
+split_end x [] = ([], x, refl)
+split_end x (y ∷ ys) = let r = split_end y ys in (x ∷ r.0, r.1, ap (λ l. x ∷ l) r.2)
 
 -- how many entries a pass has seen
 abbrev pub seen_count : {U : Type 0} → (U → Meaning) → View (Entry U) → ℕ
@@ -62,15 +68,15 @@ pub record OpenAt (q : QueryId) (k : ℕ) (h : List (Entry Meaning)) : Type 0 wh
 
 pub waits_still : (q : QueryId) (n k m : ℕ) (h : List (Entry Meaning)) (cs : List (ℕ × Entry Meaning)) → k ≤ m → Waits q n k h cs → OpenAt q m h → StillWaits q n m h cs
 waits_still q n k m h cs within w o = record {
-  waits = record { last = w.last; within = omega (arith, w.within, within); query = w.query; there = w.there; rest = w.rest };
+  waits = record { last = w.last; within = omega (arith, w.within, within); query = w.query; there = w.there; rest = w.rest; spare = w.spare };
   open_then = open_at h w.query w.last m (omega (arith, w.within, within)) o.here
       (subst (λ z. IsOpen (take m h) z) (same_element (slice_get (state (take m h)).queries q.0) o.query w.query o.there (there_on h w.last m q.0 w.query (omega (arith, w.within, within)) w.there)) o.unsettled);
 }
 
 -- one job more
-pub waits_on : (q : QueryId) (n k m : ℕ) (h : List (Entry Meaning)) (cs ds : List (ℕ × Entry Meaning)) → StillWaits q n k h cs → IsJob h ds → Between k m ds → Waits q n m h (cs ++ ds)
-waits_on q n k m h cs [] w job between = absurd job
-waits_on q n k m h cs (d ∷ ds) w job between =
+pub waits_on : (q : QueryId) (n k m : ℕ) (h : List (Entry Meaning)) (cs ds : List (ℕ × Entry Meaning)) → StillWaits q n k h cs → IsJob h ds → SpareAll ds → Between k m ds → Waits q n m h (cs ++ ds)
+waits_on q n k m h cs [] w job spared between = absurd job
+waits_on q n k m h cs (d ∷ ds) w job spared between =
     let s = split_last (λ c. (k < c.0) × (c.0 ≤ m)) d ds between in
     let x = w.waits in
     subst (λ l. Waits q n m h (cs ++ l)) (sym s.2) (record {
@@ -81,17 +87,22 @@ waits_on q n k m h cs (d ∷ ds) w job between =
       rest = λ es works. subst (Works h q n) (sym (append_assoc cs (s.0 ++ s.1 ∷ []) es))
           (x.rest ((s.0 ++ s.1 ∷ []) ++ es) (subst (Works h q x.last) (sym (append_assoc s.0 (s.1 ∷ []) es))
           (AJob x.last 0 x.query s.1 s.0 es x.there w.open_then (subst (IsJob h) s.2 job) works)));
+      spare = spare_both cs (s.0 ++ s.1 ∷ []) x.spare (subst SpareAll s.2 spared);
     })
 
 -- nothing was done
 pub waits_idle : (q : QueryId) (n k m : ℕ) (h : List (Entry Meaning)) (cs ds : List (ℕ × Entry Meaning)) → k ≤ m → StillWaits q n k h cs → ds ≡ [] → Waits q n m h (cs ++ ds)
 waits_idle q n k m h cs ds within w none = subst (Waits q n m h) (sym (append-nil cs) ∙ ap (λ l. cs ++ l) (sym none))
-    (record { last = w.waits.last; within = omega (arith, w.waits.within, within); query = w.waits.query; there = w.waits.there; rest = w.waits.rest })
+    (record { last = w.waits.last; within = omega (arith, w.waits.within, within); query = w.waits.query; there = w.waits.there; rest = w.waits.rest; spare = w.waits.spare })
 
 -- the end of the query is taken
 pub waits_end : (q : QueryId) (n k m : ℕ) (h : List (Entry Meaning)) (cs ds : List (ℕ × Entry Meaning)) (e : Entry Meaning) → Waits q n k h cs → e.event ≡ event.Collect q → is_collected e.reply ≡ true → ds ≡ (m, e) ∷ [] →
-    Works h q n (cs ++ ds) × LastIs (cs ++ ds) e.reply
-waits_end q n k m h cs ds e w collects is are = subst (λ l. Works h q n (cs ++ l) × LastIs (cs ++ l) e.reply) (sym are) (w.rest ((m, e) ∷ []) (Collected w.last m e collects is), record { before = cs; number = m; entry = e; are = refl; reply = refl })
+    Works h q n (cs ++ ds) × LastIs (cs ++ ds) e.reply × SpareAll (cs ++ ds)
+waits_end q n k m h cs ds e w collects is are = subst (λ l. Works h q n (cs ++ l) × LastIs (cs ++ l) e.reply × SpareAll (cs ++ l)) (sym are) (
+  w.rest ((m, e) ∷ []) (Collected w.last m e collects is),
+  record { before = cs; number = m; entry = e; are = refl; reply = refl },
+  spare_both cs ((m, e) ∷ []) w.spare (spare_one m e (ap is_cut_fail collects)),
+)
 
 -- an entry that would take the end
 abbrev collect_entry : QueryId → Entry Meaning
@@ -101,6 +112,20 @@ collect_entry q = record { seat = record { 0 = 0 }; event = event.Collect q; rep
 pub waits_stopped : (q : QueryId) (n k : ℕ) (h : List (Entry Meaning)) (cs : List (ℕ × Entry Meaning)) → Waits q n k h cs → IsStopped (Works h q n) cs
 waits_stopped q n k h cs w = record { rest = (0, collect_entry q) ∷ []; would = w.rest ((0, collect_entry q) ∷ []) (Collected w.last 0 (collect_entry q) refl refl) }
 
-pub waits_cut : (q : QueryId) (n k m : ℕ) (h : List (Entry Meaning)) (cs ds : List (ℕ × Entry Meaning)) → k ≤ m → StillWaits q n k h cs → OneJobAtMost h ds → Between k m ds → IsStopped (Works h q n) (cs ++ ds)
-waits_cut q n k m h cs ds within w (inl none) between = waits_stopped q n m h (cs ++ ds) (waits_idle q n k m h cs ds within w none)
-waits_cut q n k m h cs ds within w (inr job) between = waits_stopped q n m h (cs ++ ds) (waits_on q n k m h cs ds w job between)
+-- a job in which a call was stopped is the last of the calls
+cut_in : (q : QueryId) (n k : ℕ) (h : List (Entry Meaning)) (cs ds : List (ℕ × Entry Meaning)) → StillWaits q n k h cs → IsJob h ds → IsStopped (Works h q n) (cs ++ ds)
+cut_in q n k h cs [] w job = absurd job
+cut_in q n k h cs (d ∷ ds) w job =
+    let s = split_end d ds in
+    let x = w.waits in
+    let end : List (ℕ × Entry Meaning) = (0, collect_entry q) ∷ [] in
+    record {
+      rest = end;
+      would = subst (Works h q n) (sym (append_assoc cs (d ∷ ds) end)) (x.rest ((d ∷ ds) ++ end)
+          (subst (λ l. Works h q x.last (l ++ end)) (sym s.2) (subst (Works h q x.last) (sym (append_assoc s.0 (s.1 ∷ []) end))
+          (AJob x.last 0 x.query s.1 s.0 end x.there w.open_then (subst (IsJob h) s.2 job) (Collected s.1.0 0 (collect_entry q) refl refl)))));
+    }
+
+pub waits_cut : (q : QueryId) (n k m : ℕ) (h : List (Entry Meaning)) (cs ds : List (ℕ × Entry Meaning)) → k ≤ m → StillWaits q n k h cs → OneJobAtMost h ds → IsStopped (Works h q n) (cs ++ ds)
+waits_cut q n k m h cs ds within w (inl none) = waits_stopped q n m h (cs ++ ds) (waits_idle q n k m h cs ds within w none)
+waits_cut q n k m h cs ds within w (inr job) = cut_in q n k h cs ds w job

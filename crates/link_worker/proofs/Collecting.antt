@@ -33,7 +33,7 @@ use Rattle.seat_calls.specs.Did.{Did, Nothing, Single}
 use Rattle.seat_calls.proofs.Doing.{nothing_is_done}
 use Rattle.seat_calls.proofs.Numbers.{plain_starts, taken_start}
 use Rattle.link_worker.specs.Does.{Does}
-use Rattle.link_worker.specs.Jobs.{IsCause, LacksPlaces}
+use Rattle.link_worker.specs.Jobs.{IsCause, LacksPlaces, SpareAll}
 use Rattle.link_worker.specs.Looks.{EndsAs, HasAwaited, IsLodgedBy, Waits, end_in, end_stopped}
 use Rattle.link_worker.specs.Works.{IsFree, OneJob, OneJobAtMost}
 use Rattle.link_worker.specs.declared.looking.LookEnd.{LookEnd}
@@ -41,6 +41,7 @@ use Rattle.link_worker.specs.declared.looking.LookEnd.TheVariants as end
 use Rattle.link_worker.proofs.Awaiting.{OpenAt, StillWaits, seen_count, there_on, waits_cut, waits_end, waits_idle, waits_on, waits_still, waits_stopped}
 use Rattle.link_worker.proofs.Freeing.{collect_untaken, free_after}
 use Rattle.link_worker.proofs.Knowing.{Between, does_known}
+use Rattle.link_worker.proofs.Sparing.{spare_none}
 use Rattle.link_worker.proofs.Telling.{does_both, does_less, does_none, does_one, places_nothing, told_none}
 use Rattle.link_worker.proofs.Turning.{TurnOf, found, legal_after, no_call, one_call, seen_is}
 use Rattle.link_worker.proofs.Working.{still_free, stopped_now, stopped_since}
@@ -63,7 +64,7 @@ module _ {U N : Type 0} (means : U → Meaning) (hears : N → Option Outcome) (
       known h starts = subst (λ l. slice_get (state l).queries q.0 ≡ Some k.query) (sym (ap (take n) starts.1 ∙ take-append-le n (plain_history means v.seen) starts.0 k.within)) k.there
 
       follows : (h : List (Entry Meaning)) (cs : List (ℕ × Entry Meaning)) → (cs ≡ []) × (slice_get (state (take n h)).queries q.0 ≡ Some k.query) × Between (seen_count means v) (seen_count means v) cs → Waits q n (seen_count means v) h cs
-      follows h cs p = subst (Waits q n (seen_count means v) h) (sym p.0) (record { last = n; within = k.within; query = k.query; there = p.1; rest = λ ds works. works })
+      follows h cs p = subst (Waits q n (seen_count means v) h) (sym p.0) (record { last = n; within = k.within; query = k.query; there = p.1; rest = λ ds works. works; spare = spare_none })
 
   module _ (v x y : View (Entry U)) (a b : List (Notice N)) (so : Does means hears v x a b (Waits q n (seen_count means x))) where
     abbrev pub CollectOf : Result Reply Stop → Type 0
@@ -81,12 +82,12 @@ module _ {U N : Type 0} (means : U → Meaning) (hears : N → Option Outcome) (
     -- what the pass has done at the end of the query
     pub collected_end : (r : Reply) (e : LookEnd) → end_in r ≡ Some e → CollectOf (Ok r) → HasAwaited means hears jmax v y a b q n e
     collected_end (reply.Found at matches) e is t = subst (HasAwaited means hears jmax v y a b q n) (same_Some (end.Found matches) e is)
-        (does_both means hears v x y a b b (Waits q n (seen_count means x)) (Single (plain_history means t.old) (plain_entry means (collected (reply.Found at matches)))) (λ h cs. Works h q n cs × EndsAs (end.Found matches) cs)
-        (λ h cs ds w s. let p = waits_end q n (seen_count means x) (length (plain_history means t.old) + 1) h cs ds (plain_entry means (collected (reply.Found at matches))) w refl refl s.0 in (p.0, (at, p.1)))
+        (does_both means hears v x y a b b (Waits q n (seen_count means x)) (Single (plain_history means t.old) (plain_entry means (collected (reply.Found at matches)))) (λ h cs. Works h q n cs × EndsAs (end.Found matches) cs × SpareAll cs)
+        (λ h cs ds w s. let p = waits_end q n (seen_count means x) (length (plain_history means t.old) + 1) h cs ds (plain_entry means (collected (reply.Found at matches))) w refl refl s.0 in (p.0, (at, p.1), p.2))
         so (one (reply.Found at matches) _ t t.did.grown))
     collected_end (reply.Lost at i) e is t = subst (HasAwaited means hears jmax v y a b q n) (same_Some (end.Failed i) e is)
-        (does_both means hears v x y a b b (Waits q n (seen_count means x)) (Single (plain_history means t.old) (plain_entry means (collected (reply.Lost at i)))) (λ h cs. Works h q n cs × EndsAs (end.Failed i) cs)
-        (λ h cs ds w s. let p = waits_end q n (seen_count means x) (length (plain_history means t.old) + 1) h cs ds (plain_entry means (collected (reply.Lost at i))) w refl refl s.0 in (p.0, (at, p.1)))
+        (does_both means hears v x y a b b (Waits q n (seen_count means x)) (Single (plain_history means t.old) (plain_entry means (collected (reply.Lost at i)))) (λ h cs. Works h q n cs × EndsAs (end.Failed i) cs × SpareAll cs)
+        (λ h cs ds w s. let p = waits_end q n (seen_count means x) (length (plain_history means t.old) + 1) h cs ds (plain_entry means (collected (reply.Lost at i))) w refl refl s.0 in (p.0, (at, p.1), p.2))
         so (one (reply.Lost at i) _ t t.did.grown))
     collected_end _ e is t = absurd (none-some e is)
 
@@ -172,12 +173,12 @@ module _ {U N : Type 0} (means : U → Meaning) (hears : N → Option Outcome) (
   module _ (v y z : View (Entry U)) (a b c : List (Notice N)) (so : Does means hears v y a b (StillWaits q n (seen_count means y))) where
     pub work_did : Does means hears y z b c OneJob → Does means hears v z a c (Waits q n (seen_count means z))
     work_did job = does_both means hears v y z a b c (StillWaits q n (seen_count means y)) (λ h cs. OneJob h cs × Unit {0} × Between (seen_count means y) (seen_count means z) cs) (Waits q n (seen_count means z))
-        (λ h cs ds w p. waits_on q n (seen_count means y) (seen_count means z) h cs ds w p.0.0 p.2) so (does_known means hears y z b c OneJob job (λ h. Unit {0}) (λ h starts. tt))
+        (λ h cs ds w p. waits_on q n (seen_count means y) (seen_count means z) h cs ds w p.0.0 p.0.1 p.2) so (does_known means hears y z b c OneJob job (λ h. Unit {0}) (λ h starts. tt))
 
     pub work_idle : Does means hears y z b c Nothing → Does means hears v z a c (Waits q n (seen_count means z))
     work_idle none = does_both means hears v y z a b c (StillWaits q n (seen_count means y)) Nothing (Waits q n (seen_count means z))
         (λ h cs ds w e. waits_idle q n (seen_count means y) (seen_count means z) h cs ds (count_grows means y z none.did.later) w e) so none
 
     pub work_cut : Does means hears y z b c OneJobAtMost → Does means hears v z a c (λ h cs. IsStopped (Works h q n) cs)
-    work_cut job = does_both means hears v y z a b c (StillWaits q n (seen_count means y)) (λ h cs. OneJobAtMost h cs × Unit {0} × Between (seen_count means y) (seen_count means z) cs) (λ h cs. IsStopped (Works h q n) cs)
-        (λ h cs ds w p. waits_cut q n (seen_count means y) (seen_count means z) h cs ds (count_grows means y z job.did.later) w p.0 p.2) so (does_known means hears y z b c OneJobAtMost job (λ h. Unit {0}) (λ h starts. tt))
+    work_cut job = does_both means hears v y z a b c (StillWaits q n (seen_count means y)) OneJobAtMost (λ h cs. IsStopped (Works h q n) cs)
+        (λ h cs ds w p. waits_cut q n (seen_count means y) (seen_count means z) h cs ds (count_grows means y z job.did.later) w p) so job

@@ -5,6 +5,7 @@ pub mod Aliasing
 pub mod AliasStep
 pub mod Based
 pub mod Taking
+pub mod Sparing
 pub mod Working
 pub mod Knowing
 pub mod Awaiting

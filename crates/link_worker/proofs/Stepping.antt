@@ -42,7 +42,7 @@ use Rattle.orc_ids.specs.declared.place.Place.{Place}
 use Rattle.orc_ids.specs.declared.place.Shape.{Shape}
 use Rattle.seat_calls.specs.Did.{Single}
 use Rattle.seat_calls.proofs.Doing.{nothing_is_done}
-use Rattle.link_worker.specs.Jobs.{IsCause, IsJobAt, Knows, Leads, LacksPlaces, Steps, is_memory_fail, next_by, wants_memory}
+use Rattle.link_worker.specs.Jobs.{IsCause, IsJobAt, Knows, Leads, LacksPlaces, Steps, is_cut, is_cut_fail, next_by}
 use Rattle.link_worker.specs.Units.{Refuses, own_refusal, unfinished}
 use Rattle.link_worker.specs.declared.unit.FinishError.{FinishError}
 use Rattle.link_worker.specs.declared.unit.FinishError.TheVariants as finish
@@ -53,18 +53,18 @@ use Rattle.link_worker.proofs.Turning.{Found, TurnOf, found, seen_is, number_is,
 -- Which calls fail for want of memory
 
 -- only a stage that gives a unit up for want of memory makes such a call
-pub call_spares : (u : UnitId) (at : Stage) (e : Event Meaning) → IsCall u at e → wants_memory at ≡ false → is_memory_fail e ≡ false
+pub call_spares : (u : UnitId) (at : Stage) (e : Event Meaning) → IsCall u at e → is_cut at ≡ false → is_cut_fail e ≡ false
 call_spares u stage.Place (event.Place v shape) c w = refl
 call_spares u stage.Place _ c w = absurd (both_ways false refl c)
-call_spares u stage.Resolve e c w = ap is_memory_fail c
-call_spares u stage.Link e c w = ap is_memory_fail c
-call_spares u (stage.Generate g) e c w = ap is_memory_fail c
-call_spares u stage.ResolveAlias e c w = ap is_memory_fail c
+call_spares u stage.Resolve e c w = ap is_cut_fail c
+call_spares u stage.Link e c w = ap is_cut_fail c
+call_spares u (stage.Generate g) e c w = ap is_cut_fail c
+call_spares u stage.ResolveAlias e c w = ap is_cut_fail c
 call_spares u stage.Emit (event.Emit v groups) c w = refl
 call_spares u stage.Emit _ c w = absurd (both_ways false refl c)
-call_spares u (stage.Fail cause) e c w = ap is_memory_fail c ∙ same cause w
+call_spares u (stage.Fail cause) e c w = ap is_cut_fail c ∙ same cause w
   where
-    same : (cause : Why) → wants_memory (stage.Fail cause) ≡ false → is_memory_fail (event.Fail u cause) ≡ false
+    same : (cause : Why) → is_cut (stage.Fail cause) ≡ false → is_cut_fail (event.Fail u cause) ≡ false
     same why.NoMemory w = w
     same (why.Refused place kind v) w = refl
     same (why.Missing name) w = refl
@@ -72,7 +72,7 @@ call_spares u (stage.Fail cause) e c w = ap is_memory_fail c ∙ same cause w
     same (why.InError i) w = refl
     same (why.BadDep i) w = refl
     same (why.NoRoom need) w = refl
-    same why.Full w = refl
+    same why.Full w = w
 call_spares u stage.Over e c w = absurd c
 
 -- only an alias that is resolved leads to a stage that has to know something
@@ -90,7 +90,7 @@ next_knows means jmax h s job stage.Emit (reply.BadDep i) c = tt
 next_knows means jmax h s job _ _ c = tt
 
 -- no reply leads to one
-pub next_spares : (at : Stage) (r : Reply) → wants_memory (next at r) ≡ false
+pub next_spares : (at : Stage) (r : Reply) → is_cut (next at r) ≡ false
 next_spares stage.Place (reply.Placed base) = refl
 next_spares stage.Place (reply.NoRoom need) = refl
 next_spares stage.Resolve reply.Resolved = refl
@@ -139,7 +139,7 @@ module _ {U : Type 0} (means : U → Meaning) (jmax : ℕ) (v w : View (Entry U)
       (h : List (Entry Meaning)) (cs : List (ℕ × Entry Meaning)) → Single before (plain_entry means (the_entry e r)) h cs → Leads u refusal at (next at r) h cs
   leads_one before e r refusal call m none h cs s = subst (Leads u refusal at (next at r) h) (sym s.0) (record {
     rest = m.rest refusal none;
-    spare = λ spared. All-cons (λ c. is_memory_fail c.1.event ≡ false) (length before + 1, plain_entry means (the_entry e r)) [] (call_spares u at (plain_event means e) call spared) (All-nil (λ c. is_memory_fail c.1.event ≡ false));
+    spare = λ spared. All-cons (λ c. is_cut_fail c.1.event ≡ false) (length before + 1, plain_entry means (the_entry e r)) [] (call_spares u at (plain_event means e) call spared) (All-nil (λ c. is_cut_fail c.1.event ≡ false));
   })
 
   -- The call was stopped
@@ -176,7 +176,7 @@ module _ {U : Type 0} (means : U → Meaning) (jmax : ℕ) (v w : View (Entry U)
   pub leads_stopped : (refusal : Option Refusal) (st : Stop) → may_stop at ≡ true → (h : List (Entry Meaning)) → Leads u refusal at (stopped st) h []
   leads_stopped refusal st may h = record {
     rest = λ es r. stopped_job_fails u refusal at es may (stop_cuts_job u refusal st es r);
-    spare = λ spared. All-nil (λ c. is_memory_fail c.1.event ≡ false);
+    spare = λ spared. All-nil (λ c. is_cut_fail c.1.event ≡ false);
   }
 
 -- nobody to tell
@@ -303,7 +303,7 @@ module _ {U N : Type 0} (means : U → Meaning) (hears : N → Option Outcome) (
   -- a job that is over
   pub over_steps : IsJobAt means jmax v job stage.Over → (from : List (Notice N)) → Steps means hears jmax v v from from job stage.Over (Ok stage.Over)
   over_steps has from = record {
-    does = does_none means hears v v from (Leads job.unit (own_refusal means job) stage.Over stage.Over) (λ h. record { rest = λ es r. r; spare = λ spared. All-nil (λ c. is_memory_fail c.1.event ≡ false) }) (nothing_is_done means v);
+    does = does_none means hears v v from (Leads job.unit (own_refusal means job) stage.Over stage.Over) (λ h. record { rest = λ es r. r; spare = λ spared. All-nil (λ c. is_cut_fail c.1.event ≡ false) }) (nothing_is_done means v);
     job_at = has;
     spares = refl;
     cause = tt;
@@ -315,7 +315,7 @@ module _ {U N : Type 0} (means : U → Meaning) (hears : N → Option Outcome) (
   refused_steps has place kind value is from = record {
     does = does_none means hears v v from (Leads job.unit (own_refusal means job) stage.Emit (stage.Fail (why.Refused place kind value))) (λ h. record {
       rest = λ es r. subst (λ q. Rest job.unit q stage.Emit es) (sym is) (refused_edge_fails job.unit (place, kind, value) es r);
-      spare = λ spared. All-nil (λ c. is_memory_fail c.1.event ≡ false);
+      spare = λ spared. All-nil (λ c. is_cut_fail c.1.event ≡ false);
     }) (nothing_is_done means v);
     job_at = record {
       has = may_give_up (state (plain_history means v.seen)) v.number job.unit.0 stage.Emit (why.Refused place kind value) (λ e. cc) has.has;

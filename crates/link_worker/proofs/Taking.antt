@@ -38,7 +38,7 @@ use Rattle.materialization.specs.declared.stage.Stage.{Stage}
 use Rattle.materialization.specs.declared.stage.Stage.TheVariants as stage
 use Rattle.materialization.proofs.Beginning.{IsFinishing, finishing_after, job_begins}
 use Rattle.materialization.proofs.Leaving.{others_leave_has}
-use Rattle.link_worker.specs.Jobs.{IsHandedOut, IsJobAt, IsBoundTo, Knows, bound_in, is_memory_fail, unit_in, wants_memory}
+use Rattle.link_worker.specs.Jobs.{IsHandedOut, IsJobAt, IsBoundTo, Knows, bound_in, is_cut, is_cut_fail, unit_in}
 use Rattle.link_worker.specs.Units.{own_refusal}
 use Rattle.link_worker.specs.Does.{Does}
 use Rattle.link_worker.specs.Works.{HasFirst, IsFree, Opens}
@@ -67,7 +67,7 @@ first_same r true o = same_other r (is_some o)
 first_same r false o = refl
 
 -- no job begins with a fail for want of memory
-first_spares : (r : Reply) (a b : Bool) → wants_memory (first r a b) ≡ false
+first_spares : (r : Reply) (a b : Bool) → is_cut (first r a b) ≡ false
 first_spares (reply.Start u) true b = refl
 first_spares (reply.Start u) false true = refl
 first_spares (reply.Start u) false false = refl
@@ -220,7 +220,7 @@ module _ {U : Type 0} (means : U → Meaning) (jmax : ℕ) (v w : View (Entry U)
           is = job_of r job.unit k.unit;
         }
 
-    at_first : (u : UnitId) (taken : TakenUnit U) → unit_in r ≡ Some u → IsUnitOf means (state_of means w.seen) u taken → (job : Job U) (at : Stage) → IsHandedOut means r taken job at → IsJobAt means jmax w job at × (wants_memory at ≡ false)
+    at_first : (u : UnitId) (taken : TakenUnit U) → unit_in r ≡ Some u → IsUnitOf means (state_of means w.seen) u taken → (job : Job U) (at : Stage) → IsHandedOut means r taken job at → IsJobAt means jmax w job at × (is_cut at ≡ false)
     at_first u taken is its job at k =
         let handed = handed_out u taken is its job at k in
         let b = begins job.unit handed.is in
@@ -236,7 +236,7 @@ module _ {U : Type 0} (means : U → Meaning) (jmax : ℕ) (v w : View (Entry U)
             knows = subst (Knows means jmax w.seen w.number job) (sym first_is)
                 (first_knows means jmax w.seen w.number job (subst (IsLegal jmax) (sym whole) legal) handed.its (subst (λ (z : TakenUnit U). IsLawful (means z.share)) (sym k.its) k.lawful) r k.unit k.bound (finishes job.unit));
           },
-          ap wants_memory first_is ∙ first_spares r (is_some (means job.taken.share).source) (is_some ((means job.taken.share).shape job.taken.live)),
+          ap is_cut first_is ∙ first_spares r (is_some (means job.taken.share).source) (is_some ((means job.taken.share).shape job.taken.live)),
         )
 
     -- the pass has the job at its first stage
@@ -255,7 +255,7 @@ module _ {U : Type 0} (means : U → Meaning) (jmax : ℕ) (v w : View (Entry U)
             (rest_same r job.unit (own_refusal means job) (refusal_of (state (before ++ plain_entry means take_entry ∷ [])) job.unit) k.unit refused (is_some (means taken.share).source) (is_some ((means taken.share).shape taken.live)) (map (λ d. d.1) ds)
             (subst (λ z. Rest job.unit (own_refusal means job) z (map (λ d. d.1) ds)) k.first rest))))),
       );
-      spare = All-cons (λ c. is_memory_fail c.1.event ≡ false) (length before + 1, plain_entry means take_entry) [] refl (All-nil (λ c. is_memory_fail c.1.event ≡ false));
+      spare = All-cons (λ c. is_cut_fail c.1.event ≡ false) (length before + 1, plain_entry means take_entry) [] refl (All-nil (λ c. is_cut_fail c.1.event ≡ false));
     })
       where
         handed : Handed taken job at

@@ -36,16 +36,17 @@ use Rattle.materialization.specs.Stages.{stopped}
 use Rattle.materialization.specs.declared.stage.Stage.{Stage}
 use Rattle.materialization.specs.declared.stage.Stage.TheVariants as stage
 use Rattle.materialization.proofs.Leaving.{others_leave_has}
-use Rattle.seat_calls.specs.Did.{Nothing}
+use Rattle.seat_calls.specs.Did.{Nothing, Promise}
 use Rattle.seat_calls.proofs.Doing.{nothing_is_done}
 use Rattle.seat_calls.proofs.Numbers.{starts_again}
 use Rattle.link_worker.specs.Does.{Does}
-use Rattle.link_worker.specs.Jobs.{IsCause, LacksPlaces, Leads, SpareAll, Steps, is_memory_fail, unit_in, wants_memory}
+use Rattle.link_worker.specs.Jobs.{IsCause, LacksPlaces, Leads, SpareAll, Steps, is_cut, is_cut_fail, unit_in}
 use Rattle.link_worker.specs.Units.{own_refusal}
-use Rattle.link_worker.specs.Works.{Carries, EndsJob, HasBegun, HasWorked, IsFree, Jobs, None', OneMore, OneJob, OneJobAtMost, Opens, WasStopped, WorksOn, worked_by, worked_stopped}
+use Rattle.link_worker.specs.Works.{Carries, EndsJob, HasBegun, HasWorked, IsFree, Jobs, None', OneMore, OneJob, OneJobAtMost, Opens, WasStopped, WholeJobs, WorksOn, worked_by, worked_stopped}
 use Rattle.link_worker.specs.declared.job.Job.{Job}
 use Rattle.link_worker.specs.declared.work.Worked.{Worked}
 use Rattle.link_worker.specs.declared.work.Worked.TheVariants.{Did, Idle, JournalFull, NoMemory}
+use Rattle.link_worker.proofs.Sparing.{spare_both, spare_none}
 use Rattle.link_worker.proofs.Taking.{does_open, has_first}
 use Rattle.link_worker.proofs.Telling.{does_both, does_none}
 use Rattle.link_worker.proofs.Turning.{Found, TurnOf, found, seen_is, number_is, no_call}
@@ -59,12 +60,9 @@ calls_of cs = map (λ c. c.1) cs
 after_both : (P : List (Entry Meaning) → Type 0) (cs ds : List (ℕ × Entry Meaning)) (es : List (Entry Meaning)) → P (map (λ c. c.1) cs ++ (map (λ c. c.1) ds ++ es)) → P (map (λ c. c.1) (cs ++ ds) ++ es)
 after_both P cs ds es = subst P (sym (ap (λ l. l ++ es) (map-append (λ (c : ℕ × Entry Meaning). c.1) cs ds) ∙ append_assoc (map (λ c. c.1) cs) (map (λ c. c.1) ds) es))
 
-spare_both : (cs ds : List (ℕ × Entry Meaning)) → SpareAll cs → SpareAll ds → SpareAll (cs ++ ds)
-spare_both cs ds a b = All-append (λ c. is_memory_fail c.1.event ≡ false) cs ds a b
-
 -- Carrying on
 
-pub carries_on : (u : UnitId) (refusal : Option Refusal) (first at then' : Stage) (spared still : Bool) → (still ≡ true → (spared ≡ true) × (wants_memory at ≡ false)) → (h : List (Entry Meaning)) (cs ds : List (ℕ × Entry Meaning)) →
+pub carries_on : (u : UnitId) (refusal : Option Refusal) (first at then' : Stage) (spared still : Bool) → (still ≡ true → (spared ≡ true) × (is_cut at ≡ false)) → (h : List (Entry Meaning)) (cs ds : List (ℕ × Entry Meaning)) →
     Carries u refusal first at spared h cs → Leads u refusal at then' h ds → Carries u refusal first then' still h (cs ++ ds)
 carries_on u refusal first at then' spared still calm h cs ds a b = record {
   rest = λ es r. after_both (Rest u refusal first) cs ds es (a.rest (map (λ c. c.1) ds ++ es) (b.rest es r));
@@ -72,7 +70,7 @@ carries_on u refusal first at then' spared still calm h cs ds a b = record {
 }
 
 pub carries_none : (u : UnitId) (refusal : Option Refusal) (at : Stage) (spared : Bool) (h : List (Entry Meaning)) → Carries u refusal at at spared h []
-carries_none u refusal at spared h = record { rest = λ es r. r; spare = λ e. All-nil (λ c. is_memory_fail c.1.event ≡ false) }
+carries_none u refusal at spared h = record { rest = λ es r. r; spare = λ e. All-nil (λ c. is_cut_fail c.1.event ≡ false) }
 
 -- a job that was begun and carried to its end is one job
 one_job : (u : UnitId) (refusal : Option Refusal) (at : Stage) (spared : Bool) (h : List (Entry Meaning)) (cs ds : List (ℕ × Entry Meaning)) → Opens u refusal at h cs → Carries u refusal at stage.Over spared h ds → IsJob h (cs ++ ds) × (spared ≡ true → SpareAll (cs ++ ds))
@@ -199,7 +197,7 @@ module _ {U N : Type 0} (means : U → Meaning) (hears : N → Option Outcome) (
   abbrev Carried : View (Entry U) → List (Notice N) → Stage → Bool → Type 0
   Carried y l st spared = Does means hears v y a l (Carries job.unit (own_refusal means job) first st spared)
 
-  pub carried_on : (spared : Bool) (next : Stage) → Carried x b at spared → (spared ≡ true → wants_memory at ≡ false) → Steps means hears jmax x w b c job at (Ok next) → Carried w c next spared
+  pub carried_on : (spared : Bool) (next : Stage) → Carried x b at spared → (spared ≡ true → is_cut at ≡ false) → Steps means hears jmax x w b c job at (Ok next) → Carried w c next spared
   carried_on spared next so calm step = does_both means hears v x w a b c (Carries job.unit (own_refusal means job) first at spared) (Leads job.unit (own_refusal means job) at next) (Carries job.unit (own_refusal means job) first next spared)
       (λ h cs ds p q. carries_on job.unit (own_refusal means job) first at next spared spared (λ e. (e, calm e)) h cs ds p q) so step.does
 
@@ -214,23 +212,24 @@ stopped_still means jmax first before now (Some st) later was = stopped_until me
 
 -- One job after the other
 
-no_more : (h : List (Entry Meaning)) (cs ds : List (ℕ × Entry Meaning)) → Jobs h cs → ds ≡ [] → Jobs h (cs ++ ds)
-no_more h cs ds jobs none = subst (Jobs h) (sym (append-nil cs) ∙ ap (λ l. cs ++ l) (sym none)) jobs
+no_more : (P : Promise) (h : List (Entry Meaning)) (cs ds : List (ℕ × Entry Meaning)) → P h cs → ds ≡ [] → P h (cs ++ ds)
+no_more P h cs ds so none = subst (P h) (sym (append-nil cs) ∙ ap (λ l. cs ++ l) (sym none)) so
 
 one_at_most_more : (h : List (Entry Meaning)) (cs ds : List (ℕ × Entry Meaning)) → Jobs h cs → OneJobAtMost h ds → Jobs h (cs ++ ds)
-one_at_most_more h cs ds jobs (inl none) = no_more h cs ds jobs none
+one_at_most_more h cs ds jobs (inl none) = no_more Jobs h cs ds jobs none
 one_at_most_more h cs ds jobs (inr job) = OneMore cs ds jobs job
 
 module _ {U N : Type 0} (means : U → Meaning) (hears : N → Option Outcome) where
-  pub jobs_none : (v : View (Entry U)) (a : List (Notice N)) → Does means hears v v a a Jobs
-  jobs_none v a = does_none means hears v v a Jobs (λ h. None') (nothing_is_done means v)
+  pub jobs_none : (v : View (Entry U)) (a : List (Notice N)) → Does means hears v v a a WholeJobs
+  jobs_none v a = does_none means hears v v a WholeJobs (λ h. (None', spare_none)) (nothing_is_done means v)
 
-  module _ (v x w : View (Entry U)) (a b c : List (Notice N)) (so : Does means hears v x a b Jobs) where
-    pub jobs_more : Does means hears x w b c OneJob → Does means hears v w a c Jobs
-    jobs_more job = does_both means hears v x w a b c Jobs OneJob Jobs (λ h cs ds p q. OneMore cs ds p q.0) so job
+  module _ (v x w : View (Entry U)) (a b c : List (Notice N)) (so : Does means hears v x a b WholeJobs) where
+    pub jobs_more : Does means hears x w b c OneJob → Does means hears v w a c WholeJobs
+    jobs_more job = does_both means hears v x w a b c WholeJobs OneJob WholeJobs (λ h cs ds p q. (OneMore cs ds p.0 q.0, spare_both cs ds p.1 q.1)) so job
 
-    pub jobs_idle : Does means hears x w b c Nothing → Does means hears v w a c Jobs
-    jobs_idle none = does_both means hears v x w a b c Jobs Nothing Jobs no_more so none
+    pub jobs_idle : Does means hears x w b c Nothing → Does means hears v w a c WholeJobs
+    jobs_idle none = does_both means hears v x w a b c WholeJobs Nothing WholeJobs (no_more WholeJobs) so none
 
+    -- where a call was stopped, the job that it was of is one too
     pub jobs_cut : Does means hears x w b c OneJobAtMost → Does means hears v w a c Jobs
-    jobs_cut job = does_both means hears v x w a b c Jobs OneJobAtMost Jobs one_at_most_more so job
+    jobs_cut job = does_both means hears v x w a b c WholeJobs OneJobAtMost Jobs (λ h cs ds p q. one_at_most_more h cs ds p.0 q) so job

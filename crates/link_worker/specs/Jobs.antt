@@ -32,23 +32,25 @@ use Rattle.link_worker.specs.Does.{Does}
 use Rattle.link_worker.specs.Units.{own_refusal}
 use Rattle.link_worker.specs.declared.job.Job.{Job}
 
--- a fail for want of memory
-abbrev pub wants_memory : Stage → Bool
-wants_memory (stage.Fail why.NoMemory) = true
-wants_memory at = false
+-- a fail for want of memory or of places, which cuts a job: a call of it was stopped
+abbrev pub is_cut : Stage → Bool
+is_cut (stage.Fail why.NoMemory) = true
+is_cut (stage.Fail why.Full) = true
+is_cut at = false
 
-abbrev pub is_memory_fail : Event Meaning → Bool
-is_memory_fail (event.Fail u why.NoMemory) = true
-is_memory_fail e = false
+abbrev pub is_cut_fail : Event Meaning → Bool
+is_cut_fail (event.Fail u why.NoMemory) = true
+is_cut_fail (event.Fail u why.Full) = true
+is_cut_fail e = false
 
--- no call gives a unit up for want of memory
+-- none of the calls cuts a job
 abbrev pub SpareAll : List (ℕ × Entry Meaning) → Type 0
-SpareAll cs = All (λ c. is_memory_fail c.1.event ≡ false) cs
+SpareAll cs = All (λ c. is_cut_fail c.1.event ≡ false) cs
 
 -- Calls that bring a job from one stage to another: what the second begins comes after them in what the first begins.
 pub record Leads (u : UnitId) (refusal : Option Refusal) (at then' : Stage) (h : List (Entry Meaning)) (cs : List (ℕ × Entry Meaning)) : Type 0 where
   pub rest : (es : List (Entry Meaning)) → Rest u refusal then' es → Rest u refusal at (map (λ c. c.1) cs ++ es)
-  pub spare : wants_memory at ≡ false → SpareAll cs
+  pub spare : is_cut at ≡ false → SpareAll cs
 
 -- the stage after a call, which a stop ends
 abbrev pub after : Result Stage Stop → Stage
@@ -107,7 +109,7 @@ module _ {U : Type 0} (means : U → Meaning) where
   pub record Steps {N : Type 0} (heard : N → Option Outcome) (jmax : ℕ) (v w : View (Entry U)) (old new : List (Notice N)) (job : Job U) (at : Stage) (answer : Result Stage Stop) : Type 0 where
     pub does : Does means heard v w old new (Leads job.unit (own_refusal means job) at (after answer))
     pub job_at : IsJobAt jmax w job (after answer)
-    pub spares : IfOk answer (λ next. wants_memory next ≡ false)
+    pub spares : IfOk answer (λ next. is_cut next ≡ false)
     pub cause : IfErr answer (IsCause jmax w.seen)
 
 -- the unit of a job, and the bindings that come with it

@@ -23,6 +23,7 @@ use Rattle.notifiers.specs.declared.notice.Notice.{Notice}
 use Rattle.notifiers.specs.declared.notice.Unheard.{Unheard}
 use Rattle.turn_lock.specs.declared.view.View.{View}
 use Rattle.link_worker.specs.Does.{Does}
+use Rattle.link_worker.specs.Jobs.{SpareAll}
 use Rattle.link_worker.specs.Works.{WasStopped}
 use Rattle.link_worker.specs.declared.looking.LookEnd.{LookEnd}
 use Rattle.link_worker.specs.declared.looking.LookEnd.TheVariants.{Found, Failed, InError, Missing, NoDylib, JournalFull, NoMemory}
@@ -65,6 +66,7 @@ EndsAs NoMemory cs = ⊥
 pub record Asking (l : Lookup) (h : List (Entry Meaning)) (cs : List (ℕ × Entry Meaning)) : Type 0 where
   pub rest : (ds : List (ℕ × Entry Meaning)) → Looks h l ds → Looks h l (cs ++ ds)
   pub none : has_lodged cs ≡ false
+  pub spare : SpareAll cs
 
 -- Calls since call n, at which the query was there: jobs that were begun while it was open. At most k entries were seen since.
 pub record Waits (q : QueryId) (n k : ℕ) (h : List (Entry Meaning)) (cs : List (ℕ × Entry Meaning)) : Type 0 where
@@ -73,6 +75,7 @@ pub record Waits (q : QueryId) (n k : ℕ) (h : List (Entry Meaning)) (cs : List
   pub query : Query
   pub there : slice_get (state (take last h)).queries q.0 ≡ Some query
   pub rest : (ds : List (ℕ × Entry Meaning)) → Works h q last ds → Works h q n (cs ++ ds)
+  pub spare : SpareAll cs
 
 module _ {U : Type 0} (means : U → Meaning) where
   -- the pass has seen call n, after which the query is there
@@ -91,11 +94,11 @@ module _ {U : Type 0} (means : U → Meaning) where
   IsAsked v r = ⊥
 
   module _ {N : Type 0} (heard : N → Option Outcome) (jmax : ℕ) (v w : View (Entry U)) (old new : List (Notice N)) where
-    -- the calls since call n are jobs that were begun while the query was open, and its end; or they were stopped
+    -- the calls since call n are jobs that were begun while the query was open, none of which was cut, and its end; or they were stopped
     abbrev pub HasAwaited : QueryId → ℕ → LookEnd → Type 0
     HasAwaited q n (JournalFull len) = Does means heard v w old new (λ h cs. IsStopped (Works h q n) cs) × WasStopped means jmax v.seen w.seen (stop.JournalFull len)
     HasAwaited q n NoMemory = Does means heard v w old new (λ h cs. IsStopped (Works h q n) cs)
-    HasAwaited q n end = Does means heard v w old new (λ h cs. Works h q n cs × EndsAs end cs)
+    HasAwaited q n end = Does means heard v w old new (λ h cs. Works h q n cs × EndsAs end cs × SpareAll cs)
 
     -- what follows an ask that was answered so
     abbrev pub HasSettled : Reply → LookEnd → Type 0
@@ -106,11 +109,11 @@ module _ {U : Type 0} (means : U → Meaning) where
     HasSettled (reply.NoDylib d) end = (end ≡ NoDylib d) × (w ≡ v) × (new ≡ old)
     HasSettled r end = ⊥
 
-    -- The calls are those of a lookup, which ended so; or it was stopped. What is left of the notifier is it, unless a query was lodged.
+    -- The calls are those of a lookup, which ended so, and no job of it was cut; or it was stopped. What is left of the notifier is it, unless a query was lodged.
     abbrev pub HasLooked : Lookup → Option (Unheard N) → LookEnd → Option (Unheard N) → Type 0
     HasLooked l then' (JournalFull len) back = Does means heard v w old new (λ h cs. IsStopped (Looks h l) cs × (back ≡ left_of then' cs)) × WasStopped means jmax v.seen w.seen (stop.JournalFull len)
     HasLooked l then' NoMemory back = Does means heard v w old new (λ h cs. IsStopped (Looks h l) cs × (back ≡ left_of then' cs))
-    HasLooked l then' end back = Does means heard v w old new (λ h cs. Looks h l cs × EndsAs end cs × (back ≡ left_of then' cs))
+    HasLooked l then' end back = Does means heard v w old new (λ h cs. Looks h l cs × EndsAs end cs × (back ≡ left_of then' cs) × SpareAll cs)
 
 -- the end of a lookup, by the reply to its collect; none while its query is open
 abbrev pub end_in : Reply → Option LookEnd

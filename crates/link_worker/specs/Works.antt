@@ -18,13 +18,13 @@ use Rattle.materialization.specs.declared.stage.Stage.{Stage}
 use Rattle.materialization.specs.declared.stage.Stage.TheVariants as stage
 use Rattle.seat_calls.specs.Did.{Nothing, Promise}
 use Rattle.link_worker.specs.Does.{Does}
-use Rattle.link_worker.specs.Jobs.{IsCause, IsHandedOut, IsJobAt, SpareAll, unit_in, wants_memory}
+use Rattle.link_worker.specs.Jobs.{IsCause, IsHandedOut, IsJobAt, SpareAll, is_cut, unit_in}
 use Rattle.link_worker.specs.Units.{own_refusal}
 use Rattle.link_worker.specs.declared.job.Job.{Job}
 use Rattle.link_worker.specs.declared.work.Worked.{Worked}
 use Rattle.link_worker.specs.declared.work.Worked.TheVariants.{Did, Idle, JournalFull, NoMemory}
 
--- Calls that bring a job from one stage to another; where none was stopped, none gives the unit up for want of memory.
+-- Calls that bring a job from one stage to another; where none was stopped, none gives the unit up for want of memory or of places.
 pub record Carries (u : UnitId) (refusal : Option Refusal) (at then' : Stage) (spared : Bool) (h : List (Entry Meaning)) (cs : List (ℕ × Entry Meaning)) : Type 0 where
   pub rest : (es : List (Entry Meaning)) → Rest u refusal then' es → Rest u refusal at (map (λ c. c.1) cs ++ es)
   pub spare : spared ≡ true → SpareAll cs
@@ -34,7 +34,7 @@ pub record Opens (u : UnitId) (refusal : Option Refusal) (at : Stage) (h : List 
   pub job : (ds : List (ℕ × Entry Meaning)) → Rest u refusal at (map (λ d. d.1) ds) → IsJob h (cs ++ ds)
   pub spare : SpareAll cs
 
--- the calls of one job, none of which gives its unit up for want of memory
+-- the calls of one job, which wasn't cut
 abbrev pub OneJob : Promise
 OneJob h cs = IsJob h cs × SpareAll cs
 
@@ -46,6 +46,10 @@ OneJobAtMost h cs = (cs ≡ []) ⊎ IsJob h cs
 pub data Jobs (h : List (Entry Meaning)) : List (ℕ × Entry Meaning) → Type 0 where
   None' : Jobs h []
   OneMore : (before job : List (ℕ × Entry Meaning)) → Jobs h before → IsJob h job → Jobs h (before ++ job)
+
+-- those of jobs none of which was cut
+abbrev pub WholeJobs : Promise
+WholeJobs h cs = Jobs h cs × SpareAll cs
 
 -- what was done where a call was stopped, and by a job in which one was, or none
 abbrev pub worked_stopped : Stop → Worked
@@ -73,10 +77,10 @@ module _ {U : Type 0} (means : U → Meaning) where
     HasWorked (JournalFull len) = Does means heard v w old new OneJobAtMost × WasStopped jmax v.seen w.seen (stop.JournalFull len)
     HasWorked NoMemory = Does means heard v w old new OneJobAtMost
 
-    -- jobs were done, until the clients had ended or a call was stopped
+    -- jobs were done, until the clients had ended, and none was cut; or until a call was stopped
     abbrev pub HasAssisted : Worked → Type 0
     HasAssisted Did = ⊥
-    HasAssisted Idle = Does means heard v w old new Jobs
+    HasAssisted Idle = Does means heard v w old new WholeJobs
     HasAssisted (JournalFull len) = Does means heard v w old new Jobs × WasStopped jmax v.seen w.seen (stop.JournalFull len)
     HasAssisted NoMemory = Does means heard v w old new Jobs
 
@@ -84,7 +88,7 @@ module _ {U : Type 0} (means : U → Meaning) where
   pub record HasFirst (jmax : ℕ) (v : View (Entry U)) (reply : Reply) (taken : TakenUnit U) : Type 0 where
     pub job_is : is_some (unit_in reply) ≡ true
     pub flags : length taken.live ≡ length (means taken.share).offers
-    pub at_first : (job : Job U) (at : Stage) → IsHandedOut means reply taken job at → IsJobAt means jmax v job at × (wants_memory at ≡ false)
+    pub at_first : (job : Job U) (at : Stage) → IsHandedOut means reply taken job at → IsJobAt means jmax v job at × (is_cut at ≡ false)
 
   abbrev pub HasBegun : ℕ → View (Entry U) → Reply → Option (TakenUnit U) → Type 0
   HasBegun jmax v reply (Some taken) = HasFirst jmax v reply taken

@@ -4,7 +4,7 @@ ghost use Rattle.materialization.specs.Stages.{first};
 ghost use Rattle.materialization.specs.declared.stage.Stage.TheVariants as stage;
 ghost use Rattle.turn_lock.specs.Handles.{view, turn_id, IsReady};
 ghost use Rattle.link_worker.specs.Does.{Does};
-ghost use Rattle.link_worker.specs.Jobs.{IsHandedOut, IsJobAt, bound_in, unit_in, wants_memory};
+ghost use Rattle.link_worker.specs.Jobs.{IsHandedOut, IsJobAt, bound_in, is_cut, unit_in};
 ghost use Rattle.link_worker.specs.Units.{own_refusal};
 ghost use Rattle.link_worker.specs.Works.{Carries, HasBegun, HasWorked, IsFree, WasStopped, WorksOn, worked_by, worked_stopped};
 
@@ -127,7 +127,7 @@ impl<U: LinkedUnit> Job<U> {
     ) -> Option<Stop>
         requires ready { IsReady (turn_id shared.now) pass.old }
         requires at { IsJobAt U.meaning JMAX (view pass.old) self.now first }
-        requires spares { wants_memory first ≡ false }
+        requires spares { is_cut first ≡ false }
         ensures ready { IsReady (turn_id shared.now) pass.new }
         ensures free { IsFree U.meaning (view pass.new) }
         ensures carried { Does U.meaning N.heard (view pass.old) (view pass.new) fired.old fired.new (Carries self.now.unit (own_refusal U.meaning self.now) first stage.Over (is_none result)) }

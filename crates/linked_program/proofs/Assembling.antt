@@ -1,7 +1,8 @@
 -- What the seats of a run did, put together: the history is that of the run.
-use Rattle.std.proofs.Common.{◌≡◌, ℕ, zero, suc, ◌+◌, ◌<◌, ◌≤◌, ◌⊎◌, inl, inr, false, cond, eqb, List, [], ◌∷◌, ◌++◌, map, take, append-nil, refl, sym, ap, subst, ◌∙◌, arith, All, Option, Some, None, slice_get}
+use Rattle.std.proofs.Common.{◌≡◌, ℕ, zero, suc, ◌+◌, ◌<◌, ◌≤◌, ◌⊎◌, inl, inr, true, false, cond, eqb, List, [], ◌∷◌, ◌++◌, map, take, append-nil, refl, sym, ap, subst, ◌∙◌, arith, All, Option, Some, None, slice_get}
 use Rattle.std.specs.Prelude.{if◌then◌else◌, ◌==◌}
-use Rattle.std.proofs.lemmas.Bool.{cases_eq, cases_lt, ne_eqb}
+use Rattle.std.proofs.lemmas.Bool.{both_ways, cases_eq, cases_lt, ne_eqb}
+use Rattle.std.proofs.lemmas.List.Elements.{All-nil, All-weaker}
 use Rattle.orc_ids.specs.declared.ids.NameId.{NameId}
 use Rattle.orc_ids.specs.declared.lookup.Stop.{Stop}
 use Rattle.orc_ids.specs.declared.lookup.Stop.TheVariants as stop
@@ -14,17 +15,19 @@ use Rattle.session_model.specs.declared.entry.Event.{Event}
 use Rattle.session_model.specs.declared.entry.Event.TheVariants as event
 use Rattle.session_model.specs.declared.entry.Reply.{Reply}
 use Rattle.session_model.specs.declared.entry.Reply.TheVariants as reply
+use Rattle.session_model.specs.declared.entry.Why.TheVariants as why
 use Rattle.turn_lock.specs.declared.view.View.{View}
 use Rattle.turn_lock.specs.Told.{Shows}
 use Rattle.shared_session.specs.Home.{IsLawful, IsPosted, seat_of}
 use Rattle.seat_calls.specs.Did.{Did, Promise}
 use Rattle.seat_calls.proofs.Numbers.{starts_again}
 use Rattle.link_worker.specs.Does.{PlacesLowest}
+use Rattle.link_worker.specs.Jobs.{SpareAll, is_cut_fail}
 use Rattle.link_worker.specs.Looks.{LastIs}
 use Rattle.link_worker.specs.declared.looking.LookEnd.{LookEnd}
 use Rattle.link_worker.specs.declared.looking.LookEnd.TheVariants as look
 use Rattle.program_names.specs.Programs.{setup_events}
-use Rattle.run_laws.specs.Ended.{Ended, InDefinition, InSetUp, InLookup, NotThere, NotReady, IsReady, IsRefusedAt, IsRun}
+use Rattle.run_laws.specs.Ended.{Ended, InDefinition, InSetUp, InLookup, NotThere, NotReady, IsReady, IsRefusedAt, IsRun, NoneIsCut, is_cut, is_whole}
 use Rattle.run_laws.specs.Laws.{EndsLookup}
 use Rattle.run_laws.specs.Runs.{AreJobs, IsRunBy, IsSetUp, NoJob, lookup_of}
 use Rattle.run_laws.specs.declared.linked.Linked.{Linked}
@@ -46,6 +49,16 @@ use Rattle.seat_work.proofs.FirstSeat.{saw_all}
 use Rattle.seat_work.proofs.Whole.{IsWhole, PlacesNothing, alone, are_jobs, cause_in, none_of_rest, whole}
 use Rattle.link_worker.proofs.Telling.{is_placing}
 use Rattle.std.proofs.lemmas.Option.{none-some, same_Some}
+
+-- what cuts no job of a seat cuts none of the run
+uncut : (v : Event Meaning) → is_cut_fail v ≡ false → is_cut v ≡ false
+uncut (event.Fail u why.NoMemory) e = e
+uncut (event.Fail u why.Full) e = e
+uncut (event.Fail u _) e = refl
+uncut _ e = refl
+
+none_is_cut : (cs : List (ℕ × Entry Meaning)) → SpareAll cs → NoneIsCut cs
+none_is_cut cs a = All-weaker (λ (c : ℕ × Entry Meaning). is_cut_fail c.1.event ≡ false) (λ (c : ℕ × Entry Meaning). is_cut c.1.event ≡ false) (λ c. uncut c.1.event) cs a
 
 -- no event of a set-up places a unit
 not_placing : (main : NameId) (units : List Meaning) (k : ℕ) (e : Event Meaning) → slice_get (setup_events main units) k ≡ Some e → is_placing e ≡ false
@@ -81,8 +94,8 @@ taken_there (suc n) (suc k) (y ∷ ys) x there = taken_there n k ys x there
 module _ {U : Type 0} (means : U → Meaning) (jmax workers : ℕ) (main entry : NameId) (units : List Meaning) where
   -- a whole history, in which the workers did jobs, and which ended so
   run_of : (log : List (Entry U)) (setup later : List (Entry Meaning)) → IsWhole means jmax (workers + 2) log setup later → ((s : ℕ) → 1 < s → AreJobs (plain_history means log) (numbered_calls s 1 (plain_history means log))) → (end : Linked) →
-      Ended jmax main entry units (plain_history means log) setup later end → IsRun jmax workers main entry units (plain_history means log) end
-  run_of log setup later w jobs end ended = record {
+      Ended jmax main entry units (plain_history means log) setup later end → (is_whole end ≡ true → NoneIsCut (numbered_calls 1 1 (plain_history means log))) → IsRun jmax workers main entry units (plain_history means log) end
+  run_of log setup later w jobs end ended none = record {
     legal = w.legal;
     places = w.places;
     lowest = w.lowest;
@@ -93,6 +106,7 @@ module _ {U : Type 0} (means : U → Meaning) (jmax workers : ℕ) (main entry :
     later_seats = λ k d lt. let b = w.later_seats k d lt in (b.0, omega (arith, b.1));
     workers_do = jobs;
     ended = ended;
+    uncut = none;
   }
 
   -- where only the first seat came
@@ -101,6 +115,7 @@ module _ {U : Type 0} (means : U → Meaning) (jmax workers : ℕ) (main entry :
       Ended jmax main entry units (plain_history means log) (plain_history means v.seen) [] end → IsRun jmax workers main entry units (plain_history means log) end
   alone_run v log f s sets end ended = run_of log (plain_history means v.seen) [] (alone means jmax (workers + 2) v log (omega arith) f s (set_up_still main units (plain_history means v.seen) sets))
       (λ n more. subst (AreJobs (plain_history means log)) (sym (none_of_rest means jmax v log n (omega (arith, more)) f s)) NoJob) end ended
+      (λ went. subst NoneIsCut (sym (none_of_rest means jmax v log 1 (omega arith) f s)) (All-nil (λ (c : ℕ × Entry Meaning). is_cut c.1.event ≡ false)))
 
   -- The definition of a unit was refused, or the set-up was stopped.
 
@@ -178,6 +193,32 @@ module _ {U : Type 0} (means : U → Meaning) (jmax workers : ℕ) (main entry :
         by_end (look.NoDylib d) (Some memory) none = absurd none
         by_end (look.JournalFull len) (Some memory) none = absurd none
         by_end look.NoMemory (Some memory) none = absurd none
+
+    -- and unless it was stopped, none of its jobs was cut
+    client_uncut : (l : Linked) → ConcludesEnd c.end c.memory l → is_whole l ≡ true → NoneIsCut (numbered_calls 1 1 h)
+    client_uncut l = by_end c.end c.memory client.served
+      where
+        ended : (end : LookEnd) → Did means client.before client.after (Ends entry end) → NoneIsCut (numbered_calls 1 1 h)
+        ended end did = let m = client_made (Ends entry end) did in subst NoneIsCut (sym m.calls) (none_is_cut m.made m.holds.3)
+
+        stopped : (st : Stop) → l ≡ linked.Stopped st → is_whole l ≡ true → NoneIsCut (numbered_calls 1 1 h)
+        stopped st is went = absurd (both_ways (is_whole l) (ap is_whole is) went)
+
+        by_end : (end : LookEnd) (memory : Option (List Segment)) → IsClient means jmax entry client.before client.after end memory → ConcludesEnd end memory l → is_whole l ≡ true → NoneIsCut (numbered_calls 1 1 h)
+        by_end (look.Found matches) (Some memory) did is went = let m = client_made (Copies entry (look.Found matches) memory) did in subst NoneIsCut (sym m.calls) (none_is_cut m.made m.holds.spare)
+        by_end (look.Found matches) None none is went = absurd none
+        by_end (look.Failed i) None did is went = ended (look.Failed i) did
+        by_end (look.InError i) None did is went = absurd is
+        by_end (look.Missing name) None did is went = ended (look.Missing name) did
+        by_end (look.NoDylib d) None did is went = absurd is
+        by_end (look.JournalFull len) None did is went = stopped (stop.JournalFull len) is went
+        by_end look.NoMemory None did is went = stopped stop.NoMemory is went
+        by_end (look.Failed i) (Some memory) none is went = absurd none
+        by_end (look.InError i) (Some memory) none is went = absurd none
+        by_end (look.Missing name) (Some memory) none is went = absurd none
+        by_end (look.NoDylib d) (Some memory) none is went = absurd none
+        by_end (look.JournalFull len) (Some memory) none is went = absurd none
+        by_end look.NoMemory (Some memory) none is went = absurd none
 
     all_lowest : (n : ℕ) → 0 < n → n < workers + 2 → PlacesLowest h (numbered_calls n 1 h)
     all_lowest n some few = by_seat (cases_eq n 1)
@@ -266,7 +307,7 @@ module _ {U : Type 0} (means : U → Meaning) (jmax workers : ℕ) (main entry :
       client_run : IsRunOf means jmax workers main entry units log (outcome.Client c)
       client_run =
           let e = client_ended c.end c.memory client.served in
-          (e.0, λ l is. run_of log (plain_history means v.seen) (plain_history means rest) all_of_it workers_jobs l (e.1 l is))
+          (e.0, λ l is. run_of log (plain_history means v.seen) (plain_history means rest) all_of_it workers_jobs l (e.1 l is) (client_uncut l is))
 
   pub worked_run : (v z : View (Entry U)) (log : List (Entry U)) (c : ClientEnd) → All (λ (u : Meaning). u.source ≡ None) units → HasSetUp means jmax main units v set_up.Done → v.seats ≡ workers + 2 → Shows seat_of (IsLawful means jmax) (IsPosted means) log z →
       MembersWorked means jmax workers entry v log c → IsRunOf means jmax workers main entry units log (outcome.Client c)

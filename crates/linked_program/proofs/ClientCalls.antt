@@ -24,6 +24,8 @@ use Rattle.link_worker.specs.Does.{Does, PlacesLowest, ToldAt}
 use Rattle.link_worker.specs.Looks.{EndsAs, HasLooked, end_stopped, left_of}
 use Rattle.link_worker.specs.declared.looking.LookEnd.{LookEnd}
 use Rattle.link_worker.specs.declared.looking.LookEnd.TheVariants as end
+use Rattle.link_worker.specs.Jobs.{SpareAll, is_cut_fail}
+use Rattle.link_worker.proofs.Sparing.{spare_both, spare_one}
 use Rattle.link_worker.proofs.Telling.{is_placing, places_nothing}
 use Rattle.link_worker.proofs.Working.{stopped_since}
 use Rattle.run_laws.specs.Runs.{lookup_of}
@@ -33,9 +35,9 @@ use Rattle.seat_work.specs.Copies.{CopiesAt, IsStoppedAt, OneCopy}
 module _ {U N : Type 0} (means : U → Meaning) (heard : N → Option Outcome) (jmax : ℕ) (v w : View (Entry U)) (old new : List (Notice N)) where
   -- what a lookup of the entry came to, whoever was told
   module _ (entry : NameId) (then' back : Option (Unheard N)) where
-    found_end : (e : LookEnd) → Does means heard v w old new (λ h cs. Looks h (lookup_of entry) cs × EndsAs e cs × (back ≡ left_of then' cs)) → Did means v w (Ends entry e)
-    found_end e does = less_is_done means v w (λ h cs. (Looks h (lookup_of entry) cs × EndsAs e cs × (back ≡ left_of then' cs)) × ToldAt h cs does.told × PlacesLowest h cs) (Ends entry e)
-        (λ h cs k. (k.0.0, k.0.1, k.2)) does.did
+    found_end : (e : LookEnd) → Does means heard v w old new (λ h cs. Looks h (lookup_of entry) cs × EndsAs e cs × (back ≡ left_of then' cs) × SpareAll cs) → Did means v w (Ends entry e)
+    found_end e does = less_is_done means v w (λ h cs. (Looks h (lookup_of entry) cs × EndsAs e cs × (back ≡ left_of then' cs) × SpareAll cs) × ToldAt h cs does.told × PlacesLowest h cs) (Ends entry e)
+        (λ h cs k. (k.0.0, k.0.1, k.2, k.0.3)) does.did
 
     stopped_end : Does means heard v w old new (λ h cs. IsStopped (Looks h (lookup_of entry)) cs × (back ≡ left_of then' cs)) → Did means v w (Begins entry)
     stopped_end does = less_is_done means v w (λ h cs. (IsStopped (Looks h (lookup_of entry)) cs × (back ≡ left_of then' cs)) × ToldAt h cs does.told × PlacesLowest h cs) (Begins entry)
@@ -86,6 +88,7 @@ module _ {U : Type 0} (means : U → Meaning) (jmax : ℕ) (entry : NameId) (v x
         has = copy.4;
         lowest = subst (PlacesLowest h) (sym are) (All-append (Lowest h) t.0 ((copy.0, copy.1) ∷ []) t.3.2
             (All-cons (Lowest h) (copy.0, copy.1) [] (places_nothing (state (take (copy.0 - 1) h)) copy.1.event copy.1.reply (subst (λ f. is_placing f ≡ false) (sym copy.3) refl)) (All-nil (Lowest h))));
+        spare = subst SpareAll (sym are) (spare_both t.0 ((copy.0, copy.1) ∷ []) t.3.3 (spare_one copy.0 copy.1 (ap is_cut_fail copy.3)));
       }
 
   pub looked_and_copied : (image : List Segment) → CopiesAt means x w image → Did means v w (Copies entry (end.Found m) image)

@@ -12,6 +12,7 @@ use Rattle.execution_session.specs.Handed.{IsMemory}
 use Rattle.turn_lock.specs.declared.view.View.{View}
 use Rattle.seat_calls.specs.Did.{Did, Promise}
 use Rattle.link_worker.specs.Does.{PlacesLowest}
+use Rattle.link_worker.specs.Jobs.{SpareAll}
 use Rattle.link_worker.specs.Looks.{EndsAs}
 use Rattle.link_worker.specs.Works.{WasStopped}
 use Rattle.link_worker.specs.declared.looking.LookEnd.{LookEnd}
@@ -19,9 +20,9 @@ use Rattle.link_worker.specs.declared.looking.LookEnd.TheVariants.{Found, Journa
 use Rattle.run_laws.specs.Runs.{lookup_of}
 use Rattle.linked_program.specs.declared.client.ClientEnd.{ClientEnd}
 
--- the calls of a lookup of the entry, which ended so; or the beginning of them
+-- the calls of a lookup of the entry, which ended so, and no job of which was cut; or the beginning of them
 abbrev pub Ends : NameId → LookEnd → Promise
-Ends entry end h cs = Looks h (lookup_of entry) cs × EndsAs end cs × PlacesLowest h cs
+Ends entry end h cs = Looks h (lookup_of entry) cs × EndsAs end cs × PlacesLowest h cs × SpareAll cs
 
 abbrev pub Begins : NameId → Promise
 Begins entry h cs = IsStopped (Looks h (lookup_of entry)) cs × PlacesLowest h cs
@@ -37,6 +38,7 @@ pub record Copies (entry : NameId) (end : LookEnd) (memory : List Segment) (h : 
   pub copies : copy.event ≡ event.Image
   pub has : IsMemory (state (take number h)) memory
   pub lowest : PlacesLowest h cs
+  pub spare : SpareAll cs
 
 -- the matches of a lookup that was found, or how else it ended
 abbrev pub found_in : LookEnd → Result Bindings LookEnd

@@ -22,6 +22,7 @@ use Rattle.notice_laws.specs.Laws.{EndedAreTold, IsAmong, TellsNote, ToldHaveEnd
 use Rattle.notice_laws.specs.Notes.{NoteEnded}
 use Rattle.notice_laws.proofs.Prefixes.{settles_there}
 use Rattle.notice_laws.proofs.Telling.{IsOne, ended_told, one_after, one_before, told_ended}
+use Rattle.closure_laws.proofs.LevelsStaying.{row_below}
 
 module _ {N : Type 0} where
   all_told : (h : List (Entry Meaning)) (cs : List (ℕ × Entry Meaning)) (told : List (Notice N)) → ToldAt h cs told → All (λ f. NoteEnded h f.note f.outcome) told
@@ -83,11 +84,6 @@ front_pushed (f ∷ fs) (suc n) e t = ap (λ k. take k (f ∷ fs)) next ∙ ap (
     next : suc n + 1 ≡ suc (n + 1)
     next = omega arith
 
-some_below : {X : Type 0} (xs : List X) (k : ℕ) → k < length xs → (x : X) × (slice_get xs k ≡ Some x)
-some_below [] k lt = absurd (omega (arith, lt))
-some_below (x ∷ xs) zero lt = (x, refl)
-some_below (x ∷ xs) (suc k) lt = some_below xs k (omega (arith, lt))
-
 -- an event at whose entry a query settles is one that may settle queries
 may_have : (jmax : ℕ) (h : List (Entry Meaning)) (n k : ℕ) (e : Entry Meaning) → IsLegal jmax h → slice_get h n ≡ Some e → SettlesNow (take (n + 1) h) k → may_settle e.event ≡ true
 may_have jmax h n k e legal there settles = by (cases_Bool (may_settle e.event))
@@ -109,7 +105,7 @@ tells_at N jmax h note outcome legal e n at = record {
 }
   where
     x : (y : Entry Meaning) × (slice_get h n ≡ Some y)
-    x = some_below h n (omega (arith, at, e.ended.settles.here))
+    x = row_below h n (omega (arith, at, e.ended.settles.here))
 
     tells : (told : List (Notice N)) → ToldAt h (numbered_calls x.0.seat.0 1 h) told → IsAmong note outcome told
     tells told whole =

@@ -18,11 +18,11 @@ use Rattle.session_model.specs.declared.entry.Reply.{Reply}
 use Rattle.session_model.specs.declared.entry.Reply.TheVariants as reply
 use Rattle.session_laws.proofs.Elements.{element_below}
 use Rattle.program_names.specs.Programs.{setup_events}
-use Rattle.run_laws.specs.Ended.{Ended, IsRefusedAt, IsRun, client_calls}
+use Rattle.run_laws.specs.Ended.{Ended, IsRefusedAt, IsRun, client_calls, is_whole}
 use Rattle.run_laws.specs.declared.linked.Linked.{Linked}
 use Rattle.run_laws.specs.declared.linked.Linked.TheVariants as linked
 use Rattle.run_laws.proofs.Seats.{call_stands, calls_past, legal_at, never_empty, same_head, same_last, same_tail}
-use Rattle.one_history.specs.Beginnings.{EndAlike, is_whole}
+use Rattle.one_history.specs.Beginnings.{EndAlike}
 use Rattle.one_history.proofs.Runs.{events_count}
 
 -- Lists

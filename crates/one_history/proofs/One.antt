@@ -1,6 +1,6 @@
 -- Without workers, a run has one history.
 use Rattle.std.proofs.Common.{◌≡◌, ℕ, zero, suc, ◌+◌, ◌<◌, ◌≤◌, Bool, true, false, MatchBool, List, [], ◌∷◌, ◌++◌, length, map, take, drop, slice_get, ◌⊎◌, inl, inr, refl, sym, ap, ◌∙◌, subst, arith, append_assoc, append-nil, Some, le_refl}
-use Rattle.std.proofs.lemmas.Bool.{both_ways, cases_lt}
+use Rattle.std.proofs.lemmas.Bool.{both_ways, cases_Bool, cases_lt}
 use Rattle.std.proofs.lemmas.List.{length-append, map-append, nil_from_length, take-append-drop}
 use Rattle.std.proofs.lemmas.List.Elements.{recursion_from_All}
 use Rattle.std.proofs.lemmas.Option.{same_Some}
@@ -14,17 +14,17 @@ use Rattle.session_model.specs.declared.entry.Event.TheVariants as event
 use Rattle.session_model.specs.declared.entry.Reply.TheVariants as reply
 use Rattle.session_laws.proofs.Elements.{mapped_some}
 use Rattle.program_names.specs.Programs.{first_dylib, first_tracker, is_done, setup_events}
-use Rattle.run_laws.specs.Ended.{Ended, IsRefusedAt, IsRun, IsSetUpTo, client_calls}
+use Rattle.run_laws.specs.Ended.{Ended, IsRefusedAt, IsRun, IsSetUpTo, client_calls, is_whole}
 use Rattle.run_laws.specs.Runs.{IsSetUp, lookup_of}
 use Rattle.run_laws.specs.declared.linked.Linked.{Linked}
 use Rattle.run_laws.specs.declared.linked.Linked.TheVariants as linked
 use Rattle.run_laws.proofs.Seats.{same_head, same_tail}
-use Rattle.one_history.specs.Beginnings.{AreOne, EdgesAreTold, EndAlike, IsBeginning, IsSpared, is_whole}
-use Rattle.one_history.specs.Laws.{OneHistory}
+use Rattle.one_history.specs.Beginnings.{AreOne, EdgesAreTold, EndAlike, IsBeginning, IsSpared, StopsClean}
+use Rattle.one_history.specs.Laws.{OneHistory, WholeRunsAreOne}
 use Rattle.one_history.proofs.Ends.{ends_alike}
 use Rattle.one_history.proofs.Fronts.{Same, left}
 use Rattle.one_history.proofs.Lookups.{Stands, entries, stands_front}
-use Rattle.one_history.proofs.Runs.{client_is, events_count, goes, later_is, one_seat, stands_numbered, turn}
+use Rattle.one_history.proofs.Runs.{client_is, edges_are_told, events_count, goes, is_spared, later_is, one_seat, stands_numbered, turn}
 use Rattle.one_history.proofs.Sets.{Client, IsCopy, Sets, clients, ends_found, is_found, sets}
 
 -- Lists
@@ -248,16 +248,34 @@ module _ (jmax : ℕ) (main entry : NameId) (units : List Meaning) (h g : List (
 itself : {X : Type 0} (h g : List X) → h ≡ g → IsBeginning g h
 itself h g e = ([], e ∙ sym (append-nil g))
 
-pub one_history : OneHistory
-one_history jmax main entry units h g h_end g_end h_run g_run h_spared g_spared h_told g_told = split (cases_lt (length g) (length h))
+-- a run that wasn't stopped needs no word
+clean : (jmax : ℕ) (main entry : NameId) (units : List Meaning) (h : List (Entry Meaning)) (end : Linked) → IsRun jmax 0 main entry units h end → StopsClean end h → IsSpared h × EdgesAreTold h
+clean jmax main entry units h end run stops = by_end (cases_Bool (is_whole end))
   where
+    by_end : (is_whole end ≡ true) ⊎ (is_whole end ≡ false) → IsSpared h × EdgesAreTold h
+    by_end (inl went) = (is_spared jmax main entry units h end run went, edges_are_told jmax main entry units h end run went)
+    by_end (inr stopped) = stops stopped
+
+pub one_history : OneHistory
+one_history jmax main entry units h g h_end g_end h_run g_run h_stops g_stops = split (cases_lt (length g) (length h))
+  where
+    h_clean : IsSpared h × EdgesAreTold h
+    h_clean = clean jmax main entry units h h_end h_run h_stops
+
+    g_clean : IsSpared g × EdgesAreTold g
+    g_clean = clean jmax main entry units g g_end g_run g_stops
+
     both : h ≡ g → is_whole h_end ≡ true → is_whole g_end ≡ true → (h ≡ g) × EndAlike h_end g_end
     both e w v = (e, ends_alike jmax main entry units h g h_end g_end h_run g_run e w v)
 
     split : (length g < length h) ⊎ (length h ≤ length g) → AreOne h g h_end g_end
     split (inl b) =
-        let p = shorter jmax main entry units g h g_end h_end g_run h_run g_spared h_spared g_told h_told (omega (arith, b)) in
+        let p = shorter jmax main entry units g h g_end h_end g_run h_run g_clean.0 h_clean.0 g_clean.1 h_clean.1 (omega (arith, b)) in
         record { begins = inr p.0; first_whole = λ w. p.0; second_whole = λ w. itself g h (p.1 w); both_whole = λ w v. both (sym (p.1 v)) w v }
     split (inr b) =
-        let p = shorter jmax main entry units h g h_end g_end h_run g_run h_spared g_spared h_told g_told b in
+        let p = shorter jmax main entry units h g h_end g_end h_run g_run h_clean.0 g_clean.0 h_clean.1 g_clean.1 b in
         record { begins = inl p.0; first_whole = λ w. itself h g (p.1 w); second_whole = λ w. p.0; both_whole = λ w v. both (p.1 w) w v }
+
+pub whole_runs_are_one : WholeRunsAreOne
+whole_runs_are_one jmax main entry units h g h_end g_end h_run g_run w v = (one_history jmax main entry units h g h_end g_end h_run g_run
+    (λ stopped. absurd (both_ways (is_whole h_end) stopped w)) (λ stopped. absurd (both_ways (is_whole g_end) stopped v))).both_whole w v

@@ -137,5 +137,5 @@ module _ (jmax : ℕ) (main entry : NameId) (units : List Meaning) (h : List (En
           )
 
 pub one_history_with_places : OneHistoryWithPlaces
-one_history_with_places jmax main entry units h g h_end g_end plain long h_run g_run h_spared g_spared = one_history jmax main entry units h g h_end g_end h_run g_run h_spared g_spared
-    (told jmax main entry units h h_end plain h_run long) (told jmax main entry units g g_end plain g_run long)
+one_history_with_places jmax main entry units h g h_end g_end plain long h_run g_run h_spared g_spared = one_history jmax main entry units h g h_end g_end h_run g_run
+    (λ stopped. (h_spared stopped, told jmax main entry units h h_end plain h_run long)) (λ stopped. (g_spared stopped, told jmax main entry units g g_end plain g_run long))

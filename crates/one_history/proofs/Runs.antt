@@ -28,7 +28,7 @@ use Rattle.session_laws.proofs.Guards.{call_cases}
 use Rattle.session_laws.proofs.Readying.{legal_rest}
 use Rattle.closure_laws.proofs.Histories.{OneMore}
 use Rattle.program_names.specs.Programs.{first_dylib, first_tracker, setup_events}
-use Rattle.run_laws.specs.Ended.{Ended, IsRefusedAt, IsRun, client_calls}
+use Rattle.run_laws.specs.Ended.{Ended, IsRefusedAt, IsRun, client_calls, is_cut, is_whole}
 use Rattle.run_laws.specs.Runs.{IsSetUp, lookup_of}
 use Rattle.run_laws.specs.declared.linked.Linked.{Linked}
 use Rattle.run_laws.proofs.Calm.{IsCall, IsUnoffered, Unoffered, is_call, is_offer, never_offered}
@@ -96,6 +96,13 @@ IsHarmless e = is_removal e.event ≡ false
 set_harmless : (v : Event Meaning) → is_setting v ≡ true → is_removal v ≡ false
 set_harmless (event.Remove t) e = absurd (both_ways false refl e)
 set_harmless _ e = refl
+
+abbrev IsUncut : Entry Meaning → Type 0
+IsUncut e = is_cut e.event ≡ false
+
+set_uncut : (v : Event Meaning) → is_setting v ≡ true → is_cut v ≡ false
+set_uncut (event.Fail u w) e = absurd (both_ways false refl e)
+set_uncut _ e = refl
 
 -- a take is no event of a set-up
 pub not_setting : {P : Type 0} (e : Entry Meaning) → IsSetting e → e.event ≡ event.Take → P
@@ -230,6 +237,21 @@ module _ (jmax : ℕ) (main entry : NameId) (units : List Meaning) (h : List (En
   harmless : AllByRecursion IsHarmless h
   harmless = subst (AllByRecursion IsHarmless) (sym run.parts) (each_joined IsHarmless run.setup run.later
       (each_weaker IsSetting IsHarmless (λ e. set_harmless e.event) run.setup parts.set) (each_weaker IsCall IsHarmless (λ e. call_harmless e.event) run.later parts.calls))
+
+  -- A run that wasn't stopped
+
+  module _ (went : is_whole end ≡ true) where
+    calls_uncut : AllByRecursion IsUncut run.later
+    calls_uncut = subst (AllByRecursion IsUncut) later_is (each_entries IsUncut (client_calls h) (recursion_from_All (λ (c : ℕ × Entry Meaning). is_cut c.1.event ≡ false) (client_calls h) (run.uncut went)))
+
+    all_uncut : AllByRecursion IsUncut h
+    all_uncut = subst (AllByRecursion IsUncut) (sym run.parts) (each_joined IsUncut run.setup run.later (each_weaker IsSetting IsUncut (λ e. set_uncut e.event) run.setup parts.set) calls_uncut)
+
+    pub is_spared : IsSpared h
+    is_spared n e u t v = both_ways (is_cut e.event) (each_at IsUncut h n e all_uncut t) (ap is_cut v)
+
+    pub edges_are_told : EdgesAreTold h
+    edges_are_told n k t e u bound below there_t there takes is v r = absurd (both_ways (is_cut e.event) (each_at IsUncut h k e all_uncut there) (ap is_cut v))
 
   -- Where an entry stands
 

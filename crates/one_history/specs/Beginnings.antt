@@ -1,5 +1,5 @@
 -- Two histories of one run, of which one is a beginning of the other.
-use Rattle.std.specs.Prelude.{◌≡◌, ℕ, ◌+◌, ◌<◌, ◌⊎◌, ⊤, Bool, true, false, List, ◌++◌, take, slice_get, Some, None}
+use Rattle.std.specs.Prelude.{◌≡◌, ℕ, ◌+◌, ◌<◌, ◌⊎◌, ⊤, true, false, List, ◌++◌, take, slice_get, Some, None}
 use Rattle.orc_ids.specs.declared.ids.UnitId.{UnitId}
 use Rattle.code_memory.specs.Mapped.{byte_at}
 use Rattle.session_model.specs.Calls.{refusal_of}
@@ -10,8 +10,9 @@ use Rattle.session_model.specs.declared.entry.Event.TheVariants as event
 use Rattle.session_model.specs.declared.entry.Finishing.TheVariants.{Bound}
 use Rattle.session_model.specs.declared.entry.Reply.TheVariants as reply
 use Rattle.session_model.specs.declared.entry.Why.TheVariants as why
+use Rattle.run_laws.specs.Ended.{is_whole}
 use Rattle.run_laws.specs.declared.linked.Linked.{Linked}
-use Rattle.run_laws.specs.declared.linked.Linked.TheVariants.{Found, Missing, Failed, Refused, Stopped}
+use Rattle.run_laws.specs.declared.linked.Linked.TheVariants.{Found, Missing, Failed, Refused}
 
 -- no unit is given up for want of memory
 abbrev pub IsSpared : List (Entry Meaning) → Type 0
@@ -22,14 +23,13 @@ abbrev pub EdgesAreTold : List (Entry Meaning) → Type 0
 EdgesAreTold h = (n k : ℕ) (taken e : Entry Meaning) (u : UnitId) (bound : Bindings) → n < k → slice_get h n ≡ Some taken → slice_get h k ≡ Some e →
     taken.event ≡ event.Take → taken.reply ≡ reply.Finish u (Bound bound) → e.event ≡ event.Fail u why.Full → e.reply ≡ reply.Failed → refusal_of (state (take (n + 1) h)) u ≡ None
 
+-- A run that was stopped gave no unit up for want of memory, and told each edge. One that wasn't gave none up for either cause.
+abbrev pub StopsClean : Linked → List (Entry Meaning) → Type 0
+StopsClean end h = is_whole end ≡ false → IsSpared h × EdgesAreTold h
+
 -- what the second list begins with
 abbrev pub IsBeginning : {X : Type 0} → List X → List X → Type 0
 IsBeginning {X} front whole = (more : List X) × (whole ≡ front ++ more)
-
--- the run wasn't stopped
-abbrev pub is_whole : Linked → Bool
-is_whole (Stopped st) = false
-is_whole end = true
 
 -- The runs ended alike: with the same address and the same memory, for the same instance, at the same unit, or both without the entry.
 abbrev pub EndAlike : Linked → Linked → Type 0

@@ -7,9 +7,10 @@ use Rattle.session_model.specs.declared.entry.Entry.{Entry}
 use Rattle.exec_run.specs.Run.{RunsTo, start}
 use Rattle.exec_run.proofs.Runs.{runs_same}
 use Rattle.command_line.specs.Words.{Request}
+use Rattle.run_laws.specs.Ended.{is_whole}
 use Rattle.run_laws.specs.declared.linked.Linked.{Linked}
 use Rattle.run_laws.specs.declared.linked.Linked.TheVariants as linked
-use Rattle.one_history.specs.Beginnings.{EndAlike, is_whole}
+use Rattle.one_history.specs.Beginnings.{EndAlike}
 use Rattle.answers.specs.declared.answer.Answer.{Answer}
 use Rattle.answers.specs.declared.answer.Answer.TheVariants.{JournalFull, Missing, DefineRefused}
 use Rattle.run_answers.specs.Lost.{lost_answer}

@@ -2,10 +2,9 @@
 //!
 //! The law is the contract of a function with an empty body; there is no code here. It speaks of what a call
 //! of the program promises, `run_answers::OfSession`, and says what is then the same in two of them. Of its
-//! premises (`specs/Alike`) the words and the files give the first ones; that the journal is long and isn't full
-//! is so of `orc`, by its clause `never_full` and since words name 1,024 files at most. That no unit is given up
-//! for want of memory isn't promised beside the answer, and the log shows it. That the names of two sessions get
-//! the same numbers is promised nowhere. Read `run_answers` and `one_history` first.
+//! premises (`specs/Alike`) the words and the files give the first ones; that the journal isn't full is so of
+//! `orc`, by its clause `never_full`. That the names of two sessions get the same numbers is promised nowhere.
+//! Read `run_answers` and `one_history` first.
 #![tactic(auto)]
 
 mod laws;

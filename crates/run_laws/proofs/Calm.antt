@@ -146,7 +146,7 @@ claim_many i m = split (slice_get m.rows i.0)
     split None = refl
     split (Some r) = chosen (λ (n : Plain). length n.units ≡ length m.units) (is_unsearched r.phase) (claimed r.unit.0 m) m (λ b. changed_length r.unit.0 listed_unit m.units) (λ b. refl)
 
-claims_many : (os : List (Option InstId)) (m : Plain) → length (all_claimed os m).units ≡ length m.units
+pub claims_many : (os : List (Option InstId)) (m : Plain) → length (all_claimed os m).units ≡ length m.units
 claims_many [] m = refl
 claims_many (None ∷ os) m = claims_many os m
 claims_many (Some i ∷ os) m = claims_many os (claimed_for i m) ∙ claim_many i m
@@ -181,7 +181,7 @@ changed_many m (Move t to) calm none = chosen (AsMany m) (t.0 == to.0) m (record
 changed_many m (Remove t) calm none = record { generators = ap (map (removed_generator t.0)) none; units = mapped_length (removed_unit t.0) m.units }
 changed_many m (LetGo t u) calm none = record { generators = none; units = changed_length u.0 (let_go_unit t.0) m.units }
 
-settled_many : (m : Plain) → length (settled m).units ≡ length m.units
+pub settled_many : (m : Plain) → length (settled m).units ≡ length m.units
 settled_many m = settling_keeps (λ n. length n.units ≡ length m.units) (λ u k q n p w b e. changed_length u linked_unit n.units ∙ p) 0 m.queries m refl
 
 pub after_many : (m : Plain) (e : Entry Meaning) → is_call e.event ≡ true → m.generators ≡ [] → AsMany m (after m e)

@@ -29,7 +29,7 @@ use Rattle.run_laws.proofs.Seats.{same_head, same_tail}
 
 -- Beginnings of a list
 
-front_length : {X : Type 0} (xs ds rest : List X) → xs ≡ ds ++ rest → length ds ≤ length xs
+pub front_length : {X : Type 0} (xs ds rest : List X) → xs ≡ ds ++ rest → length ds ≤ length xs
 front_length xs ds rest e = let n = ap length e in omega (arith, n, length-append ds rest)
 
 -- The rest of a job: these are calls, and a beginning of them without an offer has so many at most.
@@ -134,7 +134,7 @@ emits_within : (u : UnitId) (refusal : Option (Place × ℕ × ℤ)) (es : List 
 emits_within u refusal es (inl c) = within_more 1 2 es (omega arith) (cut_within u es c)
 emits_within u refusal es (inr f) = ends_finish_within u refusal es f
 
-either_way : {G : Type 0} (b : Bool) (P Q : Type 0) → (P → G) → (Q → G) → MatchBool b P Q → G
+pub either_way : {G : Type 0} (b : Bool) (P Q : Type 0) → (P → G) → (Q → G) → MatchBool b P Q → G
 either_way true P Q f g m = f m
 either_way false P Q f g m = g m
 
@@ -180,7 +180,7 @@ pub each_front : {X : Type 0} (P : X → Type 0) (xs ys : List X) → AllByRecur
 each_front P [] ys a = tt
 each_front P (x ∷ xs) ys a = (a.0, each_front P xs ys a.1)
 
-each_back : {X : Type 0} (P : X → Type 0) (xs ys : List X) → AllByRecursion P (xs ++ ys) → AllByRecursion P ys
+pub each_back : {X : Type 0} (P : X → Type 0) (xs ys : List X) → AllByRecursion P (xs ++ ys) → AllByRecursion P ys
 each_back P [] ys a = a
 each_back P (x ∷ xs) ys a = each_back P xs ys a.1
 
@@ -188,11 +188,11 @@ pub total_joined : {X : Type 0} (f : X → ℕ) (xs ys : List X) → total f (xs
 total_joined f [] ys = omega arith
 total_joined f (x ∷ xs) ys = omega (arith, total_joined f xs ys)
 
-from_entries : (P : Entry Meaning → Type 0) (cs : List (ℕ × Entry Meaning)) → AllByRecursion P (map (λ (c : ℕ × Entry Meaning). c.1) cs) → AllByRecursion (λ (c : ℕ × Entry Meaning). P c.1) cs
+pub from_entries : (P : Entry Meaning → Type 0) (cs : List (ℕ × Entry Meaning)) → AllByRecursion P (map (λ (c : ℕ × Entry Meaning). c.1) cs) → AllByRecursion (λ (c : ℕ × Entry Meaning). P c.1) cs
 from_entries P [] a = tt
 from_entries P (c ∷ cs) a = (a.0, from_entries P cs a.1)
 
-to_entries : (P : Entry Meaning → Type 0) (cs : List (ℕ × Entry Meaning)) → AllByRecursion (λ (c : ℕ × Entry Meaning). P c.1) cs → AllByRecursion P (map (λ (c : ℕ × Entry Meaning). c.1) cs)
+pub to_entries : (P : Entry Meaning → Type 0) (cs : List (ℕ × Entry Meaning)) → AllByRecursion (λ (c : ℕ × Entry Meaning). P c.1) cs → AllByRecursion P (map (λ (c : ℕ × Entry Meaning). c.1) cs)
 to_entries P [] a = tt
 to_entries P (c ∷ cs) a = (a.0, to_entries P cs a.1)
 

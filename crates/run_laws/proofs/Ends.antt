@@ -79,13 +79,15 @@ client_begins jmax main units h setup (x ∷ xs) run c cs e = by_seat (cases_eq 
 -- The query of the lookup
 
 -- it is there after the ask, with what the ask matched
-record Asked (m : Plain) (e : Entry Meaning) (entry : NameId) : Type 0 where
-  query : Query
-  there : slice_get (after m e).queries (length m.queries) ≡ Some query
-  found : query.matched ≡ matched m (lookup_of entry).order (lookup_of entry).wanted
+pub record Asked (m : Plain) (e : Entry Meaning) (entry : NameId) : Type 0 where
+  pub query : Query
+  pub there : slice_get (after m e).queries (length m.queries) ≡ Some query
+  pub asked : query.asked ≡ m.entries + 1
+  pub level : query.level ≡ Ready
+  pub found : query.matched ≡ matched m (lookup_of entry).order (lookup_of entry).wanted
 
-asks : (m : Plain) (e : Entry Meaning) (entry : NameId) (q : QueryId) → e.event ≡ lookup_event (lookup_of entry) → (e.reply ≡ reply.Done q) ⊎ (e.reply ≡ reply.Pending q) → Asked m e entry
-asks m e entry q is lodged = record { query = query; there = there; found = refl }
+pub asks : (m : Plain) (e : Entry Meaning) (entry : NameId) (q : QueryId) → e.event ≡ lookup_event (lookup_of entry) → (e.reply ≡ reply.Done q) ⊎ (e.reply ≡ reply.Pending q) → Asked m e entry
+asks m e entry q is lodged = record { query = query; there = there; asked = refl; level = refl; found = refl }
   where
     query : Query
     query = record { asked = m.entries + 1; matched = matched m (lookup_of entry).order (lookup_of entry).wanted; level = Ready; unit = None; note = None }
@@ -104,21 +106,21 @@ asks m e entry q is lodged = record { query = query; there = there; found = refl
     there = ap (λ qs. slice_get qs (length m.queries)) queries ∙ pushed_last m.queries query
 
 -- and later
-still_asked : (past more : List (Entry Meaning)) (e : Entry Meaning) (k : ℕ) (q : Query) → slice_get (after (state past) e).queries k ≡ Some q → slice_get (state (past ++ e ∷ more)).queries k ≡ Some q
+pub still_asked : (past more : List (Entry Meaning)) (e : Entry Meaning) (k : ℕ) (q : Query) → slice_get (after (state past) e).queries k ≡ Some q → slice_get (state (past ++ e ∷ more)).queries k ≡ Some q
 still_asked past more e k q t = ap (λ (m : Plain). slice_get m.queries k) (ap state (sym (append_assoc past (e ∷ []) more)) ∙ state_from_joined empty (past ++ e ∷ []) more)
     ∙ query_stays (state (past ++ e ∷ [])) more k q (ap (λ (m : Plain). slice_get m.queries k) (state_from_push empty past e) ∙ t)
 
 -- The end of the lookup
 
 -- it is collected last
-record EndsCollected (q : QueryId) (cs : List (ℕ × Entry Meaning)) : Type 0 where
-  front : List (ℕ × Entry Meaning)
-  call : ℕ × Entry Meaning
-  are : cs ≡ front ++ call ∷ []
-  collects : call.1.event ≡ event.Collect q
-  collected : is_collected call.1.reply ≡ true
+pub record EndsCollected (q : QueryId) (cs : List (ℕ × Entry Meaning)) : Type 0 where
+  pub front : List (ℕ × Entry Meaning)
+  pub call : ℕ × Entry Meaning
+  pub are : cs ≡ front ++ call ∷ []
+  pub collects : call.1.event ≡ event.Collect q
+  pub collected : is_collected call.1.reply ≡ true
 
-works_end : (h : List (Entry Meaning)) (q : QueryId) (n : ℕ) (cs : List (ℕ × Entry Meaning)) → Works h q n cs → EndsCollected q cs
+pub works_end : (h : List (Entry Meaning)) (q : QueryId) (n : ℕ) (cs : List (ℕ × Entry Meaning)) → Works h q n cs → EndsCollected q cs
 works_end h q n cs (Collects k m e is got) = record { front = []; call = (m, e); are = refl; collects = is; collected = got }
 works_end h q n cs (AJob k m query last before rest there unmet job works) =
     let p = works_end h q last.0 rest works in

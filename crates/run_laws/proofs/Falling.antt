@@ -84,7 +84,7 @@ two_each (x ∷ xs) = omega (arith, left_two (rank x.phase), two_each xs)
 first_rises : (x y : UnitRow) (xs ys : List UnitRow) → Rises (x ∷ xs) (y ∷ ys) → jobs_left y ≤ jobs_left x
 first_rises x y xs ys r = let z = r 0 x refl in left_falls (rank x.phase) (rank y.phase) (subst (λ (w : UnitRow). rank x.phase ≤ rank w.phase) (sym (same_Some y z.0 z.1)) z.2)
 
-left_rises : (xs ys : List UnitRow) → length ys ≡ length xs → Rises xs ys → all_left ys ≤ all_left xs
+pub left_rises : (xs ys : List UnitRow) → length ys ≡ length xs → Rises xs ys → all_left ys ≤ all_left xs
 left_rises [] [] same r = omega arith
 left_rises [] (y ∷ ys) same r = absurd (omega (arith, same))
 left_rises (x ∷ xs) [] same r = absurd (omega (arith, same))

@@ -6,7 +6,7 @@ use Rattle.std.proofs.lemmas.List.Elements.{All-head, All-tail}
 use Rattle.orc_ids.specs.declared.ids.DylibId.{DylibId}
 use Rattle.orc_ids.specs.declared.ids.NameId.{NameId}
 use Rattle.orc_ids.specs.declared.ids.TrackId.{TrackId}
-use Rattle.session_model.specs.Change.{change_of, changed, settled, settled_from, without_replaced, new_unit, verdicts}
+use Rattle.session_model.specs.Change.{change_of, changed, settled, without_replaced, new_unit, verdicts}
 use Rattle.session_model.specs.Lists.{numbered}
 use Rattle.session_model.specs.Answer.{Answers}
 use Rattle.session_model.specs.History.{IsLegal}
@@ -25,6 +25,7 @@ use Rattle.session_laws.specs.Failures.{IsFailure}
 use Rattle.program_names.specs.Programs.{first_dylib, first_tracker, is_done}
 use Rattle.run_laws.specs.Runs.{IsSetUp}
 use Rattle.run_laws.proofs.Seats.{not_empty, same_head, same_tail}
+use Rattle.program_names.proofs.SettingUp.{settled_none}
 
 -- The dylib is there, and nothing was asked for or failed; there are so many units at most.
 pub record IsReady (count : ℕ) (m : Plain) : Type 0 where
@@ -42,9 +43,6 @@ record Adds (more : ℕ) (m n : Plain) : Type 0 where
   queries : n.queries ≡ m.queries
   jobs : n.jobs ≡ m.jobs
   few : length n.units ≤ length m.units + more
-
-settled_unasked : (n : Plain) → n.queries ≡ [] → settled n ≡ n
-settled_unasked n e = ap (λ qs. settled_from 0 qs n) e
 
 still_unfailed : (m : Plain) (e : Entry Meaning) → ((i : ℕ) → failed_at m.rows i ≡ false) → (IsFailure e.event e.reply → ⊥) → (i : ℕ) → failed_at (after m e).rows i ≡ false
 still_unfailed m e old unfailing i = split (cases_Bool (failed_at (after m e).rows i))
@@ -67,7 +65,7 @@ still_ready count more m e old adds unfailing = record {
     n = changed (change_of m e.seat.0 e.event e.reply) m
 
     same : settled n ≡ n
-    same = settled_unasked n (adds.queries ∙ old.queries)
+    same = settled_none n (adds.queries ∙ old.queries)
 
 adds_none : (m : Plain) → Adds 0 m m
 adds_none m = record { dylibs = refl; generators = refl; queries = refl; jobs = refl; few = omega arith }

@@ -1,6 +1,6 @@
 -- The history of a program's run: seat 0 defines its units in one dylib, seat 1, the client, looks its entry up at Ready and
 -- copies the memory, and worker seats do jobs beside it.
-use Rattle.std.specs.Prelude.{◌≡◌, ◌⊎◌, ℕ, ◌+◌, ◌<◌, ◌≤◌, ⊤, true, false, List, [], ◌∷◌, ◌++◌, length, map, take, slice_get, All, Some}
+use Rattle.std.specs.Prelude.{◌≡◌, ◌⊎◌, ℕ, ◌+◌, ◌<◌, ◌≤◌, ⊤, Bool, true, false, List, [], ◌∷◌, ◌++◌, length, map, take, slice_get, All, Some}
 use Rattle.orc_ids.specs.declared.ids.InstId.{InstId}
 use Rattle.orc_ids.specs.declared.ids.NameId.{NameId}
 use Rattle.orc_ids.specs.declared.ids.UnitId.{UnitId}
@@ -17,8 +17,10 @@ use Rattle.session_model.specs.Memory.{memory}
 use Rattle.session_model.specs.Plain.{Plain, kept}
 use Rattle.session_model.specs.State.{state}
 use Rattle.session_model.specs.declared.entry.Entry.{Entry}
+use Rattle.session_model.specs.declared.entry.Event.{Event}
 use Rattle.session_model.specs.declared.entry.Event.TheVariants as event
 use Rattle.session_model.specs.declared.entry.Reply.TheVariants as reply
+use Rattle.session_model.specs.declared.entry.Why.TheVariants as why
 use Rattle.program_names.specs.Programs.{first_dylib, first_tracker, is_done, setup_events}
 use Rattle.run_laws.specs.Runs.{AreJobs, IsSetUp, lookup_of}
 use Rattle.run_laws.specs.declared.linked.Linked.{Linked}
@@ -58,6 +60,21 @@ abbrev pub IsCauseIn : ℕ → List (Entry Meaning) → Stop → Type 0
 IsCauseIn jmax h (stop.JournalFull len) = (len ≤ length h) × IsCrowded jmax (take len h)
 IsCauseIn jmax h stop.NoMemory = ⊤
 
+-- the run wasn't stopped
+abbrev pub is_whole : Linked → Bool
+is_whole (linked.Stopped st) = false
+is_whole end = true
+
+-- a unit is given up for want of memory or of places: a call of its job was stopped
+abbrev pub is_cut : Event Meaning → Bool
+is_cut (event.Fail u why.NoMemory) = true
+is_cut (event.Fail u why.Full) = true
+is_cut e = false
+
+-- none of the calls cuts a job
+abbrev pub NoneIsCut : List (ℕ × Entry Meaning) → Type 0
+NoneIsCut cs = All (λ (c : ℕ × Entry Meaning). is_cut c.1.event ≡ false) cs
+
 -- the calls of the client
 abbrev pub client_calls : List (Entry Meaning) → List (ℕ × Entry Meaning)
 client_calls h = numbered_calls 1 1 h
@@ -77,7 +94,7 @@ pub data Ended (jmax : ℕ) (main entry : NameId) (units : List Meaning) (h setu
       client_calls h ≡ (before ++ (m, last) ∷ []) ++ (n, copy) ∷ [] → Looks h (lookup_of entry) (before ++ (m, last) ∷ []) → last.reply ≡ reply.Found at (Some (i, address) ∷ []) →
       copy.event ≡ event.Image → AreMemory (state (take n h)) ranges → Ended jmax main entry units h setup later (linked.Found address ranges)
 
--- The history of a run with so many workers.
+-- The history of a run with so many workers. Unless it was stopped, no job of the client was cut.
 pub record IsRun (jmax workers : ℕ) (main entry : NameId) (units : List Meaning) (h : List (Entry Meaning)) (end : Linked) : Type 0 where
   pub legal : IsLegal jmax h
   pub places : HasPlaces jmax h
@@ -89,3 +106,4 @@ pub record IsRun (jmax workers : ℕ) (main entry : NameId) (units : List Meanin
   pub later_seats : All (λ (e : Entry Meaning). (0 < e.seat.0) × (e.seat.0 ≤ 1 + workers)) later
   pub workers_do : (s : ℕ) → 1 < s → AreJobs h (numbered_calls s 1 h)
   pub ended : Ended jmax main entry units h setup later end
+  pub uncut : is_whole end ≡ true → NoneIsCut (client_calls h)

@@ -39,7 +39,7 @@ use Rattle.turn_lock.specs.declared.view.View.{View}
 use Rattle.seat_calls.specs.Did.{Did, Nothing, Promise}
 use Rattle.seat_calls.proofs.Doing.{less_is_done, nothing_is_done}
 use Rattle.link_worker.specs.Does.{Call, Does, Nobody, PlacesLowest, ToldAt}
-use Rattle.link_worker.specs.Jobs.{IsCause}
+use Rattle.link_worker.specs.Jobs.{IsCause, SpareAll}
 use Rattle.link_worker.specs.Looks.{EndsAs, HasLooked, left_of}
 use Rattle.link_worker.specs.Works.{IsFree, WasStopped}
 use Rattle.link_worker.specs.declared.looking.LookEnd.{LookEnd}
@@ -176,8 +176,8 @@ module _ {U N : Type 0} (means : U → Meaning) (heard : N → Option Outcome) (
 
   -- a lookup
   module _ (old new : List (Notice N)) (l : Lookup) (then' back : Option (Unheard N)) where
-    ended : (e : LookEnd) → Does means heard v w old new (λ h cs. Looks h l cs × EndsAs e cs × (back ≡ left_of then' cs)) → Does means heard v w old new (Makes given (LookUp l) (Looked e))
-    ended e does = does_less means heard v w old new (λ h cs. Looks h l cs × EndsAs e cs × (back ≡ left_of then' cs)) (Makes given (LookUp l) (Looked e)) (λ h cs k. (k.0, k.1)) does
+    ended : (e : LookEnd) → Does means heard v w old new (λ h cs. Looks h l cs × EndsAs e cs × (back ≡ left_of then' cs) × SpareAll cs) → Does means heard v w old new (Makes given (LookUp l) (Looked e))
+    ended e does = does_less means heard v w old new (λ h cs. Looks h l cs × EndsAs e cs × (back ≡ left_of then' cs) × SpareAll cs) (Makes given (LookUp l) (Looked e)) (λ h cs k. (k.0, k.1)) does
 
     cut : Does means heard v w old new (λ h cs. IsStopped (Looks h l) cs × (back ≡ left_of then' cs)) → Does means heard v w old new (Begins given (LookUp l))
     cut does = does_less means heard v w old new (λ h cs. IsStopped (Looks h l) cs × (back ≡ left_of then' cs)) (Begins given (LookUp l)) (λ h cs k. k.0) does
