@@ -1,3 +1,4 @@
 pub mod FirstOf
+pub mod Reading
 pub mod Stops
 pub mod Sinks

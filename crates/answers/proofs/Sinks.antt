@@ -1,7 +1,6 @@
 -- What is answered once a text was written, and what the sinks then hold.
-use Rattle.std.proofs.Common.{ℕ, List, length, sym, subst}
-use Rattle.std.proofs.Math.Seq.{take-length}
-use Rattle.answers.specs.Written.{Held, HoldsWhole, HoldsPart, IsWritten, whole, out_failed, log_failed}
+use Rattle.std.proofs.Common.{◌≢◌, ℕ, List, sym, subst}
+use Rattle.answers.specs.Written.{AreQuiet, Held, IsWritten, whole, out_failed, log_failed}
 use Rattle.answers.specs.declared.answer.Answer.{Answer}
 use Rattle.answers.specs.declared.answer.Answer.TheVariants.{WriteFault}
 
@@ -11,6 +10,8 @@ kept_as P out out' log log' f output journal answer (whole e _ _) found failed =
 kept_as P out out' log log' f output journal answer (out_failed e _ _ _) found failed = subst P (sym e) failed
 kept_as P out out' log log' f output journal answer (log_failed e _ _ _) found failed = subst P (sym e) failed
 
--- a whole text is a first part of itself
-pub whole_part : (old new : Held) (text : List ℕ) → HoldsWhole old new text → HoldsPart old new text
-whole_part old new text h = (length text, subst (λ t. HoldsWhole old new t) (sym (take-length text)) h)
+-- unless a write failed, none did
+pub quiet_unless : (out out' log log' : Held) (f : Answer) (output journal : List ℕ) (answer : Answer) → IsWritten out out' log log' f output journal answer → answer ≢ WriteFault → AreQuiet out out' log log'
+quiet_unless out out' log log' f output journal answer (whole _ ho hl) apart = record { out_quiet = ho.1; log_quiet = hl.1 }
+quiet_unless out out' log log' f output journal answer (out_failed e _ _ _) apart = absurd (apart e)
+quiet_unless out out' log log' f output journal answer (log_failed e _ _ _) apart = absurd (apart e)

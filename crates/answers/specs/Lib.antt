@@ -2,4 +2,5 @@ pub mod Answers
 pub mod EndLine
 pub mod Files
 pub mod Memory
+pub mod Reads
 pub mod Written

@@ -3,11 +3,12 @@ use Rattle.std.proofs.Common.{◌≡◌, ◌≢◌, ℕ, ◌⊎◌, inl, inr, Li
 use Rattle.elf_read.specs.declared.object.ElfObject.{ElfObject}
 use Rattle.elf_write.specs.Files.{file_bytes}
 use Rattle.rv_asm.specs.Objects.{Assembles}
+use Rattle.orc_io.specs.Causes.{Rose}
 use Rattle.answers.specs.EndLine.{end_line_of}
-use Rattle.answers.specs.Written.{HasFailed as FailedOn, HoldsAsBefore, HoldsWhole, IsWritten, whole, out_failed, log_failed}
+use Rattle.answers.specs.Written.{HoldsAsBefore, HoldsWhole, IsWritten, whole, out_failed, log_failed}
 use Rattle.answers.specs.declared.answer.Answer.{Answer}
 use Rattle.answers.specs.declared.answer.Answer.TheVariants.{AsmRefused, Done, FileFault, NoMemory, TooLong, WriteFault}
-use Rattle.answers.proofs.Sinks.{kept_as, whole_part}
+use Rattle.answers.proofs.Sinks.{kept_as, quiet_unless}
 use Rattle.as_answers.specs.Clauses.{AsAnswers, Call, Finds, HasFailed, HasFault, IsBefore, IsCut, IsWanting, OfObject, TellText}
 use Rattle.as_answers.specs.Found.{in_length, in_object, in_reading, in_text, wanting}
 use Rattle.as_answers.specs.Laws.{AsAnswersAreKept}
@@ -42,8 +43,8 @@ module _ (c : Call) (f answer : Answer) (output : List ℕ) (is : Finds c f outp
       record {
         output = output;
         has = caused Done e (λ q. cc) w;
-        written = h.out_holds;
-        logged = subst (λ x. HoldsWhole c.log_before c.log_after (end_line_of x)) e h.log_holds;
+        written = h.out_holds.0;
+        logged = (subst (λ x. HoldsWhole c.log_before c.log_after (end_line_of x)) e h.log_holds).0;
       }
 
   -- what is written where no object was made
@@ -53,15 +54,15 @@ module _ (c : Call) (f answer : Answer) (output : List ℕ) (is : Finds c f outp
   out_quiet : Written → IsBefore answer → HoldsAsBefore c.out_before c.out_after
   out_quiet w b = let h = before_wholly w b in subst (λ text. HoldsWhole c.out_before c.out_after text) (no_text c answer output h.found b) h.out_holds
 
-  write_fault : Written → answer ≡ WriteFault → FailedOn c.out_before c.out_after ⊎ FailedOn c.log_before c.log_after
+  write_fault : Written → answer ≡ WriteFault → Rose c.out_before.faults c.out_after.faults ⊎ Rose c.log_before.faults c.log_after.faults
   write_fault (whole a _ _) e = absurd (subst (λ x. Cause c x output) (sym a ∙ e) (cause_of c f output is))
-  write_fault (out_failed _ r _ _) e = inl r
-  write_fault (log_failed _ r _ _) e = inr r
+  write_fault (out_failed _ r _ _) e = inl r.0
+  write_fault (log_failed _ r _ _) e = inr r.0
 
   cut : Written → answer ≡ WriteFault → IsCut c
   cut (whole a _ _) e = absurd (subst (λ x. Cause c x output) (sym a ∙ e) (cause_of c f output is))
-  cut (out_failed _ _ ho hl) e = record { found = f; output = output; is_found = is; out_part = ho; log_part = (0, hl); out_first = inl hl }
-  cut (log_failed _ _ ho hl) e = record { found = f; output = output; is_found = is; out_part = whole_part c.out_before c.out_after output ho; log_part = hl; out_first = inr ho }
+  cut (out_failed _ r ho hl) e = record { found = f; output = output; is_found = is; sinks = inl (r, ho, hl) }
+  cut (log_failed _ r ho hl) e = record { found = f; output = output; is_found = is; sinks = inr (r, ho, hl) }
 
   -- where memory ran out, nothing was to be written on out
   quiet : (a : Answer) → a ≡ NoMemory → Finds c a output → output ≡ []
@@ -75,8 +76,8 @@ module _ (c : Call) (f answer : Answer) (output : List ℕ) (is : Finds c f outp
   memory_wanting w e =
       let h = wholly w (λ q. cc) in
       record {
-        out_same = subst (λ text. HoldsWhole c.out_before c.out_after text) (quiet answer e h.found) h.out_holds;
-        logged = subst (λ x. HoldsWhole c.log_before c.log_after (end_line_of x)) e h.log_holds;
+        out_same = (subst (λ text. HoldsWhole c.out_before c.out_after text) (quiet answer e h.found) h.out_holds).0;
+        logged = (subst (λ x. HoldsWhole c.log_before c.log_after (end_line_of x)) e h.log_holds).0;
       }
 
   in_form : Written → (answer ≡ Done) ⊎ IsBefore answer ⊎ HasFailed answer
@@ -106,9 +107,10 @@ module _ (c : Call) (f answer : Answer) (output : List ℕ) (is : Finds c f outp
     refused_told = λ text line why told bad. told_as (λ x. x ≡ AsmRefused line why) w (refused_found c told.0 told.1 text told.2 line why f output bad is);
     object_told = λ text object told means. told_as (λ x. x ≡ Done) w (object_found c told.0 told.1 text told.2 object f output means is);
     object = object w;
-    written_told = written_told w;
-    out_quiet = out_quiet w;
-    log_line = λ b. (before_wholly w b).log_holds;
+    written_told = λ text object told means e. (written_told w text object told means e).0;
+    out_quiet = λ b. (out_quiet w b).0;
+    log_line = λ b. (before_wholly w b).log_holds.0;
+    quiet = quiet_unless c.out_before c.out_after c.log_before c.log_after f output [] answer w;
     cut = cut w;
     wanting = memory_wanting w;
   }

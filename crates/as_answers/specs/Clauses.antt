@@ -1,5 +1,5 @@
 -- What a call of `orc as` promises: when each answer comes, and what the sinks have then gained.
-use Rattle.std.specs.Prelude.{◌≡◌, ℕ, ◌⊎◌, List, [], Option, Some, Ok, Err}
+use Rattle.std.specs.Prelude.{◌≡◌, ◌≢◌, ℕ, ◌⊎◌, List, [], Option, Some, Ok, Err}
 use Rattle.std.specs.Io.KnownBytes.{Appends}
 use Rattle.orc_io.specs.Causes.{Rose}
 use Rattle.orc_io.specs.Contents.{IsLongerThan, IsMissing}
@@ -11,7 +11,7 @@ use Rattle.asm_lines.specs.declared.statement.AsmWhy.{AsmWhy}
 use Rattle.rv_asm.specs.Objects.{Assembles}
 use Rattle.rv_asm.specs.declared.error.AsmError.TheVariants.{BadLine}
 use Rattle.answers.specs.EndLine.{end_line_of}
-use Rattle.answers.specs.Written.{AppendsPart, Held}
+use Rattle.answers.specs.Written.{AreCut, AreQuiet, Held}
 use Rattle.answers.specs.declared.answer.Answer.{Answer}
 use Rattle.answers.specs.declared.answer.Answer.TheVariants.{AsmRefused, Done, FileFault, NoMemory, TooLong, WriteFault}
 use Rattle.as_answers.specs.Found.{HasObject, IsFound, IsRefusedIn, IsTextOf}
@@ -64,14 +64,12 @@ pub record OfObject (c : Call) : Type 0 where
   pub written : Appends c.out_before.bytes c.out_after.bytes output
   pub logged : Appends c.log_before.bytes c.log_after.bytes (end_line_of Done)
 
--- after a write that failed: what was found stands on the sinks in part, and log has none of it unless out has all
+-- after a write that failed: what was found stands on the sinks in part
 pub record IsCut (c : Call) : Type 0 where
   pub found : Answer
   pub output : List ℕ
   pub is_found : Finds c found output
-  pub out_part : AppendsPart c.out_before.bytes c.out_after.bytes output
-  pub log_part : AppendsPart c.log_before.bytes c.log_after.bytes (end_line_of found)
-  pub out_first : Appends c.log_before.bytes c.log_after.bytes [] ⊎ Appends c.out_before.bytes c.out_after.bytes output
+  pub sinks : AreCut c.out_before c.out_after c.log_before c.log_after output (end_line_of found)
 
 -- where memory ran out: out is as before, and log has gained the end line
 pub record IsWanting (c : Call) : Type 0 where
@@ -101,6 +99,8 @@ pub record AsAnswers (c : Call) (answer : Answer) : Type 0 where
   -- where no object was made, out has gained nothing, and log the end line alone
   pub out_quiet : IsBefore answer → Appends c.out_before.bytes c.out_after.bytes []
   pub log_line : IsBefore answer → Appends c.log_before.bytes c.log_after.bytes (end_line_of answer)
+  -- no write failed unless the answer says so
+  pub quiet : answer ≢ WriteFault → AreQuiet c.out_before c.out_after c.log_before c.log_after
   -- after a write that failed each sink has gained a first part of its text, and where memory ran out log the end line alone
   pub cut : answer ≡ WriteFault → IsCut c
   pub wanting : answer ≡ NoMemory → IsWanting c

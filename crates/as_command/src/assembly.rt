@@ -1,6 +1,8 @@
 //! The whole command.
-ghost use Rattle.std.specs.Prelude.{◌≡◌, ◌≤◌, IfErr, IfOk};
+ghost use Rattle.std.specs.Prelude.{◌≡◌, ◌≤◌, ◌∷◌, [], IfErr, IfOk, OnOk};
 ghost use Rattle.elf_write.specs.Files.{file_bytes};
+ghost use Rattle.object_files.specs.Reads.{AreReadIn, use_of};
+ghost use Rattle.answers.specs.Reads.{AreReadFor};
 ghost use Rattle.as_answers.specs.Found.{HasObject, IsFileOf, IsFound, IsTextOf};
 ghost use Rattle.as_command.specs.Stops.{HasStopped, IsUnassembled, IsUnread};
 
@@ -26,6 +28,10 @@ const FILE: u32 = 0;
 fn read_text<F: Files>(alloc: Global, files: &mut F, file: &str) -> Result<Bytes, Answer>
     ensures read { IfOk result (IsTextOf (F.holds files.old) file.now) }
     ensures unread { IfErr result (IsUnread (F.holds files.old) (F.faults files.old) (F.faults files.new) file.now) }
+    ensures asked { OnOk result (AreReadIn (file.now ∷ [])
+        (use_of (F.reads files.old) (F.faults files.old)) (use_of (F.reads files.new) (F.faults files.new))) }
+    ensures asked_for { IfErr result (AreReadFor (file.now ∷ [])
+        (use_of (F.reads files.old) (F.faults files.old)) (use_of (F.reads files.new) (F.faults files.new))) }
     ensures counted { F.faults files.old ≤ F.faults files.new }
     ensures same { F.holds files.new ≡ F.holds files.old }
 {
@@ -64,6 +70,10 @@ fn assembled(alloc: Global, text: &[u8]) -> Result<Bytes, Answer>
 fn object_file<F: Files>(alloc: Global, files: &mut F, file: &str) -> Result<Bytes, Answer>
     ensures object { IfOk result (HasObject (F.holds files.old) file.now) }
     ensures stopped { IfErr result (HasStopped (F.holds files.old) (F.faults files.old) (F.faults files.new) file.now) }
+    ensures asked { OnOk result (AreReadIn (file.now ∷ [])
+        (use_of (F.reads files.old) (F.faults files.old)) (use_of (F.reads files.new) (F.faults files.new))) }
+    ensures asked_for { IfErr result (AreReadFor (file.now ∷ [])
+        (use_of (F.reads files.old) (F.faults files.old)) (use_of (F.reads files.new) (F.faults files.new))) }
     ensures counted { F.faults files.old ≤ F.faults files.new }
     ensures same { F.holds files.new ≡ F.holds files.old }
 {
@@ -74,6 +84,8 @@ fn object_file<F: Files>(alloc: Global, files: &mut F, file: &str) -> Result<Byt
 /// What `orc as` finds in this file.
 pub fn find_assembly<F: Files>(alloc: Global, files: &mut F, file: &str) -> AssemblyFound
     ensures found { IsFound file.now (F.holds files.old) (F.faults files.old) (F.faults files.new) result.answer result.output }
+    ensures asked { AreReadFor (file.now ∷ [])
+        (use_of (F.reads files.old) (F.faults files.old)) (use_of (F.reads files.new) (F.faults files.new)) result.answer }
     ensures counted { F.faults files.old ≤ F.faults files.new }
     ensures same { F.holds files.new ≡ F.holds files.old }
 {

@@ -5,6 +5,7 @@ ghost use Rattle.std.specs.Prelude.{◌≡◌, is_some};
 mod endings;
 mod few_places;
 mod handed_back;
+mod items;
 mod limits;
 mod lookup;
 mod names;

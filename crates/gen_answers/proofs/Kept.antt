@@ -1,10 +1,11 @@
 -- A call that found its answer and wrote it keeps the promise.
 use Rattle.std.proofs.Common.{◌≡◌, ℕ, ◌⊎◌, inl, inr, List, [], refl, sym, ◌∙◌, subst}
+use Rattle.orc_io.specs.Causes.{Rose}
 use Rattle.answers.specs.EndLine.{end_line_of}
-use Rattle.answers.specs.Written.{HasFailed, HoldsWhole, IsWritten, whole, out_failed, log_failed}
+use Rattle.answers.specs.Written.{HoldsWhole, IsWritten, whole, out_failed, log_failed}
 use Rattle.answers.specs.declared.answer.Answer.{Answer}
 use Rattle.answers.specs.declared.answer.Answer.TheVariants.{Done, NoMemory, WriteFault}
-use Rattle.answers.proofs.Sinks.{whole_part}
+use Rattle.answers.proofs.Sinks.{quiet_unless}
 use Rattle.gen_answers.specs.Clauses.{Call, GenAnswers, IsCut, IsWanting, OfSummary}
 use Rattle.gen_answers.specs.Found.{IsFound, IsSummary, in_summary, wanting}
 use Rattle.gen_answers.specs.Laws.{GenAnswersAreKept}
@@ -56,27 +57,27 @@ module _ (jmax : ℕ) (c : Call) (f answer : Answer) (output : List ℕ) (is : I
   in_form (out_failed fault _ _ _) = inr (inr fault)
   in_form (log_failed fault _ _ _) = inr (inr fault)
 
-  write_fault : Written → answer ≡ WriteFault → HasFailed c.out_before c.out_after ⊎ HasFailed c.log_before c.log_after
+  write_fault : Written → answer ≡ WriteFault → Rose c.out_before.faults c.out_after.faults ⊎ Rose c.log_before.faults c.log_after.faults
   write_fault (whole same _ _) e = never_fault jmax c.objects f output (sym same ∙ e) is
-  write_fault (out_failed _ rose _ _) e = inl rose
-  write_fault (log_failed _ rose _ _) e = inr rose
+  write_fault (out_failed _ failed _ _) e = inl failed.0
+  write_fault (log_failed _ failed _ _) e = inr failed.0
 
   summary : Written → answer ≡ Done → OfSummary jmax c
   summary w e =
       let h = wholly Done e (λ q. cc) w in
-      record { output = output; is = found_summary jmax c.objects f output h.found is; written = h.out_holds; logged = h.log_holds }
+      record { output = output; is = found_summary jmax c.objects f output h.found is; written = h.out_holds.0; logged = h.log_holds.0 }
 
   cut : Written → answer ≡ WriteFault → IsCut jmax c
   cut (whole same _ _) e = never_fault jmax c.objects f output (sym same ∙ e) is
-  cut (out_failed _ _ ho hl) e = record { found = f; output = output; is_found = is; out_part = ho; log_part = (0, hl); out_first = inl hl }
-  cut (log_failed _ _ ho hl) e = record { found = f; output = output; is_found = is; out_part = whole_part c.out_before c.out_after output ho; log_part = hl; out_first = inr ho }
+  cut (out_failed _ failed ho hl) e = record { found = f; output = output; is_found = is; sinks = inl (failed, ho, hl) }
+  cut (log_failed _ failed ho hl) e = record { found = f; output = output; is_found = is; sinks = inr (failed, ho, hl) }
 
   memory_wanting : Written → answer ≡ NoMemory → IsWanting c
   memory_wanting w e =
       let h = wholly NoMemory e (λ q. cc) w in
       record {
-        out_same = subst (λ text. HoldsWhole c.out_before c.out_after text) (found_quiet jmax c.objects f output h.found is) h.out_holds;
-        logged = h.log_holds;
+        out_same = (subst (λ text. HoldsWhole c.out_before c.out_after text) (found_quiet jmax c.objects f output h.found is) h.out_holds).0;
+        logged = h.log_holds.0;
       }
 
   answers : Written → GenAnswers jmax c answer
@@ -84,6 +85,7 @@ module _ (jmax : ℕ) (c : Call) (f answer : Answer) (output : List ℕ) (is : I
     answers = in_form w;
     write_fault = write_fault w;
     summary = summary w;
+    quiet = quiet_unless c.out_before c.out_after c.log_before c.log_after f output [] answer w;
     cut = cut w;
     wanting = memory_wanting w;
   }

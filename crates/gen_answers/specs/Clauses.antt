@@ -1,9 +1,9 @@
 -- What a call of `orc gen` promises: when each answer comes, and what the sinks have then gained.
-use Rattle.std.specs.Prelude.{◌≡◌, ℕ, ◌⊎◌, List, []}
+use Rattle.std.specs.Prelude.{◌≡◌, ◌≢◌, ℕ, ◌⊎◌, List, []}
 use Rattle.std.specs.Io.KnownBytes.{Appends}
 use Rattle.orc_io.specs.Causes.{Rose}
 use Rattle.answers.specs.EndLine.{end_line_of}
-use Rattle.answers.specs.Written.{AppendsPart, Held}
+use Rattle.answers.specs.Written.{AreCut, AreQuiet, Held}
 use Rattle.answers.specs.declared.answer.Answer.{Answer}
 use Rattle.answers.specs.declared.answer.Answer.TheVariants.{Done, NoMemory, WriteFault}
 use Rattle.gen_answers.specs.Found.{IsFound, IsSummary}
@@ -26,14 +26,12 @@ pub record OfSummary (jmax : ℕ) (c : Call) : Type 0 where
   pub written : Appends c.out_before.bytes c.out_after.bytes output
   pub logged : Appends c.log_before.bytes c.log_after.bytes (end_line_of Done)
 
--- after a write that failed: what was found stands on the sinks in part, and log has none of it unless out has all
+-- after a write that failed: what was found stands on the sinks in part
 pub record IsCut (jmax : ℕ) (c : Call) : Type 0 where
   pub found : Answer
   pub output : List ℕ
   pub is_found : IsFound jmax c.objects found output
-  pub out_part : AppendsPart c.out_before.bytes c.out_after.bytes output
-  pub log_part : AppendsPart c.log_before.bytes c.log_after.bytes (end_line_of found)
-  pub out_first : Appends c.log_before.bytes c.log_after.bytes [] ⊎ Appends c.out_before.bytes c.out_after.bytes output
+  pub sinks : AreCut c.out_before c.out_after c.log_before c.log_after output (end_line_of found)
 
 -- where memory ran out: out is as before, and log has gained the end line
 pub record IsWanting (c : Call) : Type 0 where
@@ -48,6 +46,8 @@ pub record GenAnswers (jmax : ℕ) (c : Call) (answer : Answer) : Type 0 where
   pub write_fault : answer ≡ WriteFault → Rose c.out_before.faults c.out_after.faults ⊎ Rose c.log_before.faults c.log_after.faults
   -- what the session came to is written
   pub summary : answer ≡ Done → OfSummary jmax c
+  -- no write failed unless the answer says so
+  pub quiet : answer ≢ WriteFault → AreQuiet c.out_before c.out_after c.log_before c.log_after
   -- after a write that failed each sink has gained a first part of its text, and where memory ran out log the end line alone
   pub cut : answer ≡ WriteFault → IsCut jmax c
   pub wanting : answer ≡ NoMemory → IsWanting c

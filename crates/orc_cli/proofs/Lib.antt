@@ -5,4 +5,5 @@ mod LoadedRuns
 mod Finished
 mod EndAnswers
 mod LoadedFiles
+mod Readings
 mod Asked

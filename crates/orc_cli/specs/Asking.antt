@@ -1,7 +1,13 @@
 -- Which promise a call keeps, by what its words ask for.
-use Rattle.std.specs.Prelude.{◌≡◌, ◌≢◌, ℕ, List, Result, Ok, Err}
+use Rattle.std.specs.Prelude.{◌≡◌, ◌≢◌, ℕ, List, [], Option, Result, Ok, Err}
 use Rattle.command_line.specs.Words.{Asked, Assembly, Generation, Request, Run, Session}
 use Rattle.command_line.specs.declared.error.UsageKind.{UsageKind}
+use Rattle.object_files.specs.Files.{distinct}
+use Rattle.object_files.specs.Reads.{Use}
+use Rattle.answers.specs.Reads.{AreReadFor, HoldsOfFound}
+use Rattle.answers.specs.declared.answer.Answer.{Answer}
+use Rattle.session_answers.specs.Reads.{AreScriptRead}
+use Rattle.session_answers.specs.Texts.{counted}
 
 -- the words ask for this run, or for nothing, for this reason
 abbrev pub AsksRun : Result Asked UsageKind → Result Request UsageKind → Type 0
@@ -30,3 +36,15 @@ ForGeneration words P = (objects : ℕ) → words ≡ Ok (Generation objects) �
 -- this holds unless the words ask for a session
 abbrev pub ButForSession : Result Asked UsageKind → Type 0 → Type 0
 ButForSession words P = ((workers : ℕ) → words ≢ Ok (Session workers)) → P
+
+-- the files of a run, each once; none where nothing is asked for
+abbrev pub files_of : Result Request UsageKind → List (List ℕ)
+files_of (Ok run) = distinct run.files
+files_of (Err kind) = []
+
+-- these files, or those of the script on the source with so many notes, were read for what was found
+abbrev pub ReadsFiles : List (List ℕ) → Use → Use → Answer → Type 0
+ReadsFiles files old new answer = HoldsOfFound (AreReadFor files old new) answer
+
+abbrev pub ReadsScript : Option (List ℕ) → ℕ → Use → Use → Answer → Type 0
+ReadsScript left notes old new answer = HoldsOfFound (AreScriptRead left (counted notes) old new) answer

@@ -1,12 +1,16 @@
 //! What the words of a call ask for, and what is found.
-ghost use Rattle.std.specs.Prelude.{◌≡◌, ◌≤◌, [], map, All, None, Ok};
+ghost use Rattle.std.specs.Prelude.{◌≡◌, ◌≤◌, ◌∷◌, [], length, map, All, None, Ok};
 ghost use Rattle.command_line.specs.Words.{Assembly, Generation, Session, asked_by};
 ghost use Rattle.as_answers.specs.Found.{IsFound as IsAssemblyFound};
 ghost use Rattle.gen_answers.specs.Found.{IsFound as IsSummaryFound};
 ghost use Rattle.noted.specs.Heard.{AllHaveHeard};
 ghost use Rattle.run_answers.specs.Answered.{IsFound};
 ghost use Rattle.session_answers.specs.Found.{IsFound as IsSessionFound};
-ghost use Rattle.orc_cli.specs.Asking.{ButForSession, ForAssembly, ForGeneration, ForRun, ForSession};
+ghost use Rattle.object_files.specs.Reads.{AreReadIn, use_of};
+ghost use Rattle.answers.specs.Reads.{AreReadFor};
+ghost use Rattle.session_answers.specs.Reads.{AreScriptRead, IsSourceReadFor};
+ghost use Rattle.session_answers.specs.Texts.{counted};
+ghost use Rattle.orc_cli.specs.Asking.{ButForSession, ForAssembly, ForGeneration, ForRun, ForSession, files_of};
 
 use crate::finding::{find_run, silent};
 use crate::generating::of_summary;
@@ -113,6 +117,17 @@ pub(crate) fn ask<
     ensures generation { ForGeneration (asked_by words.now) (λ objects. IsSummaryFound JOURNAL_LIMIT objects
         result.found.answer result.found.output) }
     ensures generation_log { ForGeneration (asked_by words.now) (λ objects. result.found.journal ≡ []) }
+    ensures run_read { ForRun (asked_by words.now) (λ asked. AreReadFor (files_of asked)
+        (use_of (F.reads files.old) (F.faults files.old)) (use_of (F.reads files.new) (F.faults files.new)) result.found.answer) }
+    ensures session_read { ForSession (asked_by words.now) (λ workers. AreScriptRead
+        (S.left source.old) (counted (length notes.items))
+        (use_of (F.reads files.old) (F.faults files.old)) (use_of (F.reads files.new) (F.faults files.new)) result.found.answer) }
+    ensures source_read { ForSession (asked_by words.now) (λ workers. IsSourceReadFor
+        (S.faults source.old) (S.faults source.new) result.found.answer) }
+    ensures assembly_read { ForAssembly (asked_by words.now) (λ file. AreReadFor (file ∷ [])
+        (use_of (F.reads files.old) (F.faults files.old)) (use_of (F.reads files.new) (F.faults files.new)) result.found.answer) }
+    ensures generation_read { ForGeneration (asked_by words.now) (λ objects. AreReadIn []
+        (use_of (F.reads files.old) (F.faults files.old)) (use_of (F.reads files.new) (F.faults files.new))) }
     ensures heard { AllHaveHeard N.heard result.notes }
     ensures notes { ButForSession (asked_by words.now) (result.notes ≡ map Noted.Unfired notes.items) }
     ensures source_left { ButForSession (asked_by words.now) (S.left source.new ≡ S.left source.old) }

@@ -1,5 +1,8 @@
 ghost use Rattle.std.specs.Prelude.{◌≡◌, ◌≤◌, [], IfErr, Ok};
 ghost use Rattle.command_line.specs.Words.{request};
+ghost use Rattle.object_files.specs.Files.{distinct};
+ghost use Rattle.object_files.specs.Reads.{use_of};
+ghost use Rattle.answers.specs.Reads.{AreReadFor};
 ghost use Rattle.run_answers.specs.Answered.{IsFound};
 
 use crate::loading::load;
@@ -28,6 +31,8 @@ pub(crate) fn find_run<F: Files, G: Gate + Sync, R: Threads + Wait + Sync, const
     ensures found { IsFound JMAX (Ok (request run.now))
         (F.holds files.old) (F.faults files.old) (F.faults files.new)
         result.answer result.output result.journal }
+    ensures read { AreReadFor (distinct (request run.now).files)
+        (use_of (F.reads files.old) (F.faults files.old)) (use_of (F.reads files.new) (F.faults files.new)) result.answer }
     ensures counted { F.faults files.old ≤ F.faults files.new }
     ensures same { F.holds files.new ≡ F.holds files.old }
 {

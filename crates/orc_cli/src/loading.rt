@@ -1,8 +1,9 @@
 //! The program that the words of a run name: the objects of its files.
-ghost use Rattle.std.specs.Prelude.{◌≡◌, ◌<◌, ◌≤◌, length, map, slice_get, codes, All, Some, IfOk, IfErr};
+ghost use Rattle.std.specs.Prelude.{◌≡◌, ◌<◌, ◌≤◌, length, map, slice_get, codes, All, Some, IfOk, IfErr, OnOk};
 ghost use Rattle.session_units.specs.Units.{meaning_of};
 ghost use Rattle.command_line.specs.Words.{request};
 ghost use Rattle.object_files.specs.Files.{AreNumbered, HasStopped, distinct};
+ghost use Rattle.object_files.specs.Reads.{AreReadIn, AreReadUntil, use_of};
 ghost use Rattle.orc_cli.specs.Loading.{AreShared, IsLoaded};
 
 use command_line::RunWords;
@@ -63,6 +64,10 @@ pub(crate) fn load<F: Files>(
     ensures loaded { IfOk result (λ l. IsLoaded (F.holds files.old) (request words.now) l) }
     ensures stopped { IfErr result (λ e.
         HasStopped (F.holds files.old) (F.faults files.old) (F.faults files.new) (distinct (request words.now).files) e) }
+    ensures read { OnOk result (AreReadIn (distinct (request words.now).files)
+        (use_of (F.reads files.old) (F.faults files.old)) (use_of (F.reads files.new) (F.faults files.new))) }
+    ensures read_until { IfErr result (AreReadUntil (distinct (request words.now).files)
+        (use_of (F.reads files.old) (F.faults files.old)) (use_of (F.reads files.new) (F.faults files.new))) }
     ensures counted { F.faults files.old ≤ F.faults files.new }
     ensures same { F.holds files.new ≡ F.holds files.old }
 {

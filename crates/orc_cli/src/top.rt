@@ -1,13 +1,14 @@
-ghost use Rattle.std.specs.Prelude.{◌≡◌, ◌≢◌, ◌≤◌, ℕ, map, All, None, Ok};
+ghost use Rattle.std.specs.Prelude.{◌≡◌, ◌≢◌, ◌≤◌, ◌∷◌, [], ℕ, length, map, All, None, Ok};
 ghost use Rattle.command_line.specs.Words.{asked_by};
 ghost use Rattle.answers.specs.Answers.{status_of};
 ghost use Rattle.answers.specs.Written.{held_by};
 ghost use Rattle.as_answers.specs.Clauses.{AsAnswers, as_call};
 ghost use Rattle.gen_answers.specs.Clauses.{GenAnswers, gen_call};
+ghost use Rattle.object_files.specs.Reads.{AreReadIn, use_of};
 ghost use Rattle.noted.specs.Heard.{AllHaveHeard};
 ghost use Rattle.run_answers.specs.Clauses.{Answers, call_of};
 ghost use Rattle.session_answers.specs.Clauses.{SessionAnswers, session_call};
-ghost use Rattle.orc_cli.specs.Asking.{ButForSession, ForAssembly, ForGeneration, ForRun, ForSession};
+ghost use Rattle.orc_cli.specs.Asking.{ButForSession, ForAssembly, ForGeneration, ForRun, ForSession, ReadsFiles, ReadsScript, files_of};
 
 use crate::asking::{Asked, ask};
 use crate::writing::write_found;
@@ -88,6 +89,18 @@ pub fn orc<
         (held_by (O.held out.old) (O.faults out.old)) (held_by (O.held out.new) (O.faults out.new))
         (held_by (L.held log.old) (L.faults log.old)) (held_by (L.held log.new) (L.faults log.new))) result.answer) }
 
+    // Of the files just those were read, each once and in order, that were read for what was found: those of the words, or of the
+    // script on the source, up to the first that isn't taken in. Only the last may have been a fault, and that is told. A session of
+    // generated objects reads none.
+    ensures run_reads { ForRun (asked_by words.now) (λ asked. ReadsFiles (files_of asked)
+        (use_of (F.reads files.old) (F.faults files.old)) (use_of (F.reads files.new) (F.faults files.new)) result.answer) }
+    ensures session_reads { ForSession (asked_by words.now) (λ workers. ReadsScript (S.left source.old) (length notes.items)
+        (use_of (F.reads files.old) (F.faults files.old)) (use_of (F.reads files.new) (F.faults files.new)) result.answer) }
+    ensures assembly_reads { ForAssembly (asked_by words.now) (λ file. ReadsFiles (file ∷ [])
+        (use_of (F.reads files.old) (F.faults files.old)) (use_of (F.reads files.new) (F.faults files.new)) result.answer) }
+    ensures generation_reads { ForGeneration (asked_by words.now) (λ objects. AreReadIn []
+        (use_of (F.reads files.old) (F.faults files.old)) (use_of (F.reads files.new) (F.faults files.new))) }
+
     // But for a session the source is not read. The files hold what they held. No count falls.
     ensures source_left { ButForSession (asked_by words.now) (S.left source.new ≡ S.left source.old) }
     ensures source_quiet { ButForSession (asked_by words.now) (S.faults source.new ≡ S.faults source.old) }
@@ -154,6 +167,18 @@ pub fn orc_sized<
     ensures generation { ForGeneration (asked_by words.now) (λ objects. GenAnswers JOURNAL_LIMIT (gen_call objects
         (held_by (O.held out.old) (O.faults out.old)) (held_by (O.held out.new) (O.faults out.new))
         (held_by (L.held log.old) (L.faults log.old)) (held_by (L.held log.new) (L.faults log.new))) result.answer) }
+
+    // Of the files just those were read, each once and in order, that were read for what was found: those of the words, or of the
+    // script on the source, up to the first that isn't taken in. Only the last may have been a fault, and that is told. A session of
+    // generated objects reads none.
+    ensures run_reads { ForRun (asked_by words.now) (λ asked. ReadsFiles (files_of asked)
+        (use_of (F.reads files.old) (F.faults files.old)) (use_of (F.reads files.new) (F.faults files.new)) result.answer) }
+    ensures session_reads { ForSession (asked_by words.now) (λ workers. ReadsScript (S.left source.old) (length notes.items)
+        (use_of (F.reads files.old) (F.faults files.old)) (use_of (F.reads files.new) (F.faults files.new)) result.answer) }
+    ensures assembly_reads { ForAssembly (asked_by words.now) (λ file. ReadsFiles (file ∷ [])
+        (use_of (F.reads files.old) (F.faults files.old)) (use_of (F.reads files.new) (F.faults files.new)) result.answer) }
+    ensures generation_reads { ForGeneration (asked_by words.now) (λ objects. AreReadIn []
+        (use_of (F.reads files.old) (F.faults files.old)) (use_of (F.reads files.new) (F.faults files.new))) }
 
     // But for a session the source is not read. The files hold what they held. No count falls.
     ensures source_left { ButForSession (asked_by words.now) (S.left source.new ≡ S.left source.old) }

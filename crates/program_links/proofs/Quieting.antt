@@ -22,14 +22,14 @@ use Rattle.session_laws.proofs.Settling.{settled_rows}
 use Rattle.closure_laws.proofs.Fields.{is_define}
 use Rattle.closure_laws.proofs.Histories.{OneMore, one_more, kept_along}
 use Rattle.closure_laws.proofs.RowMoving.{RowMoves, RowStays, RowYields, RowClaimed, RowResolved, RowEmitted, RowFails, RowGoes, RowRuns, RowHere, RowOn, change_rows, run_same}
-use Rattle.program_names.proofs.Staying.{keeps, keeps_change, keeps_undefined}
+use Rattle.program_names.proofs.Staying.{keeps, keeps_change, keeps_undefined, run_present}
 use Rattle.program_names.proofs.Waiting.{ask_comes_first}
 use Rattle.program_names.specs.Laws.{is_ask}
 use Rattle.program_names.specs.Programs.{IsProgram, keeps_names}
 
 -- Beginnings
 
-front_parts : (graphs : List LinkGraph) (h : List (Entry Meaning)) (p : IsProgram graphs h) (n : ℕ) → length p.setup ≤ n → take n h ≡ p.setup ++ take (n - length p.setup) p.later
+pub front_parts : (graphs : List LinkGraph) (h : List (Entry Meaning)) (p : IsProgram graphs h) (n : ℕ) → length p.setup ≤ n → take n h ≡ p.setup ++ take (n - length p.setup) p.later
 front_parts graphs h p n long = ap (take n) p.parts ∙ (ap (λ k. take k (p.setup ++ p.later)) whole ∙ take-append-add p.setup p.later (n - length p.setup))
   where
     whole : n ≡ length p.setup + (n - length p.setup)
@@ -73,19 +73,6 @@ asked_later jmax h l graphs p k q t = (kept_along jmax (λ g. (length p.setup �
     none j r e = absurd (none-some r (ap (λ qs. slice_get qs j) (sym (setup_queries jmax h l graphs p)) ∙ e))
 
 -- Instances
-
-move_present : (m : Plain) (c : Change Meaning) (i : ℕ) (r q : InstRow) → keeps c ≡ true → RowMoves m c i r q → r.present ≡ true → q.present ≡ true
-move_present m c i r _ l RowStays p = p
-move_present m c i r _ l (RowYields d f) p = absurd (both_ways (is_define c) (keeps_undefined c l) d)
-move_present m c i r _ l (RowClaimed e) p = p
-move_present m c i r _ l (RowResolved a e) p = p
-move_present m c i r _ l (RowEmitted u groups x is v t f own e) p = p
-move_present m c i r _ l RowFails p = p
-move_present m c i r _ l (RowGoes t is f) p = absurd (both_ways (keeps c) (ap keeps is) l)
-
-run_present : (m : Plain) (c : Change Meaning) (i : ℕ) (r q : InstRow) → keeps c ≡ true → RowRuns m c i r q → r.present ≡ true → q.present ≡ true
-run_present m c i r _ l RowHere p = p
-run_present m c i r _ l (RowOn s q a b) p = move_present m c i s q l b (run_present m c i r s l a p)
 
 -- a present instance of the unit and the offer that another one is of
 pub record IsStill (rows : List InstRow) (i : ℕ) (r : InstRow) : Type 0 where

@@ -187,7 +187,7 @@ move_present m c i r _ k (RowEmitted u groups x is v t f own e) h = h
 move_present m c i r _ k RowFails h = h
 move_present m c i r _ k (RowGoes t is f) h = absurd (both_ways (keeps c) (ap keeps is) k)
 
-run_present : (m : Plain) (c : Change Meaning) (i : ℕ) (r q : InstRow) → keeps c ≡ true → RowRuns m c i r q → r.present ≡ true → q.present ≡ true
+pub run_present : (m : Plain) (c : Change Meaning) (i : ℕ) (r q : InstRow) → keeps c ≡ true → RowRuns m c i r q → r.present ≡ true → q.present ≡ true
 run_present m c i r _ k RowHere h = h
 run_present m c i r q k (RowOn p _ a b) h = move_present m c i p q k b (run_present m c i r p k a h)
 

@@ -42,7 +42,7 @@ use Rattle.closure_laws.proofs.RowMoving.{SameRow, change_rows, run_same}
 use Rattle.program_names.proofs.Objects.{names_are_defined}
 use Rattle.program_names.specs.Programs.{IsProgram, keeps_names}
 use Rattle.program_links.proofs.Linked.{linked_by_names}
-use Rattle.program_links.proofs.Quieting.{still_there}
+use Rattle.program_links.proofs.Quieting.{front_parts, still_there}
 use Rattle.program_links.specs.Laws.{IsLinkedByNames, MemoryHoldsProgram}
 use Rattle.program_links.specs.Programs.{HasAddresses, name_spot, spots_by_name}
 use Rattle.static_links.specs.Links.{IsLinkedProgram, Spot}
@@ -51,12 +51,6 @@ use Rattle.run_answers.specs.ByNames.{members_at}
 use Rattle.run_answers.proofs.Found.{EntryFound}
 
 -- A program's history up to an entry
-
-front_parts : (graphs : List LinkGraph) (h : List (Entry Meaning)) (p : IsProgram graphs h) (n : ℕ) → length p.setup ≤ n → take n h ≡ p.setup ++ take (n - length p.setup) p.later
-front_parts graphs h p n long = ap (take n) p.parts ∙ (ap (λ k. take k (p.setup ++ p.later)) whole ∙ take-append-add p.setup p.later (n - length p.setup))
-  where
-    whole : n ≡ length p.setup + (n - length p.setup)
-    whole = omega (arith, long)
 
 -- what it begins with, from its set-up on, is the program's, with the same set-up
 abbrev front_program : (graphs : List LinkGraph) (h : List (Entry Meaning)) (p : IsProgram graphs h) (n : ℕ) → length p.setup ≤ n → IsProgram graphs (take n h)

@@ -15,7 +15,7 @@ use Rattle.object_files.specs.Files.{AreLoaded, HasStopped, Told, distinct}
 use Rattle.object_files.specs.declared.error.LoadError.{LoadError}
 use Rattle.object_files.specs.declared.error.LoadError.TheVariants as load
 use Rattle.run_laws.specs.declared.linked.Linked.{Linked}
-use Rattle.answers.specs.Written.{Held, HoldsWhole, HoldsAsBefore, HasFailed as FailedOn, whole, out_failed, log_failed, IsFinished}
+use Rattle.answers.specs.Written.{AreQuiet, Held, HoldsWhole, HoldsAsBefore, whole, out_failed, log_failed, IsFinished}
 use Rattle.answers.specs.Files.{file_answer}
 use Rattle.run_answers.specs.Answered.{HasSession, IsFound, in_words, in_files, in_session, wanting, IsAnswered, found}
 use Rattle.answers.specs.Files.{IsOfContents}
@@ -26,7 +26,7 @@ use Rattle.run_answers.specs.Lost.{lost_answer, refusal_of, unit_of}
 use Rattle.run_answers.specs.Sessions.{IsAnswerOf, Ran, NoEntry, NotReady, NotDefined, NoPlace, answer_of}
 use Rattle.answers.specs.declared.answer.Answer.{Answer}
 use Rattle.answers.specs.declared.answer.Answer.TheVariants.{AsmRefused, Done, Exited, Usage, ReadFault, FileFault, WriteFault, ScriptRefused, ObjectRefused, TooLong, Missing, LinkRefused, DepFailed, Trap, OutOfFuel, OutputFull, JournalFull, NoMemory, DefineRefused}
-use Rattle.answers.proofs.Sinks.{kept_as, whole_part}
+use Rattle.answers.proofs.Sinks.{kept_as, quiet_unless}
 use Rattle.answers.proofs.Stops.{fault_parts, file_cases, loaded_never_stops, stops_so}
 
 -- Answers of a session
@@ -259,8 +259,8 @@ module _ (jmax : ℕ) (asked : Result Request UsageKind) (told : Told) (before a
         session = f.2.session;
         output = w.output;
         answers = f.2.answers;
-        written = w.out_holds;
-        logged = subst (λ text. HoldsWhole log log' (text ++ end_line_of answer)) f.2.text w.log_holds;
+        written = w.out_holds.0;
+        logged = (subst (λ text. HoldsWhole log log' (text ++ end_line_of answer)) f.2.text w.log_holds).0;
       }
 
   pub log_line : Is → IsBefore answer → HoldsWhole log log' (end_line_of answer)
@@ -268,25 +268,26 @@ module _ (jmax : ℕ) (asked : Result Request UsageKind) (told : Told) (before a
       let w = wholly is (λ e. absurd (subst IsBefore e b)) in
       subst (λ text. HoldsWhole log log' (text ++ end_line_of answer)) (no_journal jmax asked told before after answer w.output w.journal w.is_found (λ i. not_both answer i b)) w.log_holds
 
-  pub write_fault : Is → answer ≡ WriteFault → FailedOn out out' ⊎ FailedOn log log'
+  pub write_fault : Is → answer ≡ WriteFault → Rose out.faults out'.faults ⊎ Rose log.faults log'.faults
   write_fault (found f output journal is (whole a _ _)) e = not_found jmax asked told before after f output journal is (sym a ∙ e)
-  write_fault (found f output journal is (out_failed _ r _ _)) e = inl r
-  write_fault (found f output journal is (log_failed _ r _ _)) e = inr r
+  write_fault (found f output journal is (out_failed _ r _ _)) e = inl r.0
+  write_fault (found f output journal is (log_failed _ r _ _)) e = inr r.0
 
   pub cut : Is → answer ≡ WriteFault → IsCut jmax (call_of asked told before after out out' log log')
   cut (found f output journal is (whole a _ _)) e = not_found jmax asked told before after f output journal is (sym a ∙ e)
-  cut (found f output journal is (out_failed _ _ ho hl)) e =
-      record { found = f; output = output; journal = journal; is_found = is; out_part = ho; log_part = (0, hl); out_first = inl hl }
-  cut (found f output journal is (log_failed _ _ ho hl)) e =
-      record { found = f; output = output; journal = journal; is_found = is; out_part = whole_part out out' output ho; log_part = hl; out_first = inr ho }
+  cut (found f output journal is (out_failed _ r ho hl)) e = record { found = f; output = output; journal = journal; is_found = is; sinks = inl (r, ho, hl) }
+  cut (found f output journal is (log_failed _ r ho hl)) e = record { found = f; output = output; journal = journal; is_found = is; sinks = inr (r, ho, hl) }
+
+  pub quiet : Is → answer ≢ WriteFault → AreQuiet out out' log log'
+  quiet (found f output journal is w) apart = quiet_unless out out' log log' f output journal answer w apart
 
   pub memory_wanting : Is → answer ≡ NoMemory → IsWanting (call_of asked told before after out out' log log')
   memory_wanting (found f output journal is (whole a ho hl)) e =
       let n : f ≡ NoMemory = sym a ∙ e in
       let none = no_journal jmax asked told before after f output journal is (λ i. absurd (subst IsInSession n i)) in
       record {
-        out_same = subst (λ text. HoldsWhole out out' text) (subst (λ x. Cause asked told before after x output) n (cause_of jmax asked told before after f output journal is)) ho;
-        logged = subst (λ text. HoldsWhole log log' (text ++ end_line_of NoMemory)) none (subst (λ x. HoldsWhole log log' (journal ++ end_line_of x)) n hl);
+        out_same = (subst (λ text. HoldsWhole out out' text) (subst (λ x. Cause asked told before after x output) n (cause_of jmax asked told before after f output journal is)) ho).0;
+        logged = (subst (λ text. HoldsWhole log log' (text ++ end_line_of NoMemory)) none (subst (λ x. HoldsWhole log log' (journal ++ end_line_of x)) n hl)).0;
       }
   memory_wanting (found f output journal is (out_failed a _ _ _)) e = absurd (cc)
   memory_wanting (found f output journal is (log_failed a _ _ _)) e = absurd (cc)

@@ -45,7 +45,7 @@ use Rattle.session_laws.proofs.Settling.{settled_queries}
 use Rattle.closure_laws.proofs.Ends.{FoundAt, found_parts}
 use Rattle.run_laws.specs.Runs.{IsRunBy, lookup_of}
 use Rattle.run_laws.proofs.Asking.{AnswersLookup, Nowhere, Somewhere, lookup_answers}
-use Rattle.run_laws.proofs.Ends.{ClientBegins, calls_later, client_begins, set_up_of}
+use Rattle.run_laws.proofs.Ends.{Asked, ClientBegins, EndsCollected, asks, calls_later, client_begins, set_up_of, still_asked, works_end}
 use Rattle.run_laws.proofs.Seats.{call_first, call_skipped, legal_at, never_empty, same_head, same_last, same_tail}
 
 -- The place of a call in the history
@@ -84,53 +84,6 @@ stands_at s n (x ∷ xs) before later c e = by_seat (λ front f. stands_at s (n 
     by_seat : Before → (x.seat.0 ≡ s) ⊎ (x.seat.0 ≡ s → ⊥) → StandsAt s n (x ∷ xs) c later
     by_seat stands (inl is) = by_front stands before (sym (call_first s n x xs is) ∙ e)
     by_seat stands (inr apart) = on (stands before (sym (call_skipped s n x xs apart) ∙ e))
-
--- The query of the lookup
-
--- it is there after the ask, with what the ask matched
-record Asked (m : Plain) (e : Entry Meaning) (entry : NameId) : Type 0 where
-  query : Query
-  there : slice_get (after m e).queries (length m.queries) ≡ Some query
-  asked : query.asked ≡ m.entries + 1
-  level : query.level ≡ Ready
-  found : query.matched ≡ matched m (lookup_of entry).order (lookup_of entry).wanted
-
-asks : (m : Plain) (e : Entry Meaning) (entry : NameId) (q : QueryId) → e.event ≡ lookup_event (lookup_of entry) → (e.reply ≡ reply.Done q) ⊎ (e.reply ≡ reply.Pending q) → Asked m e entry
-asks m e entry q is lodged = record { query = query; there = there; asked = refl; level = refl; found = refl }
-  where
-    query : Query
-    query = record { asked = m.entries + 1; matched = matched m (lookup_of entry).order (lookup_of entry).wanted; level = Ready; unit = None; note = None }
-
-    by_reply : (e.reply ≡ reply.Done q) ⊎ (e.reply ≡ reply.Pending q) → change_of m e.seat.0 (lookup_event (lookup_of entry)) e.reply ≡ Ask query.matched Ready None
-    by_reply (inl r) = ap (change_of m e.seat.0 (lookup_event (lookup_of entry))) r
-    by_reply (inr r) = ap (change_of m e.seat.0 (lookup_event (lookup_of entry))) r
-
-    change : change_of m e.seat.0 e.event e.reply ≡ Ask query.matched Ready None
-    change = ap (λ v. change_of m e.seat.0 v e.reply) is ∙ by_reply lodged
-
-    queries : (after m e).queries ≡ m.queries ++ query ∷ []
-    queries = settled_queries (changed (change_of m e.seat.0 e.event e.reply) m) ∙ (ap (λ (c : Change Meaning). (changed c m).queries) change ∙ ap (λ qs. qs ++ query ∷ []) (all_claimed_queries query.matched m))
-
-    there : slice_get (after m e).queries (length m.queries) ≡ Some query
-    there = ap (λ qs. slice_get qs (length m.queries)) queries ∙ pushed_last m.queries query
-
--- and later
-still_asked : (past more : List (Entry Meaning)) (e : Entry Meaning) (k : ℕ) (q : Query) → slice_get (after (state past) e).queries k ≡ Some q → slice_get (state (past ++ e ∷ more)).queries k ≡ Some q
-still_asked past more e k q t = ap (λ (m : Plain). slice_get m.queries k) (ap state (sym (append_assoc past (e ∷ []) more)) ∙ state_from_joined empty (past ++ e ∷ []) more)
-    ∙ query_stays (state (past ++ e ∷ [])) more k q (ap (λ (m : Plain). slice_get m.queries k) (state_from_push empty past e) ∙ t)
-
--- it is collected last
-record EndsCollected (q : QueryId) (cs : List (ℕ × Entry Meaning)) : Type 0 where
-  front : List (ℕ × Entry Meaning)
-  call : ℕ × Entry Meaning
-  are : cs ≡ front ++ call ∷ []
-  collects : call.1.event ≡ event.Collect q
-
-works_end : (h : List (Entry Meaning)) (q : QueryId) (n : ℕ) (cs : List (ℕ × Entry Meaning)) → Works h q n cs → EndsCollected q cs
-works_end h q n cs (Collects k m e is got) = record { front = []; call = (m, e); are = refl; collects = is }
-works_end h q n cs (AJob k m query last before rest there unmet job works) =
-    let p = works_end h q last.0 rest works in
-    record { front = before ++ last ∷ p.front; call = p.call; are = ap (λ l. before ++ last ∷ l) p.are ∙ sym (append_assoc before (last ∷ p.front) (p.call ∷ [])); collects = p.collects }
 
 -- What was found
 

@@ -40,6 +40,7 @@ use Rattle.answers.specs.declared.answer.Answer.{Answer}
 use Rattle.answers.specs.declared.answer.Answer.TheVariants.{JournalFull}
 use Rattle.run_answers.proofs.Clauses.{lost_as, session}
 use Rattle.run_answers.proofs.Words.{plain_units}
+use Rattle.run_laws.proofs.Calm.{claims_many, settled_many}
 
 -- There are at most as many units as entries
 
@@ -52,18 +53,6 @@ same_grown m n e = omega (arith, e)
 
 defined_grown : (d t : ℕ) (u : Meaning) (found : List Verdict) (m : Plain) → Grown m (defined d t u found m)
 defined_grown d t u found m = omega (arith, length-append (numbered (without_replaced m.rows found) 0 m.units) (new_unit t u found ∷ []), numbered_length (without_replaced m.rows found) 0 m.units)
-
-claim_same : (i : InstId) (m : Plain) → length (claimed_for i m).units ≡ length m.units
-claim_same i m = split (slice_get m.rows i.0)
-  where
-    split : (o : Option InstRow) → length (option_map_or (λ (r : InstRow). if is_unsearched r.phase then claimed r.unit.0 m else m) o m).units ≡ length m.units
-    split None = refl
-    split (Some r) = chosen (λ (n : Plain). length n.units ≡ length m.units) (is_unsearched r.phase) (claimed r.unit.0 m) m (λ b. changed_length r.unit.0 listed_unit m.units) (λ b. refl)
-
-claims_same : (os : List (Option InstId)) (m : Plain) → length (all_claimed os m).units ≡ length m.units
-claims_same [] m = refl
-claims_same (None ∷ os) m = claims_same os m
-claims_same (Some i ∷ os) m = claims_same os (claimed_for i m) ∙ claim_same i m
 
 changed_grown : (m : Plain) (c : Change Meaning) → Grown m (changed c m)
 changed_grown m Nothing = omega arith
@@ -78,7 +67,7 @@ changed_grown m (Generate k found) = split (slice_get m.generators k.0)
     split None = omega arith
     split (Some x) = defined_grown x.dylib x.tracker x.meaning found m
 changed_grown m (Spend k) = omega arith
-changed_grown m (Ask found lev n) = omega (arith, claims_same found m)
+changed_grown m (Ask found lev n) = omega (arith, claims_many found m)
 changed_grown m (Start t u) = omega (arith, changed_length u.0 (started_unit t.0) m.units)
 changed_grown m (Finish t u how) = omega (arith, changed_length u.0 (finishing_unit t.0 how) m.units)
 changed_grown m (Place u base) = omega (arith, changed_length u.0 (placed_unit base) m.units)
@@ -87,7 +76,7 @@ changed_grown m (Resolve u) = split (slice_get m.units u.0)
     split : (o : Option UnitRow) → Grown m (option_map_or (λ (x : UnitRow). record m { rows = map (resolved_row u.0 (resolved_unit x)) m.rows; units = changed_at u.0 resolved_unit m.units }) o m)
     split None = omega arith
     split (Some x) = omega (arith, changed_length u.0 resolved_unit m.units)
-changed_grown m (Link u found) = omega (arith, changed_length u.0 (waiting_unit (length m.queries)) (all_claimed found m).units, claims_same found m)
+changed_grown m (Link u found) = omega (arith, changed_length u.0 (waiting_unit (length m.queries)) (all_claimed found m).units, claims_many found m)
 changed_grown m (Emit u groups) = omega (arith, changed_length u.0 done_unit m.units)
 changed_grown m (Fail u) = omega (arith, changed_length u.0 failed_unit m.units)
 changed_grown m (Move t to) = chosen (Grown m) (t.0 == to.0) m (record m { units = map (moved_unit t.0 to.0) m.units; generators = map (moved_generator t.0 to.0) m.generators; trackers = changed_at t.0 gone_tracker m.trackers })
@@ -96,14 +85,11 @@ changed_grown m (Move t to) = chosen (Grown m) (t.0 == to.0) m (record m { units
 changed_grown m (Remove t) = omega (arith, mapped_length (removed_unit t.0) m.units)
 changed_grown m (LetGo t u) = omega (arith, changed_length u.0 (let_go_unit t.0) m.units)
 
-settled_same : (m : Plain) → length (settled m).units ≡ length m.units
-settled_same m = settling_keeps (λ n. length n.units ≡ length m.units) (λ u k q n p w b e. changed_length u linked_unit n.units ∙ p) 0 m.queries m refl
-
 units_along : (m : Plain) (es : List (Entry Meaning)) → length (state_from m es).units ≤ length m.units + length es
 units_along m [] = omega arith
 units_along m (e ∷ es) =
     let n = changed (change_of m e.seat.0 e.event e.reply) m in
-    omega (arith, units_along (after m e) es, settled_same n, changed_grown m (change_of m e.seat.0 e.event e.reply))
+    omega (arith, units_along (after m e) es, settled_many n, changed_grown m (change_of m e.seat.0 e.event e.reply))
 
 few_kept : (h : List (Entry Meaning)) → kept (state h) ≤ length h
 few_kept h = omega (arith, units_along empty h, count_by-le-length (λ (x : UnitRow). is_some x.seat) (state h).units)

@@ -229,8 +229,9 @@ module _ (holds : MemoryHoldsProgram) (jmax : ℕ) (asked : Result Request Usage
     session_told = clauses.session_told jmax asked told before after out out' log log' answer answered;
     session = clauses.session jmax asked told before after out out' log log' answer answered;
     by_names = by_names;
-    out_quiet = clauses.out_quiet jmax asked told before after out out' log log' answer answered;
-    log_line = clauses.log_line jmax asked told before after out out' log log' answer answered;
+    out_quiet = λ q. (clauses.out_quiet jmax asked told before after out out' log log' answer answered q).0;
+    log_line = λ b. (clauses.log_line jmax asked told before after out out' log log' answer answered b).0;
+    quiet = clauses.quiet jmax asked told before after out out' log log' answer answered;
     cut = clauses.cut jmax asked told before after out out' log log' answer answered;
     wanting = clauses.memory_wanting jmax asked told before after out out' log log' answer answered;
   }

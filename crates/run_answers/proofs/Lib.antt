@@ -5,3 +5,4 @@ pub mod Quiet
 pub mod Found
 pub mod ByNames
 pub mod Kept
+pub mod Reading

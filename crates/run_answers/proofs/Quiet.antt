@@ -29,7 +29,7 @@ use Rattle.session_laws.proofs.Readying.{legal_rest}
 use Rattle.program_names.specs.Programs.{keeps_names}
 use Rattle.run_laws.specs.Runs.{AreJobs, IsRunBy, NoJob, OneMore as AnotherJob, lookup_of}
 use Rattle.run_laws.proofs.Calm.{IsCall, IsUnoffered, Unoffered, is_call, is_offer, never_offered}
-use Rattle.run_laws.proofs.Costs.{NumberedCall, each_front, each_joined, jobs_cost, looks_cost}
+use Rattle.run_laws.proofs.Costs.{NumberedCall, each_back, each_front, each_joined, either_way, from_entries, jobs_cost, looks_cost, to_entries}
 use Rattle.run_laws.proofs.Ends.{calls_later, set_up_of}
 use Rattle.run_laws.proofs.Sums.{each_call, each_entry}
 
@@ -45,10 +45,6 @@ quiet_none es e = subst Quiet (sym e) (λ un. tt)
 
 quiet_cons : (e : Entry Meaning) (es : List (Entry Meaning)) → Keeps e → Quiet es → Quiet (e ∷ es)
 quiet_cons e es keeps quiet = λ un. (keeps, quiet un.1)
-
-each_back : {X : Type 0} (P : X → Type 0) (xs ys : List X) → AllByRecursion P (xs ++ ys) → AllByRecursion P ys
-each_back P [] ys a = a
-each_back P (x ∷ xs) ys a = each_back P xs ys a.1
 
 quiet_joined : (es fs : List (Entry Meaning)) → Quiet es → Quiet fs → Quiet (es ++ fs)
 quiet_joined es fs p q = λ un. each_joined Keeps es fs (p (each_front IsUnoffered es fs un)) (q (each_back IsUnoffered es fs un))
@@ -130,10 +126,6 @@ emits_quiet : (u : UnitId) (refusal : Option (Place × ℕ × ℤ)) (es : List (
 emits_quiet u refusal es (inl c) = cut_quiet u es c
 emits_quiet u refusal es (inr f) = ends_finish_quiet u refusal es f
 
-either_way : {G : Type 0} (b : Bool) (P Q : Type 0) → (P → G) → (Q → G) → MatchBool b P Q → G
-either_way true P Q f g m = f m
-either_way false P Q f g m = g m
-
 after_start_quiet : (m : Plain) (u : UnitId) (es : List (Entry Meaning)) → AfterStart m u es → Quiet es
 after_start_quiet m u es f = either_way (unit_test is_alias m u) (Links u es) _
     (links_quiet u es)
@@ -185,14 +177,6 @@ ends_ask_quiet h n _ cs e = absurd e
 looks_quiet : (h : List (Entry Meaning)) (l : Lookup) (cs : List (ℕ × Entry Meaning)) → Looks h l cs → QuietCalls cs
 looks_quiet h l cs (Looks.Asks n e ds is ends) = quiet_cons e (entries ds) (ap keeps_names is) (ends_ask_quiet h n e.reply ds ends)
 looks_quiet h l cs (Looks.Again n m e f g ds is o uses looks) = λ un. offered_not e (event.Ask l.order l.wanted l.level l.note) g (λ a. a) is o un.0
-
-from_entries : (P : Entry Meaning → Type 0) (cs : List (ℕ × Entry Meaning)) → AllByRecursion P (entries cs) → AllByRecursion (λ (c : ℕ × Entry Meaning). P c.1) cs
-from_entries P [] a = tt
-from_entries P (c ∷ cs) a = (a.0, from_entries P cs a.1)
-
-to_entries : (P : Entry Meaning → Type 0) (cs : List (ℕ × Entry Meaning)) → AllByRecursion (λ (c : ℕ × Entry Meaning). P c.1) cs → AllByRecursion P (entries cs)
-to_entries P [] a = tt
-to_entries P (c ∷ cs) a = (a.0, to_entries P cs a.1)
 
 -- The calls of a run whose client looked the entry up and copied the memory
 

@@ -1,5 +1,5 @@
 -- What the top call promises: when each answer comes, and what the sinks have then gained.
-use Rattle.std.specs.Prelude.{◌≡◌, ◌<◌, ◌++◌, ℕ, ◌⊎◌, List, [], ◌∷◌, length, take, Option, Some, Result, Ok, Err}
+use Rattle.std.specs.Prelude.{◌≡◌, ◌≢◌, ◌<◌, ◌++◌, ℕ, ◌⊎◌, List, [], ◌∷◌, length, take, Option, Some, Result, Ok, Err}
 use Rattle.std.specs.Io.KnownBytes.{Appends}
 use Rattle.orc_io.specs.Causes.{Rose}
 use Rattle.exec_run.specs.declared.ran.RunEnd.{RunEnd}
@@ -12,7 +12,7 @@ use Rattle.journal_text.specs.Journal.{text_of_history}
 use Rattle.object_files.specs.Files.{AreLoaded, HasStopped, Told, distinct}
 use Rattle.object_files.specs.declared.error.LoadError.{LoadError}
 use Rattle.run_laws.specs.declared.linked.Linked.{Linked}
-use Rattle.answers.specs.Written.{AppendsPart, Held}
+use Rattle.answers.specs.Written.{AreCut, AreQuiet, Held}
 use Rattle.answers.specs.Files.{IsOfContents, file_answer}
 use Rattle.run_answers.specs.Answered.{IsFound}
 use Rattle.run_answers.specs.ByNames.{IsProgramRun}
@@ -104,15 +104,13 @@ pub record IsRunOfProgram (jmax : ℕ) (c : Call) (answer : Answer) : Type 0 whe
   pub agrees : (end : RunEnd) (output : List ℕ) → IsProgramRun of_session.run.files of_session.session.loaded.graphs of_session.session.entry.0 of_session.run.fuel (take number of_session.history) end output →
       (answer ≡ answer_of end) × Appends c.out_before.bytes c.out_after.bytes output
 
--- after a write that failed: what was found stands on the sinks in part, and log has none of it unless out has all
+-- after a write that failed: what was found stands on the sinks in part
 pub record IsCut (jmax : ℕ) (c : Call) : Type 0 where
   pub found : Answer
   pub output : List ℕ
   pub journal : List ℕ
   pub is_found : IsFound jmax c.asked c.told c.faults_before c.faults_after found output journal
-  pub out_part : AppendsPart c.out_before.bytes c.out_after.bytes output
-  pub log_part : AppendsPart c.log_before.bytes c.log_after.bytes (journal ++ end_line_of found)
-  pub out_first : Appends c.log_before.bytes c.log_after.bytes [] ⊎ Appends c.out_before.bytes c.out_after.bytes output
+  pub sinks : AreCut c.out_before c.out_after c.log_before c.log_after output (journal ++ end_line_of found)
 
 -- where memory ran out: out is as before, and log has gained the end line alone
 pub record IsWanting (c : Call) : Type 0 where
@@ -146,6 +144,8 @@ pub record Answers (jmax : ℕ) (c : Call) (answer : Answer) : Type 0 where
   -- out has gained nothing where nothing ran, and log the end line alone where no session was begun
   pub out_quiet : IsQuiet answer → Appends c.out_before.bytes c.out_after.bytes []
   pub log_line : IsBefore answer → Appends c.log_before.bytes c.log_after.bytes (end_line_of answer)
+  -- no write failed unless the answer says so
+  pub quiet : answer ≢ WriteFault → AreQuiet c.out_before c.out_after c.log_before c.log_after
   -- after a write that failed each sink has gained a first part of its text, and where memory ran out log the end line alone
   pub cut : answer ≡ WriteFault → IsCut jmax c
   pub wanting : answer ≡ NoMemory → IsWanting c

@@ -9,14 +9,18 @@ use Rattle.session_script.specs.declared.error.ScriptWhy.{ScriptWhy}
 use Rattle.session_script.specs.declared.script.Script.{Script}
 use Rattle.script_plan.specs.Asked.{asked_script}
 use Rattle.script_promises.proofs.Kept.{script_keeps_promises}
+use Rattle.orc_io.specs.Causes.{Rose}
 use Rattle.answers.specs.EndLine.{end_line_of}
 use Rattle.answers.specs.Files.{IsOfContents, file_answer}
-use Rattle.answers.specs.Written.{HasFailed as FailedOn, HoldsAsBefore, HoldsWhole, IsWritten, whole, out_failed, log_failed}
+use Rattle.answers.specs.Reads.{HoldsOfFound}
+use Rattle.answers.specs.Written.{HoldsAsBefore, HoldsWhole, IsFinished, IsWritten, whole, out_failed, log_failed}
 use Rattle.answers.specs.declared.answer.Answer.{Answer}
 use Rattle.answers.specs.declared.answer.Answer.TheVariants.{Done, ReadFault, FileFault, WriteFault, ScriptRefused, ObjectRefused, TooLong, JournalFull, NoMemory}
-use Rattle.answers.proofs.Sinks.{kept_as, whole_part}
+use Rattle.answers.proofs.Reading.{finished_found}
+use Rattle.answers.proofs.Sinks.{kept_as, quiet_unless}
 use Rattle.session_answers.specs.Clauses.{Call, Finds, HasFailed, HasFault, HasReadFault, IsAsked, IsBefore, IsCut, IsOfSession, IsWanting, OfSession, SessionAnswers}
 use Rattle.session_answers.specs.Found.{wanting}
+use Rattle.session_answers.specs.Reads.{IsSourceReadFor}
 use Rattle.session_answers.specs.Laws.{SessionAnswersAreKept}
 use Rattle.session_answers.proofs.Causes.{Cause, Session, answer_of, cause_of, no_text, write_later}
 use Rattle.session_answers.proofs.Determined.{loaded_found, refused_found, stopped_found}
@@ -62,8 +66,8 @@ module _ {N : Type 0} (heard : N → Option Outcome) (jmax : ℕ) (c : Call N) (
         session = s.session;
         promises = script_keeps_promises jmax c.workers (asked_script s.session.units s.script) s.stopped s.ends s.history s.session.run;
         answers = s.answers;
-        written = subst (λ text. HoldsWhole c.out_before c.out_after text) s.text h.out_holds;
-        logged = h.log_holds;
+        written = (subst (λ text. HoldsWhole c.out_before c.out_after text) s.text h.out_holds).0;
+        logged = h.log_holds.0;
         notes = s.notes quiet;
       }
 
@@ -81,15 +85,15 @@ module _ {N : Type 0} (heard : N → Option Outcome) (jmax : ℕ) (c : Call N) (
   untold : Written → IsBefore answer → c.back ≡ map Unfired c.handed
   untold w b = (no_text heard jmax c answer output (before_wholly w b).found b).1
 
-  write_fault : Written → answer ≡ WriteFault → FailedOn c.out_before c.out_after ⊎ FailedOn c.log_before c.log_after
+  write_fault : Written → answer ≡ WriteFault → Rose c.out_before.faults c.out_after.faults ⊎ Rose c.log_before.faults c.log_after.faults
   write_fault (whole a _ _) e = absurd (subst (λ x. Cause heard jmax c x output) (sym a ∙ e) (cause_of heard jmax c f output is))
-  write_fault (out_failed _ r _ _) e = inl r
-  write_fault (log_failed _ r _ _) e = inr r
+  write_fault (out_failed _ r _ _) e = inl r.0
+  write_fault (log_failed _ r _ _) e = inr r.0
 
   cut : Written → answer ≡ WriteFault → IsCut heard jmax c
   cut (whole a _ _) e = absurd (subst (λ x. Cause heard jmax c x output) (sym a ∙ e) (cause_of heard jmax c f output is))
-  cut (out_failed _ _ ho hl) e = record { found = f; output = output; is_found = is; out_part = ho; log_part = (0, hl); out_first = inl hl }
-  cut (log_failed _ _ ho hl) e = record { found = f; output = output; is_found = is; out_part = whole_part c.out_before c.out_after output ho; log_part = hl; out_first = inr ho }
+  cut (out_failed _ r ho hl) e = record { found = f; output = output; is_found = is; sinks = inl (r, ho, hl) }
+  cut (log_failed _ r ho hl) e = record { found = f; output = output; is_found = is; sinks = inr (r, ho, hl) }
 
   memory_wanting : Written → answer ≡ NoMemory → IsWanting heard jmax c
   memory_wanting w e =
@@ -97,8 +101,8 @@ module _ {N : Type 0} (heard : N → Option Outcome) (jmax : ℕ) (c : Call N) (
       record {
         output = output;
         is_found = subst (λ x. Finds heard jmax c x output) e h.found;
-        written = h.out_holds;
-        logged = subst (λ x. HoldsWhole c.log_before c.log_after (end_line_of x)) e h.log_holds;
+        written = h.out_holds.0;
+        logged = (subst (λ x. HoldsWhole c.log_before c.log_after (end_line_of x)) e h.log_holds).0;
       }
 
   in_form : Written → IsOfSession answer ⊎ IsBefore answer ⊎ HasFailed answer
@@ -113,25 +117,33 @@ module _ {N : Type 0} (heard : N → Option Outcome) (jmax : ℕ) (c : Call N) (
   script_told : Written → (line : ℕ) (why : ScriptWhy) → (f ≡ ScriptRefused line why) ⊎ HasReadFault f → (answer ≡ ScriptRefused line why) ⊎ HasReadFault answer
   script_told w line why p = kept_as (λ x. (x ≡ ScriptRefused line why) ⊎ HasReadFault x) c.out_before c.out_after c.log_before c.log_after f output [] answer w p (inr (inr (inl refl)))
 
-  answers : Written → SessionAnswers heard jmax c answer
-  answers w = record {
+  answers : HoldsOfFound (IsSourceReadFor c.source_before.faults c.source_after.faults) answer → Written → SessionAnswers heard jmax c answer
+  answers source w = record {
     answers = in_form w;
     read_fault = λ e. caused ReadFault e (λ q. cc) w;
     file_fault = λ k e. caused (FileFault k) e (λ q. cc) w;
     write_fault = write_fault w;
+    source = source;
     script_only = λ line why e. caused (ScriptRefused line why) e (λ q. cc) w;
     script_told = λ bytes line why told bad. script_told w line why (refused_found heard jmax c bytes told line why f output bad is);
     file_only = file_only w;
     file_told = λ bytes script e told asked contents files_told of stopped. told_as (λ x. x ≡ file_answer e) w (stopped_found heard jmax c bytes told script asked contents files_told e f output of stopped is);
     session_told = λ bytes script names units told asked contents files_told loaded. told_as IsOfSession w (loaded_found heard jmax c bytes told script asked contents files_told names units f output loaded is);
     session = session w;
-    out_quiet = out_quiet w;
-    log_line = λ b. (before_wholly w b).log_holds;
+    out_quiet = λ b. (out_quiet w b).0;
+    log_line = λ b. (before_wholly w b).log_holds.0;
     untold = untold w;
+    quiet = quiet_unless c.out_before c.out_after c.log_before c.log_after f output [] answer w;
     cut = cut w;
     wanting = memory_wanting w;
   }
 
 pub session_answers_are_kept : {N : Type 0} → SessionAnswersAreKept N
-session_answers_are_kept heard jmax c found answer output is (inl w) = answers heard jmax c found answer output is w
-session_answers_are_kept heard jmax c found answer output is (inr w) = answers heard jmax c NoMemory answer [] (wanting refl refl) w
+session_answers_are_kept heard jmax c found answer output is read finished = by finished
+  where
+    source : HoldsOfFound (IsSourceReadFor c.source_before.faults c.source_after.faults) answer
+    source = finished_found (IsSourceReadFor c.source_before.faults c.source_after.faults) c.out_before c.out_after c.log_before c.log_after found output [] answer finished read
+
+    by : IsFinished c.out_before c.out_after c.log_before c.log_after found output [] answer → SessionAnswers heard jmax c answer
+    by (inl w) = answers heard jmax c found answer output is source w
+    by (inr w) = answers heard jmax c NoMemory answer [] (wanting refl refl) source w

@@ -1,3 +1,4 @@
 pub mod Causes
 pub mod Determined
 pub mod Kept
+pub mod Reading

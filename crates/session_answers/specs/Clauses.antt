@@ -1,5 +1,5 @@
 -- What a call of `orc session` promises: when each answer comes, and what the sinks have then gained.
-use Rattle.std.specs.Prelude.{◌≡◌, ℕ, ◌+◌, ◌<◌, ◌⊎◌, List, [], length, map, take, Option, Some, Result, Ok, Err}
+use Rattle.std.specs.Prelude.{◌≡◌, ◌≢◌, ℕ, ◌+◌, ◌<◌, ◌⊎◌, List, [], length, map, take, Option, Some, Result, Ok, Err}
 use Rattle.std.specs.Io.KnownBytes.{Appends}
 use Rattle.orc_ids.specs.declared.lookup.Outcome.{Outcome}
 use Rattle.orc_ids.specs.declared.lookup.Stop.{Stop}
@@ -23,10 +23,12 @@ use Rattle.answers.specs.declared.answer.Answer.{Answer}
 use Rattle.answers.specs.declared.answer.Answer.TheVariants.{Done, FileFault, JournalFull, NoMemory, ReadFault, ScriptRefused, WriteFault}
 use Rattle.answers.specs.EndLine.{end_line_of}
 use Rattle.answers.specs.Files.{IsOfContents, file_answer}
-use Rattle.answers.specs.Written.{AppendsPart, Held}
+use Rattle.answers.specs.Reads.{HoldsOfFound}
+use Rattle.answers.specs.Written.{AreCut, AreQuiet, Held}
 use Rattle.session_answers.specs.Ends.{session_answer}
 use Rattle.session_answers.specs.Found.{IsFound, IsRefusedOn}
 use Rattle.session_answers.specs.Notes.{AreBack}
+use Rattle.session_answers.specs.Reads.{IsSourceReadFor}
 use Rattle.session_answers.specs.Texts.{IsScriptOn, IsSession, counted, session_text}
 
 -- What a call was handed and what it left: how many workers the words ask for, the notifiers, what the source has left, the files, out and
@@ -114,14 +116,12 @@ module _ {N : Type 0} (heard : N → Option Outcome) (jmax : ℕ) (c : Call N) w
     pub logged : Appends c.log_before.bytes c.log_after.bytes (end_line_of answer)
     pub notes : AreBack heard history (length c.handed) c.back
 
-  -- after a write that failed: what was found stands on the sinks in part, and log has none of it unless out has all
+  -- after a write that failed: what was found stands on the sinks in part
   pub record IsCut : Type 0 where
     pub found : Answer
     pub output : List ℕ
     pub is_found : Finds found output
-    pub out_part : AppendsPart c.out_before.bytes c.out_after.bytes output
-    pub log_part : AppendsPart c.log_before.bytes c.log_after.bytes (end_line_of found)
-    pub out_first : Appends c.log_before.bytes c.log_after.bytes [] ⊎ Appends c.out_before.bytes c.out_after.bytes output
+    pub sinks : AreCut c.out_before c.out_after c.log_before c.log_after output (end_line_of found)
 
   -- where memory ran out: out has gained the text of a session in which that was found, or nothing, and log the end line
   pub record IsWanting : Type 0 where
@@ -138,6 +138,8 @@ module _ {N : Type 0} (heard : N → Option Outcome) (jmax : ℕ) (c : Call N) w
     pub read_fault : answer ≡ ReadFault → Rose c.source_before.faults c.source_after.faults
     pub file_fault : (k : ℕ) → answer ≡ FileFault k → (script : Script) × IsAsked c script × (k < length script.files) × Rose c.faults_before c.faults_after
     pub write_fault : answer ≡ WriteFault → Rose c.out_before.faults c.out_after.faults ⊎ Rose c.log_before.faults c.log_after.faults
+    -- the source has counted one fault more where that it couldn't be read was found, and else none
+    pub source : HoldsOfFound (IsSourceReadFor c.source_before.faults c.source_after.faults) answer
     -- a line is refused only where it is the first bad one, for that reason; and where the source tells its bytes, exactly there
     pub script_only : (line : ℕ) (why : ScriptWhy) → answer ≡ ScriptRefused line why → IsRefusedOn c.source_before.bytes (counted (length c.handed)) line why
     pub script_told : (bytes : List ℕ) (line : ℕ) (why : ScriptWhy) → c.source_before.bytes ≡ Some bytes → script_in c bytes ≡ Err (BadLine line why) → (answer ≡ ScriptRefused line why) ⊎ HasReadFault answer
@@ -155,6 +157,8 @@ module _ {N : Type 0} (heard : N → Option Outcome) (jmax : ℕ) (c : Call N) w
     pub out_quiet : IsBefore answer → Appends c.out_before.bytes c.out_after.bytes []
     pub log_line : IsBefore answer → Appends c.log_before.bytes c.log_after.bytes (end_line_of answer)
     pub untold : IsBefore answer → c.back ≡ map Unfired c.handed
+    -- no write failed unless the answer says so
+    pub quiet : answer ≢ WriteFault → AreQuiet c.out_before c.out_after c.log_before c.log_after
     -- after a write that failed each sink has gained a first part of its text; where memory ran out, out has that of a session, or nothing
     pub cut : answer ≡ WriteFault → IsCut
     pub wanting : answer ≡ NoMemory → IsWanting

@@ -4,7 +4,8 @@ use Rattle.orc_ids.specs.declared.lookup.Outcome.{Outcome}
 use Rattle.answers.specs.declared.answer.Answer.{Answer}
 use Rattle.answers.specs.Written.{IsFinished}
 use Rattle.session_answers.specs.Clauses.{Call, Finds, SessionAnswers}
+use Rattle.session_answers.specs.Reads.{IsSourceReadFor}
 
 abbrev pub SessionAnswersAreKept : Type 0 → Type 0
 SessionAnswersAreKept N = (heard : N → Option Outcome) (jmax : ℕ) (c : Call N) (found answer : Answer) (output : List ℕ) →
-    Finds heard jmax c found output → IsFinished c.out_before c.out_after c.log_before c.log_after found output [] answer → SessionAnswers heard jmax c answer
+    Finds heard jmax c found output → IsSourceReadFor c.source_before.faults c.source_after.faults found → IsFinished c.out_before c.out_after c.log_before c.log_after found output [] answer → SessionAnswers heard jmax c answer

@@ -4,3 +4,4 @@ pub mod Ends
 pub mod Found
 pub mod Clauses
 pub mod Laws
+pub mod Reads

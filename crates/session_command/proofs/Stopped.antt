@@ -8,7 +8,9 @@ use Rattle.session_script.specs.declared.script.Script.{Script}
 use Rattle.answers.specs.declared.answer.Answer.{Answer}
 use Rattle.session_answers.specs.Found as found
 use Rattle.session_answers.specs.Found.{IsFound, refused, unread, in_source, in_script, wanting}
+use Rattle.session_answers.specs.Reads.{IsSourceReadFor}
 use Rattle.session_answers.specs.Texts.{IsScriptOn, counted}
+use Rattle.session_answers.proofs.Reading.{source_of_file}
 use Rattle.session_command.specs.Loading.{HasStoppedAt, HasStoppedIn, in_files, unasked}
 use Rattle.session_command.specs.declared.command.Loaded.{Loaded}
 
@@ -23,3 +25,8 @@ silent_found heard jmax workers handed left first read told before after why ans
 silent_found heard jmax workers handed left first read told before after why answer output back (unasked (unread (inr e))) a o b = wanting (a ∙ e) o
 silent_found heard jmax workers handed left first read told before after why answer output back (unasked (refused line cause is e)) a o b = in_script line cause is (a ∙ e) o b
 silent_found heard jmax workers handed left first read told before after why answer output back (in_files script on s) a o b = found.in_files script s.error on s.stopped (a ∙ s.answers) o b
+
+-- the source was read before a file that isn't taken in
+pub source_of_script : (first read : ℕ) (told : Told) (before after : ℕ) (script : Script) (r : Result Loaded Answer) → read ≡ first → IfErr r (HasStoppedAt told before after script) → IfErr r (IsSourceReadFor first read)
+source_of_script first read told before after script (Ok loaded) same stopped = tt
+source_of_script first read told before after script (Err answer) same stopped = source_of_file first read answer stopped.error stopped.answers same

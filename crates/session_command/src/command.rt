@@ -1,9 +1,12 @@
 //! The whole command.
-ghost use Rattle.std.specs.Prelude.{◌≡◌, ◌≢◌, ◌≤◌, ℕ, List, [], All, Option, None, length, map, IfErr, IfOk, IsTrue};
+ghost use Rattle.std.specs.Prelude.{◌≡◌, ◌≢◌, ◌≤◌, ℕ, List, [], All, Option, None, length, map, IfErr, IfOk, OnOk, IsTrue};
 ghost use Rattle.execution_session.specs.declared.session.TheConstants.{JOURNAL_LIMIT};
 ghost use Rattle.noted.specs.Heard.{AllHaveHeard};
 ghost use Rattle.object_files.specs.Files.{Told};
+ghost use Rattle.object_files.specs.Reads.{AreReadIn, use_of};
+ghost use Rattle.answers.specs.Reads.{AreReadFor};
 ghost use Rattle.session_answers.specs.Found.{HasSession, IsFound};
+ghost use Rattle.session_answers.specs.Reads.{AreScriptRead, IsReadWhole, IsSourceReadFor};
 ghost use Rattle.session_answers.specs.Texts.{counted};
 ghost use Rattle.session_command.specs.Loading.{HasStoppedAt, HasStoppedIn, HasUnits, IsLoaded};
 
@@ -118,6 +121,12 @@ fn load<S: Source, F: Files>(
     ensures loaded { IfOk result (IsLoaded (S.left source.old) notes (F.holds files.old)) }
     ensures stopped { IfErr result (HasStoppedIn (S.left source.old) notes (S.faults source.old) (S.faults source.new)
         (F.holds files.old) (F.faults files.old) (F.faults files.new)) }
+    ensures read { OnOk result (IsReadWhole (S.left source.old) notes
+        (use_of (F.reads files.old) (F.faults files.old)) (use_of (F.reads files.new) (F.faults files.new))) }
+    ensures read_for { IfErr result (AreScriptRead (S.left source.old) notes
+        (use_of (F.reads files.old) (F.faults files.old)) (use_of (F.reads files.new) (F.faults files.new))) }
+    ensures source_quiet { OnOk result (S.faults source.new ≡ S.faults source.old) }
+    ensures source_read { IfErr result (IsSourceReadFor (S.faults source.old) (S.faults source.new)) }
     ensures source_counted { S.faults source.old ≤ S.faults source.new }
     ensures counted { F.faults files.old ≤ F.faults files.new }
     ensures same { F.holds files.new ≡ F.holds files.old }
@@ -132,6 +141,10 @@ fn load<S: Source, F: Files>(
 fn load_script<F: Files>(alloc: Global, script: Script, files: &mut F) -> Result<Loaded, Answer>
     ensures loaded { IfOk result (HasUnits (F.holds files.old) script) }
     ensures stopped { IfErr result (HasStoppedAt (F.holds files.old) (F.faults files.old) (F.faults files.new) script) }
+    ensures read { OnOk result (AreReadIn script.files
+        (use_of (F.reads files.old) (F.faults files.old)) (use_of (F.reads files.new) (F.faults files.new))) }
+    ensures read_for { IfErr result (AreReadFor script.files
+        (use_of (F.reads files.old) (F.faults files.old)) (use_of (F.reads files.new) (F.faults files.new))) }
     ensures counted { F.faults files.old ≤ F.faults files.new }
     ensures same { F.holds files.new ≡ F.holds files.old }
 {
@@ -209,6 +222,9 @@ pub fn find_session<
     requires unheard { All (λ n. N.heard n ≡ None) notes.items }
     ensures found { IsFound N.heard JMAX workers notes.items (S.left source.old) (S.faults source.old) (S.faults source.new)
         (F.holds files.old) (F.faults files.old) (F.faults files.new) result.answer result.output result.notes }
+    ensures read { AreScriptRead (S.left source.old) (counted (length notes.items))
+        (use_of (F.reads files.old) (F.faults files.old)) (use_of (F.reads files.new) (F.faults files.new)) result.answer }
+    ensures source_read { IsSourceReadFor (S.faults source.old) (S.faults source.new) result.answer }
     ensures heard { AllHaveHeard N.heard result.notes }
     ensures source_counted { S.faults source.old ≤ S.faults source.new }
     ensures counted { F.faults files.old ≤ F.faults files.new }

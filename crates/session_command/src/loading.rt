@@ -1,10 +1,12 @@
 //! The units of a script's files.
-ghost use Rattle.std.specs.Prelude.{◌≡◌, ◌≤◌, length, map, IfOk, IfErr};
+ghost use Rattle.std.specs.Prelude.{◌≡◌, ◌≤◌, length, map, IfOk, IfErr, OnOk};
 ghost use Rattle.orc_names.specs.Numbers.{KeepsNumbers};
 ghost use Rattle.object_files.specs.Files.{AreLoaded, HasStopped};
+ghost use Rattle.object_files.specs.Reads.{AreReadIn, use_of};
 ghost use Rattle.object_files.specs.declared.error.LoadError.{LoadError};
 ghost use Rattle.session_units.specs.Units.{meaning_of};
 ghost use Rattle.answers.specs.Files.{file_answer};
+ghost use Rattle.answers.specs.Reads.{AreReadFor};
 
 use answers::{Answer, file_answer};
 use object_files::load_files;
@@ -36,6 +38,10 @@ pub(crate) fn load_units<F: Files>(
     ensures loaded { IfOk result (λ units. AreLoaded (F.holds files.old) table.now names.new (map meaning_of units.items)) }
     ensures stopped { IfErr result (λ answer. (e : LoadError) ×
         HasStopped (F.holds files.old) (F.faults files.old) (F.faults files.new) table.now e × (answer ≡ file_answer e)) }
+    ensures read { OnOk result (AreReadIn table.now
+        (use_of (F.reads files.old) (F.faults files.old)) (use_of (F.reads files.new) (F.faults files.new))) }
+    ensures read_for { IfErr result (AreReadFor table.now
+        (use_of (F.reads files.old) (F.faults files.old)) (use_of (F.reads files.new) (F.faults files.new))) }
     ensures older { KeepsNumbers names.old names.new }
     ensures counted { F.faults files.old ≤ F.faults files.new }
     ensures same { F.holds files.new ≡ F.holds files.old }

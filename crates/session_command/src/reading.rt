@@ -1,7 +1,8 @@
 //! The script that a source has.
-ghost use Rattle.std.specs.Prelude.{◌≤◌, IfOk, IfErr};
+ghost use Rattle.std.specs.Prelude.{◌≡◌, ◌≤◌, IfOk, IfErr, OnOk};
 ghost use Rattle.session_script.specs.WellFormed.{IsWellFormed};
 ghost use Rattle.session_answers.specs.Found.{IsUnasked, IsUnread};
+ghost use Rattle.session_answers.specs.Reads.{IsSourceReadFor};
 ghost use Rattle.session_answers.specs.Texts.{AreRead, IsScriptOn};
 
 use answers::Answer;
@@ -15,6 +16,8 @@ use std::alloc::Global;
 fn read_text<S: Source>(alloc: Global, source: &mut S) -> Result<Bytes, Answer>
     ensures read { IfOk result (AreRead (S.left source.old)) }
     ensures unread { IfErr result (IsUnread (S.faults source.old) (S.faults source.new)) }
+    ensures quiet { OnOk result (S.faults source.new ≡ S.faults source.old) }
+    ensures source_read { IfErr result (IsSourceReadFor (S.faults source.old) (S.faults source.new)) }
     ensures counted { S.faults source.old ≤ S.faults source.new }
 {
     match read_source(alloc, source, SIZE_LIMIT) {
@@ -35,6 +38,8 @@ pub(crate) fn read_asked<S: Source>(
     ensures asked { IfOk result (IsScriptOn (S.left source.old) notes) }
     ensures well_formed { IfOk result (IsWellFormed notes) }
     ensures unasked { IfErr result (IsUnasked (S.left source.old) notes (S.faults source.old) (S.faults source.new)) }
+    ensures quiet { OnOk result (S.faults source.new ≡ S.faults source.old) }
+    ensures source_read { IfErr result (IsSourceReadFor (S.faults source.old) (S.faults source.new)) }
     ensures counted { S.faults source.old ≤ S.faults source.new }
 {
     let text = read_text(alloc, source)?;

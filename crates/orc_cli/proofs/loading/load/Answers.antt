@@ -5,7 +5,9 @@ use Rattle.session_units.specs.Units.{meaning_of}
 use Rattle.command_line.specs.Words.{request}
 use Rattle.object_files.specs.Files.{Wanting}
 use Rattle.object_files.proofs.SoFar.{memory_stops}
+use Rattle.object_files.proofs.Readings.{memory_stops_reading, none_read}
 use Rattle.orc_cli.proofs.LoadedFiles.{below_units, is_loaded}
+use Rattle.orc_cli.proofs.Readings.{memory_after_all, read_as}
 use Rattle.orc_cli.proofs.LoadedRuns.{later_number}
 use Rattle.orc_cli.proofs.loading.load.Goals as goal
 
@@ -15,6 +17,12 @@ returns-in_err-file_names-clause-stopped g c = memory_stops _ _ _ _ c.from_resid
 pub returns-in_default-clause-stopped : goal.returns-in_default-clause-stopped
 returns-in_default-clause-stopped g c = Wanting
 
+pub returns-in_err-file_names-clause-read_until : goal.returns-in_err-file_names-clause-read_until
+returns-in_err-file_names-clause-read_until g c = memory_stops_reading _ 0 _ _ c.from_residual.result (none_read _) (search rules)
+
+pub returns-in_default-clause-read_until : goal.returns-in_default-clause-read_until
+returns-in_default-clause-read_until g c = (0, none_read _)
+
 pub share_units-requires : goal.share_units-requires
 share_units-requires g c =
     let loaded = rw (c.as_slice-2.ensures.value) at c.in_ok-units.ensures.loaded in
@@ -23,6 +31,18 @@ share_units-requires g c =
 
 pub returns-in_err-units-2-clause-stopped : goal.returns-in_err-units-2-clause-stopped
 returns-in_err-units-2-clause-stopped g c = memory_stops _ _ _ _ c.from_residual-in_err-units-2.result (search rules)
+
+pub returns-in_err-units-2-clause-read_until : goal.returns-in_err-units-2-clause-read_until
+returns-in_err-units-2-clause-read_until g c =
+    let read = rw (c.as_slice-2.ensures.value) at c.in_ok-units.ensures.read in
+    let files = rw (c.as_slice.ensures.value) at c.in_ok-file_names.ensures.files in
+    memory_after_all _ _ _ c.from_residual-in_err-units-2.result (read_as _ _ _ _ files read) (search rules)
+
+pub returns-clause-read : goal.returns-clause-read
+returns-clause-read g c =
+    let read = rw (c.as_slice-2.ensures.value) at c.in_ok-units.ensures.read in
+    let files = rw (c.as_slice.ensures.value) at c.in_ok-file_names.ensures.files in
+    read_as _ _ _ _ files read
 
 pub returns-clause-loaded : goal.returns-clause-loaded
 returns-clause-loaded g c =
