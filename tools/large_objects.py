@@ -11,14 +11,12 @@ refers to by their addresses, or calls; and as long of half as many. DUMP may be
 one thread on the same files, where it is installed. Times are the least of three runs, in processor and in wall
 seconds, and memory is the most that a run had.
 """
-import os
 import random
 import shutil
 import struct
 import subprocess
 import sys
 import tempfile
-import time
 from pathlib import Path
 
 MIB = 1 << 20
@@ -160,21 +158,48 @@ def no_zero_byte():
     ])
 
 
+# A small process that runs a command, and writes its processor time, its time on the clock and its memory into the file
+# of its first word: a process that is begun by a large one counts the memory of that as its own.
+MEASURED = """
+import os, subprocess, sys, time
+began = time.monotonic()
+child = subprocess.Popen(sys.argv[2:])
+_, _, used = os.wait4(child.pid, 0)
+wall = time.monotonic() - began
+with open(sys.argv[1], "w") as report:
+    print(used.ru_utime + used.ru_stime, wall, used.ru_maxrss >> 10, file=report)
+"""
+
+
+def begun(command, report, **how):
+    """The command, begun so that its times and memory will stand in the report."""
+    words = [sys.executable, "-I", "-S", "-c", MEASURED, report, *command]
+    return subprocess.Popen([str(word) for word in words], **how)
+
+
+def told(report):
+    """The processor time, the time on the clock and the most memory of a command that has ended."""
+    spent, wall, memory = Path(report).read_text().split()
+    return float(spent), float(wall), int(memory)
+
+
 def reading(command):
     """The processor time and the most memory of a command that reads an object, and the second line that it prints."""
-    child = subprocess.Popen([str(word) for word in command], stdout=subprocess.PIPE, stderr=subprocess.DEVNULL)
-    line = b""
-    for _ in range(2):
-        line = child.stdout.readline(64)
-        rest = line
-        while rest and not rest.endswith(b"\n"):
-            rest = child.stdout.readline(MIB)
-    while child.stdout.read(MIB):
-        pass
-    _, status, used = os.wait4(child.pid, 0)
-    child.stdout.close()
-    child.returncode = os.waitstatus_to_exitcode(status)
-    return used.ru_utime + used.ru_stime, used.ru_maxrss >> 10, line[:40].decode().rstrip()
+    with tempfile.TemporaryDirectory() as place:
+        report = Path(place, "report")
+        child = begun(command, report, stdout=subprocess.PIPE, stderr=subprocess.DEVNULL)
+        line = b""
+        for _ in range(2):
+            line = child.stdout.readline(64)
+            rest = line
+            while rest and not rest.endswith(b"\n"):
+                rest = child.stdout.readline(MIB)
+        while child.stdout.read(MIB):
+            pass
+        child.wait()
+        child.stdout.close()
+        spent, _, memory = told(report)
+        return spent, memory, line[:40].decode().rstrip()
 
 
 def measure(dump, name, data):
@@ -198,17 +223,14 @@ def measure_shared(dump, name, data):
 
 def least(command, place):
     """The least processor and wall times of three runs of a command, its memory in MiB, and the last line of its log."""
-    processor = wall = memory = float("inf")
+    least_spent = least_wall = least_memory = float("inf")
+    report = Path(place, "report")
     for _ in range(3):
         with open(Path(place, "log"), "wb") as log:
-            began = time.monotonic()
-            child = subprocess.Popen([str(word) for word in command], cwd=place, stdout=subprocess.DEVNULL, stderr=log)
-            _, status, used = os.wait4(child.pid, 0)
-            wall = min(wall, time.monotonic() - began)
-            child.returncode = os.waitstatus_to_exitcode(status)
-        processor = min(processor, used.ru_utime + used.ru_stime)
-        memory = min(memory, used.ru_maxrss >> 10)
-    return processor, wall, memory, (Path(place, "log").read_bytes().splitlines() or [b""])[-1].decode()
+            begun(command, report, cwd=place, stdout=subprocess.DEVNULL, stderr=log).wait()
+        spent, wall, memory = told(report)
+        least_spent, least_wall, least_memory = min(least_spent, spent), min(least_wall, wall), min(least_memory, memory)
+    return least_spent, least_wall, least_memory, (Path(place, "log").read_bytes().splitlines() or [b""])[-1].decode()
 
 
 def measure_run(orc, name, files):
