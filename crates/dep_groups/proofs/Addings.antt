@@ -1,5 +1,5 @@
 -- One group more of a list is added.
-use Rattle.std.proofs.Common.{◌≡◌, ℕ, false, Some, ◌⊎◌, inl, inr, ◌<◌, ◌≤◌, ◌+◌, List, [], ◌∷◌, ◌++◌, length, Contains, vec_len, ap, sym, subst, ◌∙◌, refl, arith, length-append}
+use Rattle.std.proofs.Common.{◌≡◌, ℕ, false, Option, Some, None, ◌⊎◌, inl, inr, ◌<◌, ◌≤◌, ◌+◌, List, [], ◌∷◌, ◌++◌, length, Contains, vec_len, ap, sym, subst, ◌∙◌, refl, arith, length-append}
 use Rattle.std.specs.Prelude.{slice_get}
 use Rattle.std.proofs.lemmas.Option.{same_Some, none-some, slice_get_within}
 use Rattle.std.proofs.lemmas.Bool.{cases_lt}
@@ -10,11 +10,12 @@ use Rattle.dep_groups.specs.Places.{place, is_set}
 use Rattle.dep_groups.specs.Shape.{home_in, deps_in, deps_of, ready_in}
 use Rattle.dep_groups.specs.Links.{IsHeld}
 use Rattle.dep_groups.specs.Core.{IsSound}
-use Rattle.dep_groups.specs.Wake.{IsWaking, AreHeld}
+use Rattle.dep_groups.specs.Wake.{IsWaking, AreHeld, AreUnlinked}
 use Rattle.dep_groups.specs.Added.{IsAdded, AreFresh, HasRoom}
 use Rattle.dep_groups.specs.Adding.{total, AreApart, AreNew, IsHome, AreAdded}
 use Rattle.dep_groups.proofs.Lists.{get_kept, get_last}
 use Rattle.dep_groups.proofs.Adds.{place_grown}
+use Rattle.dep_groups.proofs.Tables.{place_past}
 use Rattle.dep_groups.proofs.Additions.{deps_here, deps_before}
 
 pub total-push : (nodes : List Node) (n : Node) → total (nodes ++ n ∷ []) ≡ vec_len n.deps + total nodes
@@ -87,6 +88,12 @@ module _ (old mid new : Core) (nodes : List Node) (k : ℕ) (node : Node) (is : 
       sort i g member low (inl e) = kept g (h.held i g (sym e ∙ member) (sym (ready_was i) ∙ low))
       sort i g member low (inr e) = inr (inr (subst (λ n. first ≤ n) (same_Some (length mid.graph.nodes.items) g (sym e.1 ∙ member)) few))
 
+pub unlinked_first : (core : Core) → IsSound core → AreUnlinked core.links.items (length core.graph.nodes.items)
+unlinked_first core s = record { unlinked = λ g past. sym (place_past core.links.items g (omega (arith, past, s.sizes.links))) }
+
+pub unlinked_more : (old new : List (Option ℕ)) (first : ℕ) → new ≡ old ++ None ∷ [] → AreUnlinked old first → AreUnlinked new first
+unlinked_more old new first e u = record { unlinked = λ g past. ap (λ ls. place ls g) e ∙ place_grown old g ∙ u.unlinked g past }
+
 pub added_none : (core : Core) (nodes : List Node) (n : ℕ) → length nodes ≤ n → AreAdded core core nodes n
 added_none core nodes n past = record {
   each = λ k node m after is named. absurd (omega (arith, past, after, slice_get_within nodes k node is));
@@ -104,7 +111,7 @@ room_less core groups deps more r = record {
   edges = omega (arith, r.edges);
   nodes = omega (arith, r.nodes);
   links = omega (arith, r.links);
-  linked = omega (arith, r.linked);
+  nexts = omega (arith, r.nexts);
   cursors = omega (arith, r.cursors);
   seen = omega (arith, r.seen);
   order = omega (arith, r.order);

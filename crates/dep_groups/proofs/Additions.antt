@@ -1,22 +1,23 @@
 -- A core with one group more is sound.
-use Rattle.std.proofs.Common.{◌≡◌, ℕ, Bool, true, false, Option, Some, None, ◌⊎◌, inl, inr, ⊎_elim, ◌<◌, ◌≤◌, ◌+◌, ◌^◌, List, [], ◌∷◌, ◌++◌, length, Contains, vec_len, vec_capacity, zero, suc, ap, sym, subst, ◌∙◌, refl, arith, length-append}
+use Rattle.std.proofs.Common.{◌≡◌, ℕ, true, false, Option, Some, None, ◌⊎◌, inl, inr, ⊎_elim, ◌<◌, ◌≤◌, ◌+◌, ◌^◌, List, [], ◌∷◌, ◌++◌, length, Contains, vec_len, vec_capacity, zero, suc, ap, sym, subst, ◌∙◌, refl, arith, length-append}
 use Rattle.std.specs.Prelude.{slice_get}
 use Rattle.std.specs.Option.{option_map_or}
 use Rattle.std.proofs.lemmas.Option.{same_Some, none-some, slice_get_within}
-use Rattle.std.proofs.lemmas.Bool.{both_ways, cases_lt, cases_Bool}
-use Rattle.orc_ids.specs.declared.ids.InstId.{InstId}
+use Rattle.std.proofs.lemmas.Bool.{cases_lt}
 use Rattle.dep_groups.specs.declared.graph.Edge.{Edge}
 use Rattle.dep_groups.specs.declared.graph.Node.{Node}
 use Rattle.dep_groups.specs.declared.resolve.Core.{Core}
 use Rattle.dep_groups.specs.Places.{place, is_set, unset}
-use Rattle.dep_groups.specs.Shape.{home_in, deps_in, deps_of, ready_in}
-use Rattle.dep_groups.specs.Links.{linked_of, step}
+use Rattle.dep_groups.specs.Shape.{home_in, deps_in, deps_of, ready_in, entries_of}
+use Rattle.dep_groups.specs.Links.{linked_of, step, AreQueued, IsQueued}
 use Rattle.dep_groups.specs.Marks.{members_of}
 use Rattle.dep_groups.specs.Core.{IsSound}
-use Rattle.dep_groups.specs.Wake.{IsListed, here, later, IsIndexed}
+use Rattle.dep_groups.specs.Wake.{IsListed, here, later}
 use Rattle.dep_groups.specs.Added.{IsHoused, AreFresh}
 use Rattle.dep_groups.proofs.Lists.{get_last, get_push}
-use Rattle.dep_groups.proofs.Ways.{moved}
+use Rattle.dep_groups.proofs.Ways.{moved, comes_moved}
+use Rattle.dep_groups.proofs.Entries.{reach_kept}
+use Rattle.dep_groups.specs.Frontier.{Reaches}
 use Rattle.dep_groups.proofs.Adds.{place_grown, flag_grown}
 
 no_element : {X : Type 0} (x : X) → Contains [] x → ⊥
@@ -80,18 +81,7 @@ named_added nodes n firsts new edges more named only g d listed = sort (only d g
     sort (inl e) = deps_kept nodes n g d (named g d e)
     sort (inr e) = subst (λ m. Contains (deps_of (nodes ++ n ∷ []) m) d) (sym e.1) (subst (λ ds. Contains ds d) (sym (deps_here nodes n)) e.0)
 
--- flags and links of one more group
-flag_kept : (xs : List Bool) (b : Bool) (k : ℕ) → is_set xs k ≡ true → is_set (xs ++ b ∷ []) k ≡ true
-unfolding is_set
-flag_kept [] b k is = absurd (both_ways false refl is)
-flag_kept (x ∷ xs) b zero is = is
-flag_kept (x ∷ xs) b (suc k) is = flag_kept xs b k is
-
-flag_last : (xs : List Bool) (b : Bool) → is_set (xs ++ b ∷ []) (length xs) ≡ b
-unfolding is_set
-flag_last [] b = refl
-flag_last (x ∷ xs) b = flag_last xs b
-
+-- links of one more group
 place_past_end : (xs : List (Option ℕ)) (k : ℕ) → length xs ≤ k → place xs k ≡ None
 unfolding place
 place_past_end [] k past = refl
@@ -102,12 +92,13 @@ pub unlisted : (edges : List Edge) (o : Option ℕ) (g : ℕ) → o ≡ None →
 unlisted edges o g e (here {k = k} f is same) = none-some k (sym e)
 unlisted edges o g e (later {k = k} f is rest) = none-some k (sym e)
 
-module _ (old new : Core) (node : Node) (wanted : Bool) where
+module _ (old new : Core) (node : Node) where
   pub record IsBigger : Type 0 where
     pub housed : IsHoused old.graph new.graph node.members.items (length old.graph.nodes.items)
     pub nodes : new.graph.nodes.items ≡ old.graph.nodes.items ++ node ∷ []
     pub links : new.links.items ≡ old.links.items ++ None ∷ []
-    pub linked : new.linked.items ≡ old.linked.items ++ wanted ∷ []
+    pub nexts : new.nexts.items ≡ old.nexts.items ++ None ∷ []
+    pub heads : new.heads ≡ old.heads
     pub cursors : new.cursors.items ≡ old.cursors.items ++ 0 ∷ []
     pub seen : new.trail.seen.items ≡ old.trail.seen.items ++ false ∷ []
     pub order : new.trail.order ≡ old.trail.order
@@ -115,11 +106,11 @@ module _ (old new : Core) (node : Node) (wanted : Bool) where
     pub told : new.told ≡ old.told
     pub homes : length new.graph.homes.items ≡ length old.graph.homes.items
     pub fresh : AreFresh old.graph node.members.items
-    pub unwanted : wanted ≡ false → (m : InstId) → Contains node.members.items m → place old.graph.firsts.items m.0 ≡ None
+    pub deps : (d : ℕ) → Contains node.deps.items d → d < length old.graph.homes.items
     pub room : length old.trail.seen.items + 1 ≤ vec_capacity old.trail.order
     pub few : length old.graph.nodes.items + 1 ≤ 2 ^ 32
 
-  module _ (b : IsBigger) (s : IsSound old) (x : IsIndexed old.graph) where
+  module _ (b : IsBigger) (s : IsSound old) where
     count : ℕ
     count = length old.graph.nodes.items
 
@@ -161,16 +152,35 @@ module _ (old new : Core) (node : Node) (wanted : Bool) where
     kept_deps : (g d : ℕ) → Contains (deps_in old.graph g) d → Contains (deps_in new.graph g) d
     kept_deps g d named = subst (λ ns. Contains (deps_of ns g) d) (sym b.nodes) (deps_kept old.graph.nodes.items node g d named)
 
-    flags : (g d h : ℕ) → place new.links.items g ≡ Some d → home_in new.graph d ≡ Some h → is_set new.linked.items h ≡ true
-    flags g d h is member = sort (home_cases d h member) (cases_Bool wanted)
-      where
-        link : place old.links.items g ≡ Some d
-        link = sym (link_was g) ∙ is
+    next_was : (g : ℕ) → place new.nexts.items g ≡ place old.nexts.items g
+    next_was g = ap (λ ns. place ns g) b.nexts ∙ place_grown old.nexts.items g
 
-        sort : (home_in old.graph d ≡ Some h) ⊎ ((h ≡ length old.graph.nodes.items) × Contains node.members.items (record { 0 = d })) → (wanted ≡ true) ⊎ (wanted ≡ false) → is_set new.linked.items h ≡ true
-        sort (inl e) w = subst (λ fs. is_set fs h ≡ true) (sym b.linked) (flag_kept old.linked.items wanted h (s.flags.flagged g d h link e))
-        sort (inr e) (inl w) = subst (λ fs. is_set fs h ≡ true) (sym b.linked) (ap (is_set (old.linked.items ++ wanted ∷ [])) (e.0 ∙ sym s.sizes.linked) ∙ flag_last old.linked.items wanted ∙ w)
-        sort (inr e) (inr w) = absurd (unlisted old.graph.edges.items (place old.graph.firsts.items d) g (b.unwanted w (record { 0 = d }) e.1) (x.complete g d (s.deps.deps g d link)))
+    below : (g d : ℕ) → Contains (deps_in new.graph g) d → d < length new.graph.homes.items
+    below g d named = sort (deps_cases old.graph.nodes.items node g d (subst (λ ns. Contains (deps_of ns g) d) b.nodes named))
+      where
+        sort : Contains (deps_in old.graph g) d ⊎ ((g ≡ length old.graph.nodes.items) × Contains node.deps.items d) → d < length new.graph.homes.items
+        sort (inl e) = omega (arith, s.wired.deps g d e, b.homes)
+        sort (inr e) = omega (arith, b.deps d e.1, b.homes)
+
+    reached : (i g d : ℕ) → home_in new.graph i ≡ Some g → place old.links.items g ≡ Some d → Reaches (entries_of new.graph) i d
+    reached i g d is link = sort (home_cases i g is)
+      where
+        sort : (home_in old.graph i ≡ Some g) ⊎ ((g ≡ length old.graph.nodes.items) × Contains node.members.items (record { 0 = i })) → Reaches (entries_of new.graph) i d
+        sort (inl e) = reach_kept old.graph new.graph home_was (λ j h k at named. kept_deps h k named) i d (s.leads.reached i g d e link)
+        sort (inr e) = absurd (none-some d (sym (place_past_end old.links.items g (omega (arith, s.sizes.links, e.0))) ∙ link))
+
+    queued : AreQueued new.links.items new.nexts.items new.heads.items
+    queued = record {
+      only = λ d h is. moved (place old.nexts.items) (place new.nexts.items) (λ g. place old.links.items g ≡ Some d) (λ g. place new.links.items g ≡ Some d) (λ g at. next_was g) (λ g at. link_was g ∙ at) h (s.queued.only d h (ap (λ hs. place hs.items d) (sym b.heads) ∙ is));
+      all = λ g d link. all g d (s.queued.all g d (sym (link_was g) ∙ link));
+    }
+      where
+        all : (g d : ℕ) → IsQueued old.nexts.items old.heads.items d g → IsQueued new.nexts.items new.heads.items d g
+        all g d x = record {
+          head = x.head;
+          is = ap (λ hs. place hs.items d) b.heads ∙ x.is;
+          way = comes_moved (place old.nexts.items) (place new.nexts.items) (λ n. place old.links.items n ≡ Some d) (λ n at. next_was n) x.head g (s.queued.only d x.head x.is) x.way;
+        }
 
     passed : (g n k d : ℕ) → slice_get new.cursors.items g ≡ Some n → k < n → slice_get (deps_in new.graph g) k ≡ Some d → ready_in new.graph d ≡ true
     passed g n k d at below is = sort (get_push old.cursors.items 0 g n (ap (λ cs. slice_get cs g) (sym b.cursors) ∙ at))
@@ -208,21 +218,25 @@ module _ (old new : Core) (node : Node) (wanted : Bool) where
     sound_added = record {
       sizes = record {
         links = ap length b.links ∙ length-append old.links.items (None ∷ []) ∙ ap (λ n. n + 1) s.sizes.links ∙ sym size;
-        linked = ap length b.linked ∙ length-append old.linked.items (wanted ∷ []) ∙ ap (λ n. n + 1) s.sizes.linked ∙ sym size;
+        nexts = ap length b.nexts ∙ length-append old.nexts.items (None ∷ []) ∙ ap (λ n. n + 1) s.sizes.nexts ∙ sym size;
+        heads = ap (λ hs. length hs.items) b.heads ∙ s.sizes.heads ∙ sym b.homes;
         cursors = ap length b.cursors ∙ length-append old.cursors.items (0 ∷ []) ∙ ap (λ n. n + 1) s.sizes.cursors ∙ sym size;
         seen = ap length b.seen ∙ length-append old.trail.seen.items (false ∷ []) ∙ ap (λ n. n + 1) s.sizes.seen ∙ sym size;
         ready = ap (λ rs. length rs.items) b.ready ∙ s.sizes.ready ∙ sym b.homes;
         few = subst (λ n. n ≤ 2 ^ 32) (sym size) b.few;
       };
-      wired = record { within = within };
+      wired = record { within = within; deps = below };
       members = members;
       ready = record {
         emitted = λ i high. let h = s.ready.emitted i (sym (ready_was i) ∙ high) in (h.0, home_was i h.0 h.1);
         closed = closed;
       };
       ends = record { each = λ i. moved (step (home_in old.graph) (place old.links.items)) (step (home_in new.graph) (place new.links.items)) (λ k. Unit {0}) (λ k. Unit {0}) (λ k u. same_step k) (λ k u. u) i (s.ends.each i) };
-      flags = record { flagged = flags };
-      deps = record { deps = λ g d is. kept_deps g d (s.deps.deps g d (sym (link_was g) ∙ is)) };
+      leads = record {
+        reached = λ i g d home is. reached i g d home (sym (link_was g) ∙ is);
+        below = λ g d is. let less = s.leads.below g d (sym (link_was g) ∙ is) in omega (arith, less, b.homes);
+      };
+      queued = queued;
       cursors = record { passed = passed };
       clear = record {
         unseen = λ g. ap (λ xs. is_set xs g) b.seen ∙ flag_grown old.trail.seen.items g ∙ s.clear.unseen g;

@@ -28,14 +28,14 @@ listed_kept edges more o g (here {k = k} e is same) = here e (get_kept edges mor
 listed_kept edges more o g (later {k = k} e is rest) = later e (get_kept edges more k e is) (listed_kept edges more e.next g rest)
 
 pub listed_first : (firsts new : List (Option ℕ)) (edges : List Edge) (e : Edge) (d : ℕ) → ((n : ℕ) → place new n ≡ (if d == n then Some (length edges) else place firsts n)) → IsListed (edges ++ e ∷ []) (place new d) e.group
-listed_first firsts new edges e d says = subst (λ o. IsListed (edges ++ e ∷ []) o e.group) (sym (written_here (place firsts) (place new) d (length edges) says)) (here e (get_last edges e) refl)
+listed_first firsts new edges e d says = subst (λ o. IsListed (edges ++ e ∷ []) o e.group) (sym (written_here (place firsts) (place new) d (Some (length edges)) says)) (here e (get_last edges e) refl)
 
 pub listed_more : (firsts new : List (Option ℕ)) (edges : List Edge) (e : Edge) (d : ℕ) → e.next ≡ place firsts d → ((n : ℕ) → place new n ≡ (if d == n then Some (length edges) else place firsts n)) → (n g : ℕ) → IsListed edges (place firsts n) g → IsListed (edges ++ e ∷ []) (place new n) g
 listed_more firsts new edges e d next says n g was = ⊎_elim
     (λ (same : d ≡ n). subst (λ m. IsListed (edges ++ e ∷ []) (place new m) g) same
-    (subst (λ o. IsListed (edges ++ e ∷ []) o g) (sym (written_here (place firsts) (place new) d (length edges) says))
+    (subst (λ o. IsListed (edges ++ e ∷ []) o g) (sym (written_here (place firsts) (place new) d (Some (length edges)) says))
     (later e (get_last edges e) (listed_kept edges (e ∷ []) e.next g (subst (λ o. IsListed edges o g) (sym next) (subst (λ m. IsListed edges (place firsts m) g) (sym same) was))))))
-    (λ (apart : d ≡ n → ⊥). subst (λ o. IsListed (edges ++ e ∷ []) o g) (sym (written_other (place firsts) (place new) d (length edges) says n apart)) (listed_kept edges (e ∷ []) (place firsts n) g was))
+    (λ (apart : d ≡ n → ⊥). subst (λ o. IsListed (edges ++ e ∷ []) o g) (sym (written_other (place firsts) (place new) d (Some (length edges)) says n apart)) (listed_kept edges (e ∷ []) (place firsts n) g was))
     (cases_eq d n)
 
 -- a mention more lists nobody else
@@ -64,8 +64,8 @@ module _ (edges : List Edge) (e : Edge) (falls : (k j : ℕ) (f : Edge) → slic
 
   pub listed_only : (firsts new : List (Option ℕ)) (d : ℕ) → e.next ≡ place firsts d → ((k n : ℕ) → place firsts n ≡ Some k → k < length edges) → ((n : ℕ) → place new n ≡ (if d == n then Some (length edges) else place firsts n)) → (n g : ℕ) → IsListed (edges ++ e ∷ []) (place new n) g → IsListed edges (place firsts n) g ⊎ ((n ≡ d) × (g ≡ e.group))
   listed_only firsts new d next there says n g is = ⊎_elim
-      (λ (same : d ≡ n). mine same (listed_next (edges ++ e ∷ []) (place new d) (length edges) g e (written_here (place firsts) (place new) d (length edges) says) (get_last edges e) (subst (λ m. IsListed (edges ++ e ∷ []) (place new m) g) (sym same) is)))
-      (λ (apart : d ≡ n → ⊥). inl (listed_before (place firsts n) g (λ k at. there k n at) (subst (λ o. IsListed (edges ++ e ∷ []) o g) (written_other (place firsts) (place new) d (length edges) says n apart) is)))
+      (λ (same : d ≡ n). mine same (listed_next (edges ++ e ∷ []) (place new d) (length edges) g e (written_here (place firsts) (place new) d (Some (length edges)) says) (get_last edges e) (subst (λ m. IsListed (edges ++ e ∷ []) (place new m) g) (sym same) is)))
+      (λ (apart : d ≡ n → ⊥). inl (listed_before (place firsts n) g (λ k at. there k n at) (subst (λ o. IsListed (edges ++ e ∷ []) o g) (written_other (place firsts) (place new) d (Some (length edges)) says n apart) is)))
       (cases_eq d n)
     where
       mine : d ≡ n → (e.group ≡ g) ⊎ IsListed (edges ++ e ∷ []) e.next g → IsListed edges (place firsts n) g ⊎ ((n ≡ d) × (g ≡ e.group))

@@ -8,14 +8,14 @@ use Rattle.orc_ids.specs.declared.groups.Group.{Group}
 use Rattle.dep_groups.specs.declared.graph.Node.{Node}
 use Rattle.dep_groups.specs.declared.resolve.Core.{Core}
 use Rattle.dep_groups.specs.Places.{is_set}
-use Rattle.dep_groups.specs.Shape.{home_in, deps_of, ready_in}
+use Rattle.dep_groups.specs.Shape.{home_in, deps_of, ready_in, entry_of}
 use Rattle.dep_groups.specs.Marks.{IsTold, Tells}
 use Rattle.dep_groups.specs.Wake.{IsSameGraph}
 use Rattle.dep_groups.specs.Adding.{AreApart, AreNew, AreAdded}
 use Rattle.dep_groups.specs.Prepare.{IsAlike}
 use Rattle.dep_groups.specs.Copies.{IsCopy, IsCopyAt, AreCopies}
 use Rattle.dep_groups.specs.Emit.{IsEmitted}
-use Rattle.dep_groups.specs.Kept.{IsKept, entry_of, entries_in}
+use Rattle.dep_groups.specs.Kept.{IsKept, entries_in}
 use Rattle.dep_groups.specs.Frontier.{Entry, Absent, Emitted, entry_at, numbers, IsReady, IsMember, AreAbsent, AreEmitted, IsNews}
 use Rattle.dep_groups.specs.Frontier as frontier
 use Rattle.dep_groups.proofs.Lists.{get_kept, get_last, contains_at, at_contains}

@@ -1,11 +1,12 @@
 -- What a graph shows of an instance, and what follows it.
 use Rattle.std.proofs.Common.{◌≡◌, ℕ, Option, Some, None, List, [], ◌∷◌, map, Contains, zero, suc, ap, sym, subst, ◌∙◌, refl, arith}
+use Rattle.graph_walks.specs.Walks.{IsPath}
+use Rattle.graph_walks.proofs.Paths.{reaches_self, reaches_next}
 use Rattle.dep_groups.specs.declared.graph.Graph.{Graph}
 use Rattle.dep_groups.specs.declared.graph.Node.{Node}
 use Rattle.dep_groups.specs.Places.{place}
-use Rattle.dep_groups.specs.Shape.{home_in, deps_in}
-use Rattle.dep_groups.specs.Kept.{entry_of, entries_of}
-use Rattle.dep_groups.specs.Frontier.{Emitted, entry_at, deps_of_entry, next_of}
+use Rattle.dep_groups.specs.Shape.{home_in, deps_in, entry_of, entries_of}
+use Rattle.dep_groups.specs.Frontier.{Emitted, entry_at, deps_of_entry, next_of, Reaches}
 
 pub entry_is : (nodes : List Node) (homes : List (Option ℕ)) (i : ℕ) → entry_at (map (entry_of nodes) homes) i ≡ entry_of nodes (place homes i)
 unfolding place
@@ -29,3 +30,14 @@ module _ (graph : Graph) where
       sort : (o : Option ℕ) → home_in graph i ≡ o → Contains (deps_of_entry (entry_of graph.nodes.items o)) d → (g : ℕ) × (home_in graph i ≡ Some g) × Contains (deps_in graph g) d
       sort None e c = absurd (omega (arith, c.1))
       sort (Some g) e c = (g, e, c)
+
+  pub one_on : (i g d : ℕ) → home_in graph i ≡ Some g → Contains (deps_in graph g) d → Reaches (entries_of graph) i d
+  one_on i g d is named = reaches_next (next_of (entries_of graph)) i d d (named_next i g d is named) (reaches_self (next_of (entries_of graph)) d)
+
+-- where groups are and depend as before, what was reached is reached
+pub reach_kept : (old new : Graph) → ((i g : ℕ) → home_in old i ≡ Some g → home_in new i ≡ Some g) → ((i g d : ℕ) → home_in old i ≡ Some g → Contains (deps_in old g) d → Contains (deps_in new g) d) → (i j : ℕ) → Reaches (entries_of old) i j → Reaches (entries_of new) i j
+reach_kept old new homes deps i j r = record { path = r.path; leads = along i r.path r.leads }
+  where
+    along : (i : ℕ) (p : List ℕ) → IsPath (next_of (entries_of old)) i p j → IsPath (next_of (entries_of new)) i p j
+    along i [] e = e
+    along i (k ∷ ks) e = let h = next_named old i k e.0 in (named_next new i h.0 k (homes i h.0 h.1) (deps i h.0 k h.1 h.2), along k ks e.1)

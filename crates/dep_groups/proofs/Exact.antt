@@ -1,16 +1,16 @@
 -- What is marked is what is ready.
-use Rattle.std.proofs.Common.{◌≡◌, ℕ, true, false, Option, Some, None, ◌⊎◌, inl, inr, ⊎_elim, Contains, ap, sym, subst, ◌∙◌, refl}
+use Rattle.std.proofs.Common.{◌≡◌, ℕ, true, false, Option, Some, None, ◌⊎◌, inl, inr, ⊎_elim, ap, sym, subst, ◌∙◌, refl}
 use Rattle.std.proofs.lemmas.Option.{same_Some, none-some}
 use Rattle.std.proofs.lemmas.Bool.{both_ways, cases_Bool}
-use Rattle.graph_walks.proofs.Paths.{closed_holds_reached, reaches_self, reaches_next}
+use Rattle.graph_walks.proofs.Paths.{closed_holds_reached, reaches_self, reach_is_transitive}
 use Rattle.dep_groups.specs.declared.resolve.Core.{Core}
 use Rattle.dep_groups.specs.Places.{place}
-use Rattle.dep_groups.specs.Shape.{home_in, ready_in}
+use Rattle.dep_groups.specs.Shape.{home_in, ready_in, entry_of}
 use Rattle.dep_groups.specs.Links.{linked_of, step, Ends, stop, go}
 use Rattle.dep_groups.specs.Core.{IsSound}
-use Rattle.dep_groups.specs.Kept.{IsKept, entry_of, entries_in}
+use Rattle.dep_groups.specs.Kept.{IsKept, entries_in}
 use Rattle.dep_groups.specs.Frontier.{is_emitted, next_of, is_emitted_at, Reaches, IsReady}
-use Rattle.dep_groups.proofs.Entries.{entry_here, entry_home, named_next, next_named}
+use Rattle.dep_groups.proofs.Entries.{entry_here, entry_home, next_named}
 
 module _ (core : Core) where
   pub marked_ready : IsSound core → (i : ℕ) → ready_in core.graph i ≡ true → IsReady (entries_in core) i
@@ -30,11 +30,11 @@ module _ (core : Core) where
   absent_reached : (i : ℕ) → home_in core.graph i ≡ None → Unwaited i
   absent_reached i e = record { to = i; path = reaches_self (next_of (entries_in core)) i; absent = ap is_emitted (entry_here core.graph i ∙ ap (entry_of core.graph.nodes.items) e) }
 
-  linked_to : IsKept core → (i g j : ℕ) → home_in core.graph i ≡ Some g → ready_in core.graph i ≡ false → step (home_in core.graph) (place core.links.items) i ≡ Some j → (ready_in core.graph j ≡ false) × Contains (next_of (entries_in core) i) j
+  linked_to : IsKept core → (i g j : ℕ) → home_in core.graph i ≡ Some g → ready_in core.graph i ≡ false → step (home_in core.graph) (place core.links.items) i ≡ Some j → (ready_in core.graph j ≡ false) × Reaches (entries_in core) i j
   linked_to k i g j e low s =
       let h = k.held i g e low in
       let same : h.to ≡ j = same_Some h.to j (sym (ap (linked_of (place core.links.items)) e ∙ h.link) ∙ s) in
-      (subst (λ n. ready_in core.graph n ≡ false) same h.unready, subst (λ n. Contains (next_of (entries_in core) i) n) same (named_next core.graph i g h.to e (k.sound.deps.deps g h.to h.link)))
+      (subst (λ n. ready_in core.graph n ≡ false) same h.unready, subst (λ n. Reaches (entries_in core) i n) same (k.sound.leads.reached i g h.to e h.link))
 
   ends_not : IsKept core → (i g : ℕ) → home_in core.graph i ≡ Some g → ready_in core.graph i ≡ false → step (home_in core.graph) (place core.links.items) i ≡ None → ⊥
   ends_not k i g e low s = let h = k.held i g e low in none-some h.to (sym s ∙ ap (linked_of (place core.links.items)) e ∙ h.link)
@@ -52,7 +52,7 @@ module _ (core : Core) where
       (λ (e : (g : ℕ) × (home_in core.graph i ≡ Some g)).
       let l = linked_to k i e.0 j e.1 low s in
       let p = waits k j r l.0 in
-      record { to = p.to; path = reaches_next (next_of (entries_in core)) i j p.to l.1 p.path; absent = p.absent })
+      record { to = p.to; path = reach_is_transitive (next_of (entries_in core)) i j p.to l.1 p.path; absent = p.absent })
       (home_known i)
 
   pub unmarked_unready : IsKept core → (i : ℕ) → ready_in core.graph i ≡ false → IsReady (entries_in core) i → ⊥

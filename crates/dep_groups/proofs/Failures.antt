@@ -1,29 +1,27 @@
 -- Instances that aren't ready are taken out of their groups.
-use Rattle.std.proofs.Common.{◌≡◌, ℕ, true, false, Option, Some, None, ◌⊎◌, inl, inr, ⊎_elim, List, length, Contains, Vec, Global, ap, sym, subst, ◌∙◌}
+use Rattle.std.proofs.Common.{◌≡◌, ℕ, true, false, Option, Some, None, ◌⊎◌, inl, inr, ⊎_elim, List, [], ◌∷◌, length, Contains, Vec, Global, ap, sym, subst, ◌∙◌, arith}
 use Rattle.std.proofs.lemmas.Option.{none-some}
 use Rattle.std.proofs.lemmas.Bool.{both_ways, false_from_ne_true}
+use Rattle.graph_walks.specs.Walks.{IsPath}
+use Rattle.graph_walks.proofs.Paths.{reaches_next}
 use Rattle.orc_ids.specs.declared.ids.InstId.{InstId}
 use Rattle.dep_groups.specs.declared.resolve.Core.{Core}
 use Rattle.dep_groups.specs.declared.trail.Trail.{Trail}
 use Rattle.dep_groups.specs.Places.{place}
-use Rattle.dep_groups.specs.Shape.{home_in, ready_in}
-use Rattle.dep_groups.specs.Links.{linked_of, step, Ends, stop, go}
+use Rattle.dep_groups.specs.Shape.{home_in, ready_in, entry_of}
+use Rattle.dep_groups.specs.Links.{linked_of, step}
 use Rattle.dep_groups.specs.Seek.{IsClear}
 use Rattle.dep_groups.specs.Core.{IsSound}
-use Rattle.dep_groups.specs.Kept.{IsKept, entry_of, entries_in}
-use Rattle.dep_groups.specs.Frontier.{AreHits, AreFailed}
-use Rattle.dep_groups.proofs.Entries.{entry_here}
+use Rattle.dep_groups.specs.Kept.{IsKept, entries_in}
+use Rattle.dep_groups.specs.Frontier.{next_of, Reaches, IsHit, AreHits, AreFailed}
+use Rattle.dep_groups.proofs.Ways.{ends_sooner}
+use Rattle.dep_groups.proofs.Entries.{entry_here, named_next, next_named}
 use Rattle.dep_groups.proofs.Exact.{marked_ready}
-
--- where a step is left out, the way ends there
-ends_sooner : (next new : ℕ → Option ℕ) → ((i : ℕ) → (new i ≡ next i) ⊎ (new i ≡ None)) → (i : ℕ) → Ends next (λ k. Unit {0}) i → Ends new (λ k. Unit {0}) i
-ends_sooner next new says i (stop k e) = ⊎_elim (λ (same : new i ≡ next i). stop k (same ∙ e)) (λ (none : new i ≡ None). stop k none) (says i)
-ends_sooner next new says i (go {j = j} k e r) = ⊎_elim (λ (same : new i ≡ next i). go k (same ∙ e) (ends_sooner next new says j r)) (λ (none : new i ≡ None). stop k none) (says i)
 
 -- the groups without some instances that aren't ready, and nothing else changed
 module _ (core : Core) (homes : Vec (Option ℕ) Global) (trail : Trail) where
   abbrev pub core_without : Core
-  core_without = record { graph = record core.graph { homes = homes }; links = core.links; linked = core.linked; cursors = core.cursors; trail = trail; told = core.told }
+  core_without = record { graph = record core.graph { homes = homes }; links = core.links; nexts = core.nexts; heads = core.heads; cursors = core.cursors; trail = trail; told = core.told }
 
   module _ (says : (i : ℕ) → (place homes.items i ≡ home_in core.graph i) ⊎ ((place homes.items i ≡ None) × (ready_in core.graph i ≡ false))) where
     home_was : (i g : ℕ) → place homes.items i ≡ Some g → home_in core.graph i ≡ Some g
@@ -35,19 +33,22 @@ module _ (core : Core) (homes : Vec (Option ℕ) Global) (trail : Trail) where
     step_cases : (i : ℕ) → (step (place homes.items) (place core.links.items) i ≡ step (home_in core.graph) (place core.links.items) i) ⊎ (step (place homes.items) (place core.links.items) i ≡ None)
     step_cases i = ⊎_elim (λ (same : place homes.items i ≡ home_in core.graph i). inl (ap (linked_of (place core.links.items)) same)) (λ (e : (place homes.items i ≡ None) × (ready_in core.graph i ≡ false)). inr (ap (linked_of (place core.links.items)) e.0)) (says i)
 
-    pub kept_without : IsKept core → length homes.items ≡ length core.graph.homes.items → IsClear trail → length trail.seen.items ≡ length core.trail.seen.items → IsKept core_without
-    kept_without k count clear groups = let s = k.sound in record {
+    pub kept_without : IsKept core → ((i g d : ℕ) → place homes.items i ≡ Some g → Reaches (entries_in core) i d → Reaches (entries_in core_without) i d) → length homes.items ≡ length core.graph.homes.items → IsClear trail → length trail.seen.items ≡ length core.trail.seen.items → IsKept core_without
+    kept_without k reach count clear groups = let s = k.sound in record {
       sound = record {
-        sizes = record { links = s.sizes.links; linked = s.sizes.linked; cursors = s.sizes.cursors; seen = groups ∙ s.sizes.seen; ready = s.sizes.ready ∙ sym count; few = s.sizes.few };
-        wired = record { within = λ i g is. s.wired.within i g (home_was i g is) };
+        sizes = record { links = s.sizes.links; nexts = s.sizes.nexts; heads = s.sizes.heads ∙ sym count; cursors = s.sizes.cursors; seen = groups ∙ s.sizes.seen; ready = s.sizes.ready ∙ sym count; few = s.sizes.few };
+        wired = record { within = λ i g is. s.wired.within i g (home_was i g is); deps = λ g d named. let less = s.wired.deps g d named in omega (arith, less, count) };
         members = λ i g is. s.members i g (home_was i g is);
         ready = record {
           emitted = λ i high. let h = s.ready.emitted i high in (h.0, home_stays i h.0 high h.1);
           closed = λ i g d high is named. s.ready.closed i g d high (home_was i g is) named;
         };
         ends = record { each = λ i. ends_sooner (step (home_in core.graph) (place core.links.items)) (step (place homes.items) (place core.links.items)) step_cases i (s.ends.each i) };
-        flags = record { flagged = λ g d h link is. s.flags.flagged g d h link (home_was d h is) };
-        deps = record { deps = s.deps.deps };
+        leads = record {
+          reached = λ i g d is link. reach i g d is (s.leads.reached i g d (home_was i g is) link);
+          below = λ g d link. let less = s.leads.below g d link in omega (arith, less, count);
+        };
+        queued = s.queued;
         cursors = record { passed = s.cursors.passed };
         clear = clear;
         room = s.room;
@@ -56,6 +57,28 @@ module _ (core : Core) (homes : Vec (Option ℕ) Global) (trail : Trail) where
       firsts = k.firsts ∙ sym count;
       held = λ i g is low. let h = k.held i g (home_was i g is) low in record { to = h.to; link = h.link; unready = h.unready };
     }
+
+  -- what is left reaches what it did, since what reaches a hit instance is hit
+  module _ (roots hits : List InstId) (a : AreHits (entries_in core) roots hits) (others : (i : ℕ) → (place homes.items i ≡ home_in core.graph i) ⊎ (Contains hits (record { 0 = i }) × (place homes.items i ≡ None))) where
+    hit_before : (i k : ℕ) → Contains (next_of (entries_in core) i) k → IsHit (entries_in core) roots k → IsHit (entries_in core) roots i
+    hit_before i k named h = record {
+      unready = λ r. h.unready (record { each = λ j s. r.each j (reaches_next (next_of (entries_in core)) i k j named s) });
+      root = h.root;
+      chosen = h.chosen;
+      reaches = reaches_next (next_of (entries_in core)) i k h.root.0 named h.reaches;
+    }
+
+    path_left : (i j : ℕ) (p : List ℕ) → (IsHit (entries_in core) roots i → ⊥) → IsPath (next_of (entries_in core)) i p j → IsPath (next_of (entries_in core_without)) i p j
+    path_left i j [] never e = e
+    path_left i j (k ∷ ks) never e =
+        let n = next_named core.graph i k e.0 in
+        let home : place homes.items i ≡ Some n.0 = ⊎_elim
+        (λ (same : place homes.items i ≡ home_in core.graph i). same ∙ n.1)
+        (λ (x : Contains hits (record { 0 = i }) × (place homes.items i ≡ None)). absurd (never (a.only (record { 0 = i }) x.0))) (others i) in
+        (named_next core_without.graph i n.0 k home n.2, path_left k j ks (λ h. never (hit_before i k e.0 h)) e.1)
+
+    pub reach_left : ((m : InstId) → Contains hits m → place homes.items m.0 ≡ None) → (i g d : ℕ) → place homes.items i ≡ Some g → Reaches (entries_in core) i d → Reaches (entries_in core_without) i d
+    reach_left out i g d is r = record { path = r.path; leads = path_left i d r.path (λ h. none-some g (sym (out (record { 0 = i }) (a.all i h)) ∙ is)) r.leads }
 
   -- what was taken out is hit, and isn't emitted any more
   pub failed_without : (roots hits : List InstId) → AreHits (entries_in core) roots hits → ((m : InstId) → Contains hits m → place homes.items m.0 ≡ None) → ((i : ℕ) → (place homes.items i ≡ home_in core.graph i) ⊎ (Contains hits (record { 0 = i }) × (place homes.items i ≡ None))) → AreFailed (entries_in core) (entries_in core_without) roots

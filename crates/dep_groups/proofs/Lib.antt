@@ -2,7 +2,7 @@ pub mod Tables
 pub mod Lists
 pub mod Trails
 pub mod Ways
-pub mod Relinks
+pub mod Queues
 pub mod Told
 pub mod Seeks
 pub mod Sound

@@ -2,28 +2,27 @@
 use Rattle.std.proofs.Common.{◌≡◌, ℕ, Bool, true, false, Option, Some, None, ◌⊎◌, inl, inr, ⊎_elim, cond, ◌<◌, ◌≤◌, ◌+◌, List, [], ◌∷◌, length, Contains, zero, suc, vec_len, ap, sym, subst, ◌∙◌, refl, arith, zero-lt-suc, suc-le-suc}
 use Rattle.std.specs.Prelude.{slice_get}
 use Rattle.std.proofs.lemmas.Option.{same_Some, none-some, slice_get_within}
-use Rattle.std.proofs.lemmas.Bool.{both_ways, cases_lt}
+use Rattle.std.proofs.lemmas.Bool.{both_ways}
 use Rattle.graph_walks.specs.Walks.{IsPath}
-use Rattle.graph_walks.proofs.Paths.{reaches_self, reaches_next, reach_is_transitive}
+use Rattle.graph_walks.proofs.Paths.{reaches_self}
 use Rattle.dep_groups.specs.declared.graph.Edge.{Edge}
 use Rattle.dep_groups.specs.declared.graph.Graph.{Graph}
 use Rattle.dep_groups.specs.declared.resolve.Core.{Core}
 use Rattle.dep_groups.specs.declared.trail.Trail.{Trail}
-use Rattle.dep_groups.specs.declared.trail.Visit.{Visit}
 use Rattle.dep_groups.specs.Places.{place, is_set, unset}
-use Rattle.dep_groups.specs.Shape.{home_in, deps_in}
-use Rattle.dep_groups.specs.Search.{IsTrailOf, IsVisit, IsGroupAt, IsMore}
+use Rattle.dep_groups.specs.Shape.{home_in, deps_in, entry_of, entries_of}
+use Rattle.dep_groups.specs.Search.{IsTrailOf, IsVisit, IsMore}
 use Rattle.dep_groups.specs.Seek.{IsClear}
 use Rattle.dep_groups.specs.Core.{AreClosed}
 use Rattle.dep_groups.specs.Wake.{IsListed, IsIndexed}
-use Rattle.dep_groups.specs.Kept.{IsKept, entry_of, entries_of}
+use Rattle.dep_groups.specs.Kept.{IsKept}
 use Rattle.dep_groups.specs.Frontier.{is_emitted, next_of, is_emitted_at, Reaches, IsPendingCount}
 use Rattle.dep_groups.specs.Pending.{AreCounted, AreWithin, AreNoted, IsCovered, IsCoveredFrom}
 use Rattle.dep_groups.proofs.Lists.{at_contains, contains_at}
-use Rattle.dep_groups.proofs.Trails.{same_visit, visit_below, visit_was, named_more, looked_more}
+use Rattle.dep_groups.proofs.Trails.{same_visit, visit_below, visit_was, named_more, met_more, looked_more}
 use Rattle.dep_groups.proofs.Tables.{place_within}
 use Rattle.dep_groups.proofs.Additions.{unlisted}
-use Rattle.dep_groups.proofs.Entries.{entry_here, entry_home, named_next, next_named}
+use Rattle.dep_groups.proofs.Entries.{entry_here, entry_home, next_named}
 
 -- the numbers of the flags that are set, from n on
 abbrev set_from : ℕ → List Bool → List ℕ
@@ -101,7 +100,7 @@ counted_none flags clear = record { sum = omega (arith, none_set flags clear) }
 -- what was found stays found
 pub noted_more : (graph : Graph) (old new : Trail) (flags : List Bool) → IsMore old new → AreNoted graph old flags → AreNoted graph new flags
 noted_more graph old new flags more n = record {
-  only = λ i is. let p = n.only i is in record { from = p.from; is_open = record { named = named_more graph old new p.from i more p.is_open.named; unready = p.is_open.unready; absent = p.is_open.absent } };
+  only = λ i is. let p = n.only i is in record { from = p.from; named = named_more graph old new p.from i more p.named; is_open = record { met = met_more graph old new i more p.is_open.met; unready = p.is_open.unready; absent = p.is_open.absent } };
 }
 
 pub covered_more : (graph : Graph) (old new : Trail) (flags set : List Bool) (i : ℕ) → IsMore old new → ((n : ℕ) → is_set flags n ≡ true → is_set set n ≡ true) → IsCovered graph old flags i → IsCovered graph new set i
@@ -110,14 +109,13 @@ covered_more graph old new flags set i more stays (inr e) = inr (stays i e)
 
 pub covered_then : (graph : Graph) (old new : Trail) (flags set : List Bool) (k : ℕ) → k < length old.order.items → IsMore old new → ((n : ℕ) → is_set flags n ≡ true → is_set set n ≡ true) → IsCoveredFrom graph old flags k → IsCoveredFrom graph new set k
 covered_then graph old new flags set k less more stays c = record {
-  covered = λ v d is named. covered_more graph old new flags set d more stays (c.covered v d (visit_was old new k v more less is) named);
+  covered = λ g d is named. covered_more graph old new flags set d more stays (c.covered g d (visit_was old new k g more less is) named);
 }
 
-pub covered_from : (graph : Graph) (old new : Trail) (flags : List Bool) (from g n : ℕ) (ds : List ℕ) → IsGroupAt old.order.items from g → IsMore old new → ds ≡ deps_in graph g → length ds ≤ n → ((k d : ℕ) → k < n → slice_get ds k ≡ Some d → IsCovered graph new flags d) → IsCoveredFrom graph new flags from
+pub covered_from : (graph : Graph) (old new : Trail) (flags : List Bool) (from g n : ℕ) (ds : List ℕ) → IsVisit old.order.items from g → IsMore old new → ds ≡ deps_in graph g → length ds ≤ n → ((k d : ℕ) → k < n → slice_get ds k ≡ Some d → IsCovered graph new flags d) → IsCoveredFrom graph new flags from
 covered_from graph old new flags from g n ds at more same all each = record {
-  covered = λ v d is named.
-      let equal : at.visit ≡ v = same_visit new.order.items from at.visit v (more.kept from at.visit at.is) is in
-      let list : ds ≡ deps_in graph v.group = same ∙ ap (deps_in graph) (sym at.same ∙ ap (λ (u : Visit). u.group) equal) in
+  covered = λ h d is named.
+      let list : ds ≡ deps_in graph h = same ∙ ap (deps_in graph) (same_visit new.order.items from g h (more.kept from g at) is) in
       let k = contains_at ds d (subst (λ xs. Contains xs d) (sym list) named) in
       each k.0 d (omega (arith, slice_get_within ds k.0 d k.1, all)) k.1;
 }
@@ -141,25 +139,7 @@ along : (next : ℕ → List ℕ) (P : ℕ → Type 0) → ((n k : ℕ) → P n 
 along next P keeps i j [] e holds = subst P e holds
 along next P keeps i j (k ∷ ks) e holds = along next P keeps k j ks e.1 (keeps i k holds e.0)
 
-module _ (graph : Graph) (trail : Trail) (flags : List Bool) (group i : ℕ) (t : IsTrailOf graph trail) (first : IsGroupAt trail.order.items 0 group) (noted : AreNoted graph trail flags) (home : home_in graph i ≡ Some group) where
-  one_on : (x g d : ℕ) → home_in graph x ≡ Some g → Contains (deps_in graph g) d → Reaches (entries_of graph) x d
-  one_on x g d is named = reaches_next (next_of (entries_of graph)) x d d (named_next graph x g d is named) (reaches_self (next_of (entries_of graph)) d)
-
-  -- what a group that was come to depends on is reached
-  reached : (n k : ℕ) (v : Visit) (d : ℕ) → k < n → IsVisit trail.order.items k v → Contains (deps_in graph v.group) d → Reaches (entries_of graph) i d
-  reached zero k v d less is named = absurd (omega (arith, less))
-  reached (suc n) k v d less is named = sort (λ j u e below at dep. reached n j u e below at dep) (cases_lt 0 k)
-    where
-      sort : ((j : ℕ) (u : Visit) (e : ℕ) → j < n → IsVisit trail.order.items j u → Contains (deps_in graph u.group) e → Reaches (entries_of graph) i e) → (0 < k) ⊎ (k ≤ 0) → Reaches (entries_of graph) i d
-      sort earlier (inl positive) =
-          let s = t.steps k v positive is in
-          let before = earlier v.from s.before v.via (omega (arith, s.earlier, less)) s.visited s.named in
-          reach_is_transitive (next_of (entries_of graph)) i v.via d before (one_on v.via v.group d s.member named)
-      sort earlier (inr none) =
-          let e : k ≡ 0 = omega (arith, none) in
-          let same : v.group ≡ group = ap (λ (u : Visit). u.group) (same_visit trail.order.items 0 v first.visit (subst (λ m. IsVisit trail.order.items m v) e is) first.is) ∙ first.same in
-          one_on i group d home (subst (λ g. Contains (deps_in graph g) d) same named)
-
+module _ (graph : Graph) (trail : Trail) (flags : List Bool) (group i : ℕ) (t : IsTrailOf graph trail) (first : IsVisit trail.order.items 0 group) (noted : AreNoted graph trail flags) (home : home_in graph i ≡ Some group) where
   module _ (closed : AreClosed graph) (all : (k : ℕ) → k < vec_len trail.order → IsCoveredFrom graph trail flags k) where
     covered_next : (n d : ℕ) → IsCovered graph trail flags n → Contains (next_of (entries_of graph) n) d → IsCovered graph trail flags d
     covered_next n d c named = let h = next_named graph n d named in sort h.0 h.1 h.2 c
@@ -168,12 +148,12 @@ module _ (graph : Graph) (trail : Trail) (flags : List Bool) (group i : ℕ) (t 
         sort g is dep (inl (inl high)) = inl (inl (closed.closed n g d high is dep))
         sort g is dep (inl (inr e)) =
             let s = t.known e.0 e.2 in
-            let same : s.visit.group ≡ g = s.same ∙ same_Some e.0 g (sym e.1 ∙ is) in
-            (all s.at (omega (arith, visit_below trail.order.items s.at s.visit s.is, trail.order.ok.0))).covered s.visit d s.is (subst (λ m. Contains (deps_in graph m) d) (sym same) dep)
+            let same : e.0 ≡ g = same_Some e.0 g (sym e.1 ∙ is) in
+            (all s.at (omega (arith, visit_below trail.order.items s.at e.0 s.is, trail.order.ok.0))).covered e.0 d s.is (subst (λ m. Contains (deps_in graph m) d) (sym same) dep)
         sort g is dep (inr flagged) = absurd (none-some g (sym (noted.only n flagged).is_open.absent ∙ is))
 
     start : IsCovered graph trail flags i
-    start = inl (inr (group, home, subst (λ g. is_set trail.seen.items g ≡ true) first.same (t.marked 0 first.visit first.is)))
+    start = inl (inr (group, home, t.marked 0 group first))
 
     flagged_absent : (j : ℕ) → is_emitted_at (entries_of graph) j ≡ false → IsCovered graph trail flags j → Contains (set_from 0 flags) j
     flagged_absent j absent (inl (inl high)) = let h = closed.emitted j high in absurd (both_ways (is_emitted_at (entries_of graph) j) absent (ap is_emitted (entry_home graph j h.0 h.1)))
@@ -185,10 +165,9 @@ module _ (graph : Graph) (trail : Trail) (flags : List Bool) (group i : ℕ) (t 
 
     flagged_reached : (j : ℕ) → is_set flags j ≡ true → Reaches (entries_of graph) i j × (is_emitted_at (entries_of graph) j ≡ false)
     flagged_reached j flagged =
-        let p = noted.only j flagged in
-        let n = p.is_open.named in (
-          reached (p.from + 1) p.from n.visit j (omega arith) n.is n.named,
-          ap is_emitted (entry_here graph j ∙ ap (entry_of graph.nodes.items) p.is_open.absent),
+        let o = (noted.only j flagged).is_open in (
+          o.met.reaches i (home ∙ ap Some (same_visit trail.order.items 0 group o.met.first first o.met.is)),
+          ap is_emitted (entry_here graph j ∙ ap (entry_of graph.nodes.items) o.absent),
         )
 
     pub counted_pending : (count : ℕ) → AreCounted flags count → IsPendingCount (entries_of graph) i count
@@ -224,13 +203,13 @@ counted_alone graph i none = record {
 pub kept_cleared : (core : Core) (trail : Trail) → IsKept core → IsClear trail → length trail.seen.items ≡ length core.trail.seen.items → IsKept (record core { trail = trail })
 kept_cleared core trail k clear groups = let s = k.sound in record {
   sound = record {
-    sizes = record { links = s.sizes.links; linked = s.sizes.linked; cursors = s.sizes.cursors; seen = groups ∙ s.sizes.seen; ready = s.sizes.ready; few = s.sizes.few };
+    sizes = record { links = s.sizes.links; nexts = s.sizes.nexts; heads = s.sizes.heads; cursors = s.sizes.cursors; seen = groups ∙ s.sizes.seen; ready = s.sizes.ready; few = s.sizes.few };
     wired = s.wired;
     members = s.members;
     ready = s.ready;
     ends = s.ends;
-    flags = s.flags;
-    deps = s.deps;
+    leads = s.leads;
+    queued = s.queued;
     cursors = s.cursors;
     clear = clear;
     room = s.room;

@@ -9,14 +9,12 @@ use Rattle.orc_ids.specs.declared.ids.InstId.{InstId}
 use Rattle.dep_groups.specs.declared.graph.Graph.{Graph}
 use Rattle.dep_groups.specs.declared.hits.Hits.{Hits}
 use Rattle.dep_groups.specs.declared.trail.Trail.{Trail}
-use Rattle.dep_groups.specs.declared.trail.Visit.{Visit}
 use Rattle.dep_groups.specs.Places.{place, is_set, unset}
-use Rattle.dep_groups.specs.Shape.{home_in}
+use Rattle.dep_groups.specs.Shape.{home_in, entries_of}
 use Rattle.dep_groups.specs.Search.{IsVisit, IsSeen, IsRoomy}
 use Rattle.dep_groups.specs.Seek.{IsClear}
 use Rattle.dep_groups.specs.Marks.{IsTold, Tells, AreOf}
 use Rattle.dep_groups.specs.Wake.{IsListed}
-use Rattle.dep_groups.specs.Kept.{entries_of}
 use Rattle.dep_groups.specs.Frontier.{Entry, next_of, Reaches, IsReady, IsHit, AreHits}
 use Rattle.dep_groups.specs.Hits.{IsComplete, IsNoted, IsCaused, IsMoreHit, IsStruck, IsSwept, IsSpread}
 use Rattle.dep_groups.proofs.Lists.{at_contains, contains_at}
@@ -69,7 +67,7 @@ noted_none hits clear none zero room = record {
 
 pub swept_none : (graph : Graph) (trail : Trail) (hits : Hits) → IsClear trail → IsSwept graph trail hits
 swept_none graph trail hits c = record {
-  marked = λ k v is. absurd (none-some v (ap (λ vs. slice_get vs k) (sym c.empty) ∙ is.is));
+  marked = λ k g is. absurd (none-some g (ap (λ vs. slice_get vs k) (sym c.empty) ∙ is.is));
   known = λ g is. absurd (both_ways (is_set trail.seen.items g) (c.unseen g) is);
   room = clear_roomy trail c;
   members = λ i g home is. absurd (both_ways (is_set trail.seen.items g) (c.unseen g) is);
@@ -102,23 +100,23 @@ module _ (hits new : Hits) (flags marks : List Bool) (was : flags ≡ hits.flags
           record { by = s.dep; hit = s.hit; reaches = reaches_next (next_of (entries_of graph)) i s.dep s.dep step (reaches_self (next_of (entries_of graph)) s.dep) }
 
 -- one group more is come to
-pub swept_more : (graph : Graph) (trail after : Trail) (hits new : Hits) (w : Visit) → after.order.items ≡ trail.order.items ++ w ∷ [] → ((n : ℕ) → is_set after.seen.items n ≡ (if w.group == n then true else is_set trail.seen.items n)) → IsRoomy after → ((i : ℕ) → is_set hits.flags.items i ≡ true → is_set new.flags.items i ≡ true) → ((i : ℕ) → home_in graph i ≡ Some w.group → is_set new.flags.items i ≡ true) → IsSwept graph trail hits → IsSwept graph after new
+pub swept_more : (graph : Graph) (trail after : Trail) (hits new : Hits) (w : ℕ) → after.order.items ≡ trail.order.items ++ w ∷ [] → ((n : ℕ) → is_set after.seen.items n ≡ (if w == n then true else is_set trail.seen.items n)) → IsRoomy after → ((i : ℕ) → is_set hits.flags.items i ≡ true → is_set new.flags.items i ≡ true) → ((i : ℕ) → home_in graph i ≡ Some w → is_set new.flags.items i ≡ true) → IsSwept graph trail hits → IsSwept graph after new
 swept_more graph trail after hits new w order says room stays members s = record {
-  marked = λ k v is. marked k v (visit_push trail.order.items w k v (subst (λ o. IsVisit o k v) order is));
-  known = λ g is. subst (λ o. IsSeen o g) (sym order) (known g (raised_cases (is_set trail.seen.items) (is_set after.seen.items) w.group says g is));
+  marked = λ k g is. marked k g (visit_push trail.order.items w k g (subst (λ o. IsVisit o k g) order is));
+  known = λ g is. subst (λ o. IsSeen o g) (sym order) (known g (raised_cases (is_set trail.seen.items) (is_set after.seen.items) w says g is));
   room = room;
-  members = λ i g home is. at_home i g home (raised_cases (is_set trail.seen.items) (is_set after.seen.items) w.group says g is);
+  members = λ i g home is. at_home i g home (raised_cases (is_set trail.seen.items) (is_set after.seen.items) w says g is);
 }
   where
-    marked : (k : ℕ) (v : Visit) → IsVisit trail.order.items k v ⊎ ((k ≡ length trail.order.items) × (w ≡ v)) → is_set after.seen.items v.group ≡ true
-    marked k v (inl e) = raised_kept (is_set trail.seen.items) (is_set after.seen.items) w.group says v.group (s.marked k v e)
-    marked k v (inr e) = subst (λ (u : Visit). is_set after.seen.items u.group ≡ true) e.1 (raised_here (is_set trail.seen.items) (is_set after.seen.items) w.group says)
+    marked : (k g : ℕ) → IsVisit trail.order.items k g ⊎ ((k ≡ length trail.order.items) × (w ≡ g)) → is_set after.seen.items g ≡ true
+    marked k g (inl e) = raised_kept (is_set trail.seen.items) (is_set after.seen.items) w says g (s.marked k g e)
+    marked k g (inr e) = subst (λ n. is_set after.seen.items n ≡ true) e.1 (raised_here (is_set trail.seen.items) (is_set after.seen.items) w says)
 
-    known : (g : ℕ) → (is_set trail.seen.items g ≡ true) ⊎ (w.group ≡ g) → IsSeen (trail.order.items ++ w ∷ []) g
-    known g (inl e) = let x = s.known g e in record { at = x.at; visit = x.visit; is = visit_kept trail.order.items w x.at x.visit x.is; same = x.same }
-    known g (inr e) = record { at = length trail.order.items; visit = w; is = visit_last trail.order.items w; same = e }
+    known : (g : ℕ) → (is_set trail.seen.items g ≡ true) ⊎ (w ≡ g) → IsSeen (trail.order.items ++ w ∷ []) g
+    known g (inl e) = let x = s.known g e in record { at = x.at; is = visit_kept trail.order.items w x.at g x.is }
+    known g (inr e) = record { at = length trail.order.items; is = subst (λ n. IsVisit (trail.order.items ++ w ∷ []) (length trail.order.items) n) e (visit_last trail.order.items w) }
 
-    at_home : (i g : ℕ) → home_in graph i ≡ Some g → (is_set trail.seen.items g ≡ true) ⊎ (w.group ≡ g) → is_set new.flags.items i ≡ true
+    at_home : (i g : ℕ) → home_in graph i ≡ Some g → (is_set trail.seen.items g ≡ true) ⊎ (w ≡ g) → is_set new.flags.items i ≡ true
     at_home i g home (inl e) = stays i (s.members i g home e)
     at_home i g home (inr e) = members i (home ∙ ap Some (sym e))
 

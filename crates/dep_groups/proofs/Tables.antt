@@ -32,17 +32,13 @@ through : {X Y : Type 0} (f : X → Y) (b : Bool) (x y : X) → f (cond b x y) �
 through f true x y = refl
 through f false x y = refl
 
-pub place_written : (xs : List (Option ℕ)) (k n x : ℕ) → k < length xs → place (slice_set xs k (Some x)) n ≡ (if k == n then Some x else place xs n)
+pub place_set : (xs : List (Option ℕ)) (k n : ℕ) (x : Option ℕ) → k < length xs → place (slice_set xs k x) n ≡ (if k == n then x else place xs n)
 unfolding place
-place_written xs k n x less = ap within_place (written xs k n (Some x) less) ∙ through within_place (k == n) (Some (Some x)) (slice_get xs n)
+place_set xs k n x less = ap within_place (written xs k n x less) ∙ through within_place (k == n) (Some x) (slice_get xs n)
 
 pub place_past : (xs : List (Option ℕ)) (k : ℕ) → length xs ≤ k → None ≡ place xs k
 unfolding place
 place_past xs k past = sym (ap within_place (slice_get_past xs k past))
-
-pub place_emptied : (xs : List (Option ℕ)) (k n : ℕ) → k < length xs → place (slice_set xs k None) n ≡ (if k == n then None else place xs n)
-unfolding place
-place_emptied xs k n less = ap within_place (written xs k n None less) ∙ through within_place (k == n) (Some None) (slice_get xs n)
 
 -- past the end there is nothing to empty
 pub place_left : (xs : List (Option ℕ)) (k n : ℕ) → length xs ≤ k → place xs n ≡ (if k == n then None else place xs n)

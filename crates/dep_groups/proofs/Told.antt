@@ -78,3 +78,11 @@ members_read nodes g n less read = sym (ap (λ o. option_map_or (λ (m : Node). 
 pub members_past : (nodes : List Node) (g : ℕ) → length nodes ≤ g → [] ≡ members_of nodes g
 unfolding members_of
 members_past nodes g past = sym (ap (λ o. option_map_or (λ (m : Node). m.members.items) o []) (slice_get_past nodes g past))
+
+-- what was told is ready, and what is told more
+pub told_ready : (old new : List Bool) (was told : List InstId) → Tells old new was told → ((k : ℕ) (m : InstId) → slice_get was k ≡ Some m → is_set old m.0 ≡ true) → (k : ℕ) (m : InstId) → slice_get told k ≡ Some m → is_set new m.0 ≡ true
+told_ready old new was told t before k m is = ⊎_elim
+    (λ (b : k < length was).
+    let here : slice_get was k ≡ Some (get_or was k m) = slice_get-get_or was k m b in
+    t.stays m.0 (before k m (here ∙ sym (t.front k (get_or was k m) here) ∙ is)))
+    (λ (b : length was ≤ k). (t.only k m b is).1) (cases_lt k (length was))

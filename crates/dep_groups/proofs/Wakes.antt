@@ -9,10 +9,9 @@ use Rattle.dep_groups.specs.declared.graph.Graph.{Graph}
 use Rattle.dep_groups.specs.declared.resolve.Core.{Core}
 use Rattle.dep_groups.specs.Places.{place}
 use Rattle.dep_groups.specs.Shape.{home_in, deps_in, deps_of, ready_in}
-use Rattle.dep_groups.specs.Search.{LinksAreDeps}
-use Rattle.dep_groups.specs.Links.{IsHeld}
+use Rattle.dep_groups.specs.Links.{AreQueued, IsHeld, IsRelinked}
 use Rattle.dep_groups.specs.Marks.{IsTold, Tells}
-use Rattle.dep_groups.specs.Wake.{IsSameGraph, IsListed, here, later, IsIndexed, IsWaking, IsLeft, AreHeld, AreHeldBut}
+use Rattle.dep_groups.specs.Wake.{IsSameGraph, IsListed, IsIndexed, IsWaking, AreHeld, AllHeld, IsSettled}
 
 -- how many mentions may be left
 abbrev pub left : Option ℕ → ℕ
@@ -45,14 +44,14 @@ module _ (old new : Core) (group : ℕ) where
   pub record IsResolved : Type 0 where
     pub graph : IsSameGraph old.graph new.graph
     pub tells : Tells old.graph.ready.items new.graph.ready.items old.told.items new.told.items
-    pub held : (i : ℕ) → home_in new.graph i ≡ Some group → (ready_in new.graph i ≡ true) ⊎ IsHeld new.graph new.links.items group
-    pub kept : (g : ℕ) → IsHeld new.graph new.links.items g ⊎ (place new.links.items g ≡ place old.links.items g)
+    pub settled : IsSettled new group
+    pub only : IsRelinked old.links.items new.links.items group
 
-  pub waking_kept : IsResolved → (at g : ℕ) → place new.links.items g ≡ place old.links.items g → IsWaking old at g → IsWaking new at g
+  waking_kept : IsResolved → (at g : ℕ) → place new.links.items g ≡ place old.links.items g → IsWaking old at g → IsWaking new at g
   waking_kept r at g same w = record { to = w.to; link = same ∙ w.link; told = record { at = w.told.at; after = w.told.after; is = r.tells.front w.told.at (record { 0 = w.to }) w.told.is } }
 
   -- what was held is held, or to be woken
-  pub held_kept : IsResolved → (at g : ℕ) → at ≤ length old.told.items → place new.links.items g ≡ place old.links.items g → IsHeld old.graph old.links.items g → IsHeld new.graph new.links.items g ⊎ IsWaking new at g
+  held_kept : IsResolved → (at g : ℕ) → at ≤ length old.told.items → place new.links.items g ≡ place old.links.items g → IsHeld old.graph old.links.items g → IsHeld new.graph new.links.items g ⊎ IsWaking new at g
   held_kept r at g few same h = sort (cases_Bool (ready_in new.graph h.to))
     where
       told : (ready_in old.graph h.to ≡ true) ⊎ IsTold new.told.items (length old.told.items) (record { 0 = h.to }) → IsWaking new at g
@@ -79,83 +78,35 @@ module _ (old new : Core) (group : ℕ) where
       mine i g low e (inr x) = inl (subst (λ n. IsHeld new.graph new.links.items n) (sym e) x)
 
       sort : (i g : ℕ) → home_in new.graph i ≡ Some g → ready_in new.graph i ≡ false → (g ≡ group) ⊎ (g ≡ group → ⊥) → IsHeld new.graph new.links.items g ⊎ (IsWaking new at g ⊎ (next ≤ g))
-      sort i g member low (inl e) = mine i g low e (r.held i (subst (λ n. home_in new.graph i ≡ Some n) e member))
-      sort i g member low (inr e) = ⊎_elim (λ (x : IsHeld new.graph new.links.items g). inl x)
-          (λ (same : place new.links.items g ≡ place old.links.items g). kept g e same (h.held i g (sym (same_home old.graph new.graph i r.graph) ∙ member) (was_unready r i low)))
-          (r.kept g)
+      sort i g member low (inl e) = mine i g low e (r.settled i (subst (λ n. home_in new.graph i ≡ Some n) e member))
+      sort i g member low (inr e) = kept g e (r.only.kept g e) (h.held i g (sym (same_home old.graph new.graph i r.graph) ∙ member) (was_unready r i low))
 
--- one mention further
-not_here : (edges : List Edge) (k g : ℕ) (e : Edge) → slice_get edges k ≡ Some e → (g ≡ e.group → ⊥) → IsListed edges (Some k) g → IsListed edges e.next g
-not_here edges k g e at apart (here f is same) = absurd (apart (sym same ∙ ap (λ (x : Edge). x.group) (same_Some f e (sym is ∙ at))))
-not_here edges k g e at apart (later f is rest) = subst (λ (x : Edge). IsListed edges x.next g) (same_Some f e (sym is ∙ at)) rest
-
-pub but_passed : (core : Core) (at instance k : ℕ) (e : Edge) → slice_get core.graph.edges.items k ≡ Some e → (place core.links.items e.group ≡ Some instance → ⊥) → AreHeldBut core at instance (Some k) → AreHeldBut core at instance e.next
-but_passed core at instance k e is unlinked h = record { held = λ i g member low. sort g (h.held i g member low) }
+-- nobody is linked to an instance without a queue
+pub held_passed : (core : Core) (fresh at : ℕ) (m : InstId) → AreQueued core.links.items core.nexts.items core.heads.items → place core.heads.items m.0 ≡ None → slice_get core.told.items at ≡ Some m → AreHeld core fresh at → AreHeld core fresh (at + 1)
+held_passed core fresh at m q none told h = record { held = λ i g member low. sort g (h.held i g member low) }
   where
-    sort : (g : ℕ) → IsHeld core.graph core.links.items g ⊎ (IsWaking core at g ⊎ IsLeft core instance (Some k) g) → IsHeld core.graph core.links.items g ⊎ (IsWaking core at g ⊎ IsLeft core instance e.next g)
-    sort g (inl x) = inl x
-    sort g (inr (inl x)) = inr (inl x)
-    sort g (inr (inr x)) = inr (inr (record { link = x.link; listed = not_here core.graph.edges.items k g e is (λ same. unlinked (subst (λ n. place core.links.items n ≡ Some instance) same x.link)) x.listed }))
-
-pub but_resolved : (old new : Core) (at instance k : ℕ) (e : Edge) → at ≤ length old.told.items → slice_get old.graph.edges.items k ≡ Some e → IsResolved old new e.group → AreHeldBut old at instance (Some k) → AreHeldBut new at instance e.next
-but_resolved old new at instance k e few is r h = record { held = λ i g member low. sort i g member low (cases_eq g e.group) }
-  where
-    kept : (g : ℕ) → (g ≡ e.group → ⊥) → place new.links.items g ≡ place old.links.items g → IsHeld old.graph old.links.items g ⊎ (IsWaking old at g ⊎ IsLeft old instance (Some k) g) → IsHeld new.graph new.links.items g ⊎ (IsWaking new at g ⊎ IsLeft new instance e.next g)
-    kept g apart same (inl x) = ⊎_elim (λ (y : IsHeld new.graph new.links.items g). inl y) (λ (y : IsWaking new at g). inr (inl y)) (held_kept old new e.group r at g few same x)
-    kept g apart same (inr (inl x)) = inr (inl (waking_kept old new e.group r at g same x))
-    kept g apart same (inr (inr x)) = inr (inr (record { link = same ∙ x.link; listed = subst (λ es. IsListed es.items e.next g) (sym r.graph.edges) (not_here old.graph.edges.items k g e is apart x.listed) }))
-
-    mine : (i g : ℕ) → ready_in new.graph i ≡ false → g ≡ e.group → (ready_in new.graph i ≡ true) ⊎ IsHeld new.graph new.links.items e.group → IsHeld new.graph new.links.items g ⊎ (IsWaking new at g ⊎ IsLeft new instance e.next g)
-    mine i g low same (inl high) = absurd (both_ways (ready_in new.graph i) low high)
-    mine i g low same (inr x) = inl (subst (λ n. IsHeld new.graph new.links.items n) (sym same) x)
-
-    sort : (i g : ℕ) → home_in new.graph i ≡ Some g → ready_in new.graph i ≡ false → (g ≡ e.group) ⊎ (g ≡ e.group → ⊥) → IsHeld new.graph new.links.items g ⊎ (IsWaking new at g ⊎ IsLeft new instance e.next g)
-    sort i g member low (inl same) = mine i g low same (r.held i (subst (λ n. home_in new.graph i ≡ Some n) same member))
-    sort i g member low (inr apart) = ⊎_elim (λ (x : IsHeld new.graph new.links.items g). inl x)
-        (λ (same : place new.links.items g ≡ place old.links.items g). kept g apart same (h.held i g (sym (same_home old.graph new.graph i r.graph) ∙ member) (was_unready old new e.group r i low)))
-        (r.kept g)
-
--- where it begins and ends
-pub but_first : (core : Core) (at fresh : ℕ) (m : InstId) → IsIndexed core.graph → LinksAreDeps core.graph core.links.items → ((i g : ℕ) → home_in core.graph i ≡ Some g → g < fresh) → slice_get core.told.items at ≡ Some m → AreHeld core fresh at → AreHeldBut core (at + 1) m.0 (place core.graph.firsts.items m.0)
-but_first core at fresh m x deps within told h = record { held = λ i g member low. sort i g member (h.held i g member low) }
-  where
-    sort : (i g : ℕ) → home_in core.graph i ≡ Some g → IsHeld core.graph core.links.items g ⊎ (IsWaking core at g ⊎ (fresh ≤ g)) → IsHeld core.graph core.links.items g ⊎ (IsWaking core (at + 1) g ⊎ IsLeft core m.0 (place core.graph.firsts.items m.0) g)
-    sort i g member (inl e) = inl e
-    sort i g member (inr (inr e)) = absurd (omega (arith, e, within i g member))
-    sort i g member (inr (inl w)) = ⊎_elim
+    sort : (g : ℕ) → IsHeld core.graph core.links.items g ⊎ (IsWaking core at g ⊎ (fresh ≤ g)) → IsHeld core.graph core.links.items g ⊎ (IsWaking core (at + 1) g ⊎ (fresh ≤ g))
+    sort g (inl e) = inl e
+    sort g (inr (inr e)) = inr (inr e)
+    sort g (inr (inl w)) = ⊎_elim
         (λ (b : at < w.told.at). inr (inl (record { to = w.to; link = w.link; told = record { at = w.told.at; after = omega (arith, b); is = w.told.is } })))
         (λ (b : w.told.at ≤ at).
         let e : w.told.at ≡ at = omega (arith, b, w.told.after) in
         let same : w.to ≡ m.0 = ap (λ (y : InstId). y.0) (same_Some (record { 0 = w.to }) m (sym w.told.is ∙ ap (λ n. slice_get core.told.items n) e ∙ told)) in
-        let link : place core.links.items g ≡ Some m.0 = w.link ∙ ap Some same in
-        inr (inr (record { link = link; listed = x.complete g m.0 (deps.deps g m.0 link) })))
+        let x = q.all g m.0 (w.link ∙ ap Some same) in
+        absurd (none-some x.head (sym none ∙ x.is)))
         (cases_lt at w.told.at)
 
-nowhere : (edges : List Edge) (next : Option ℕ) (g : ℕ) → next ≡ None → IsListed edges next g → ⊥
-nowhere edges next g e (here {k = k} f is same) = none-some k (sym e)
-nowhere edges next g e (later {k = k} f is rest) = none-some k (sym e)
-
-pub but_last : (core : Core) (at instance fresh : ℕ) (next : Option ℕ) → next ≡ None → AreHeldBut core at instance next → AreHeld core fresh at
-but_last core at instance fresh next none h = record { held = λ i g member low. sort g (h.held i g member low) }
+pub all_held : (core : Core) (fresh at : ℕ) → length core.told.items ≤ at → ((i g : ℕ) → home_in core.graph i ≡ Some g → g < fresh) → AreHeld core fresh at → AllHeld core.graph core.links.items
+all_held core fresh at done within h = record { held = λ i g member low. sort i g member (h.held i g member low) }
   where
-    sort : (g : ℕ) → IsHeld core.graph core.links.items g ⊎ (IsWaking core at g ⊎ IsLeft core instance next g) → IsHeld core.graph core.links.items g ⊎ (IsWaking core at g ⊎ (fresh ≤ g))
-    sort g (inl e) = inl e
-    sort g (inr (inl e)) = inr (inl e)
-    sort g (inr (inr e)) = absurd (nowhere core.graph.edges.items next g none e.listed)
-
-pub all_held : (core : Core) (fresh at : ℕ) → length core.told.items ≤ at → ((i g : ℕ) → home_in core.graph i ≡ Some g → g < fresh) → AreHeld core fresh at → (i g : ℕ) → home_in core.graph i ≡ Some g → ready_in core.graph i ≡ false → IsHeld core.graph core.links.items g
-all_held core fresh at done within h i g member low = sort (h.held i g member low)
-  where
-    sort : IsHeld core.graph core.links.items g ⊎ (IsWaking core at g ⊎ (fresh ≤ g)) → IsHeld core.graph core.links.items g
-    sort (inl e) = e
-    sort (inr (inl w)) = absurd (omega (arith, done, w.told.after, slice_get_within core.told.items w.told.at (record { 0 = w.to }) w.told.is))
-    sort (inr (inr e)) = absurd (omega (arith, e, within i g member))
+    sort : (i g : ℕ) → home_in core.graph i ≡ Some g → IsHeld core.graph core.links.items g ⊎ (IsWaking core at g ⊎ (fresh ≤ g)) → IsHeld core.graph core.links.items g
+    sort i g member (inl e) = e
+    sort i g member (inr (inl w)) = absurd (omega (arith, done, w.told.after, slice_get_within core.told.items w.told.at (record { 0 = w.to }) w.told.is))
+    sort i g member (inr (inr e)) = absurd (omega (arith, e, within i g member))
 
 pub further_one : (fresh g : ℕ) → fresh ≤ g → (g ≡ fresh → ⊥) → fresh + 1 ≤ g
 further_one fresh g e apart = ⊎_elim (λ (b : fresh < g). omega (arith, b)) (λ (b : g ≤ fresh). let same : g ≡ fresh = omega (arith, e, b) in absurd (apart same)) (cases_lt fresh g)
-
-pub edge_same : (edges : List Edge) (k : ℕ) (d e : Edge) → k < length edges → d ≡ get_or edges k d → slice_get edges k ≡ Some e → d ≡ e
-edge_same edges k d e less read is = same_Some d e (sym (slice_get_read edges (length edges) k d refl less read) ∙ is)
 
 pub left_falls : (next new : Option ℕ) (k : ℕ) → next ≡ Some k → ((j : ℕ) → new ≡ Some j → j < k) → left new < left next
 left_falls next new k is falls = subst (λ o. left new < left o) (sym is) (sort new falls)

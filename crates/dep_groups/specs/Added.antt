@@ -25,7 +25,7 @@ pub record HasRoom (core : Core) (groups deps : ℕ) : Type 0 where
   pub edges : vec_len core.graph.edges + deps ≤ vec_capacity core.graph.edges
   pub nodes : vec_len core.graph.nodes + groups ≤ vec_capacity core.graph.nodes
   pub links : vec_len core.links + groups ≤ vec_capacity core.links
-  pub linked : vec_len core.linked + groups ≤ vec_capacity core.linked
+  pub nexts : vec_len core.nexts + groups ≤ vec_capacity core.nexts
   pub cursors : vec_len core.cursors + groups ≤ vec_capacity core.cursors
   pub seen : vec_len core.trail.seen + groups ≤ vec_capacity core.trail.seen
   pub order : vec_len core.trail.seen + groups ≤ vec_capacity core.trail.order

@@ -3,7 +3,6 @@ use Rattle.std.specs.Prelude.{◌≡◌, ℕ, ◌<◌, ◌≤◌, ◌+◌, Bool,
 use Rattle.orc_ids.specs.declared.ids.InstId.{InstId}
 use Rattle.dep_groups.specs.declared.graph.Graph.{Graph}
 use Rattle.dep_groups.specs.declared.trail.Trail.{Trail}
-use Rattle.dep_groups.specs.declared.trail.Visit.{Visit}
 use Rattle.dep_groups.specs.declared.hits.Hits.{Hits}
 use Rattle.dep_groups.specs.declared.resolve.Core.{Core}
 use Rattle.dep_groups.specs.Places.{place, is_set, unset}
@@ -67,7 +66,7 @@ pub record IsStruck (graph : Graph) (hits : Hits) (g : ℕ) : Type 0 where
 
 -- of the groups that a failure came to all members are hit
 pub record IsSwept (graph : Graph) (trail : Trail) (hits : Hits) : Type 0 where
-  pub marked : (k : ℕ) (v : Visit) → IsVisit trail.order.items k v → is_set trail.seen.items v.group ≡ true
+  pub marked : (k g : ℕ) → IsVisit trail.order.items k g → is_set trail.seen.items g ≡ true
   pub known : (g : ℕ) → is_set trail.seen.items g ≡ true → IsSeen trail.order.items g
   pub room : IsRoomy trail
   pub members : (i g : ℕ) → home_in graph i ≡ Some g → is_set trail.seen.items g ≡ true → is_set hits.flags.items i ≡ true

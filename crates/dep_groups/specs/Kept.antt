@@ -1,21 +1,11 @@
 -- How a frontier keeps what it is.
-use Rattle.std.specs.Prelude.{◌≡◌, ℕ, false, Option, Some, None, List, map, length}
-use Rattle.dep_groups.specs.declared.graph.Graph.{Graph}
-use Rattle.dep_groups.specs.declared.graph.Node.{Node}
+use Rattle.std.specs.Prelude.{◌≡◌, ℕ, false, Some, List, length}
 use Rattle.dep_groups.specs.declared.resolve.Core.{Core}
-use Rattle.dep_groups.specs.Shape.{home_in, deps_of, ready_in}
+use Rattle.dep_groups.specs.Shape.{home_in, ready_in, entries_of}
 use Rattle.dep_groups.specs.Links.{IsHeld}
 use Rattle.dep_groups.specs.Core.{IsSound}
 use Rattle.dep_groups.specs.Wake.{IsIndexed}
-use Rattle.dep_groups.specs.Frontier.{Entry, Absent, Emitted}
-
--- an instance of a group is emitted with what the group depends on
-abbrev pub entry_of : List Node → Option ℕ → Entry
-entry_of nodes None = Absent
-entry_of nodes (Some g) = Emitted (deps_of nodes g)
-
-abbrev pub entries_of : Graph → List Entry
-entries_of graph = map (entry_of graph.nodes.items) graph.homes.items
+use Rattle.dep_groups.specs.Frontier.{Entry}
 
 abbrev pub entries_in : Core → List Entry
 entries_in core = entries_of core.graph

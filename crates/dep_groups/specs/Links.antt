@@ -1,12 +1,9 @@
--- The links of groups: each leads to an instance that the group depends on.
-use Rattle.std.specs.Prelude.{◌≡◌, ℕ, ◌<◌, Bool, true, false, Option, Some, None, ◌⊎◌, List}
+-- The links of groups: each leads to an instance that the group waits for, and stands in that instance's queue.
+use Rattle.std.specs.Prelude.{◌≡◌, ℕ, ◌<◌, ◌+◌, ◌==◌, if◌then◌else◌, false, Option, Some, None, ◌⊎◌, List, [], ◌∷◌, length}
 use Rattle.dep_groups.specs.declared.graph.Graph.{Graph}
-use Rattle.dep_groups.specs.declared.trail.Found.{Found}
-use Rattle.dep_groups.specs.declared.trail.Trail.{Trail}
-use Rattle.dep_groups.specs.Places.{place, is_set}
-use Rattle.dep_groups.specs.Shape.{home_in, ready_in}
-use Rattle.dep_groups.specs.declared.trail.Visit.{Visit}
-use Rattle.dep_groups.specs.Search.{IsNamed, IsVisit}
+use Rattle.dep_groups.specs.Places.{place}
+use Rattle.dep_groups.specs.Shape.{home_in, ready_in, entries_of}
+use Rattle.dep_groups.specs.Frontier.{Reaches}
 
 -- one step along the links, from an instance to what its group is linked to
 abbrev pub linked_of : (ℕ → Option ℕ) → Option ℕ → Option ℕ
@@ -21,35 +18,53 @@ pub data Ends (next : ℕ → Option ℕ) (keep : ℕ → Type 0) : ℕ → Type
   stop : {i : ℕ} → keep i → next i ≡ None → Ends next keep i
   go : {i j : ℕ} → keep i → next i ≡ Some j → Ends next keep j → Ends next keep i
 
+-- the steps from i come to j
+pub data Comes (next : ℕ → Option ℕ) : ℕ → ℕ → Type 0 where
+  here : {i j : ℕ} → i ≡ j → Comes next i j
+  later : {i j k : ℕ} → next i ≡ Some k → Comes next k j → Comes next i j
+
 -- from every instance the links end
 pub record AllEnd (graph : Graph) (links : List (Option ℕ)) : Type 0 where
   pub each : (i : ℕ) → Ends (step (home_in graph) (place links)) (λ k. Unit {0}) i
 
--- a group is flagged where another one may be linked to one of its members
-pub record AreFlagged (graph : Graph) (links : List (Option ℕ)) (linked : List Bool) : Type 0 where
-  pub flagged : (g d h : ℕ) → place links g ≡ Some d → home_in graph d ≡ Some h → is_set linked h ≡ true
+-- a group stands in the queue of an instance
+pub record IsQueued (nexts heads : List (Option ℕ)) (d g : ℕ) : Type 0 where
+  pub head : ℕ
+  pub is : place heads d ≡ Some head
+  pub way : Comes (place nexts) head g
 
--- the group is linked to a dependency that isn't ready
+-- the queue of an instance ends, and has exactly the groups that are linked to it
+pub record AreQueued (links nexts heads : List (Option ℕ)) : Type 0 where
+  pub only : (d h : ℕ) → place heads d ≡ Some h → Ends (place nexts) (λ g. place links g ≡ Some d) h
+  pub all : (g d : ℕ) → place links g ≡ Some d → IsQueued nexts heads d g
+
+-- the group is linked to an instance that isn't ready
 pub record IsHeld (graph : Graph) (links : List (Option ℕ)) (g : ℕ) : Type 0 where
   pub to : ℕ
   pub link : place links g ≡ Some to
   pub unready : ready_in graph to ≡ false
 
--- nothing is linked to a member of the search's first group, and the instance is none of them
-pub record IsAlone (graph : Graph) (linked : List Bool) (order : List Visit) (to : ℕ) : Type 0 where
-  pub unlinked : (v : Visit) → IsVisit order 0 v → is_set linked v.group ≡ false
-  pub other : (v : Visit) → IsVisit order 0 v → home_in graph to ≡ Some v.group → ⊥
+-- nobody waits for a member of the group, and the instance is none of them
+pub record IsAlone (graph : Graph) (heads : List (Option ℕ)) (g to : ℕ) : Type 0 where
+  pub unlinked : (d : ℕ) → home_in graph d ≡ Some g → place heads d ≡ None
+  pub other : home_in graph to ≡ Some g → ⊥
 
--- what a search found can be linked to, and no circle of links is closed
-pub record IsFound (graph : Graph) (linked : List Bool) (trail : Trail) (f : Found) : Type 0 where
-  pub named : IsNamed graph trail f.from f.to
-  pub unready : ready_in graph f.to ≡ false
-  pub apart : (home_in graph f.to ≡ None) ⊎ ((f.from ≡ 0) × IsAlone graph linked trail.order.items f.to)
+-- a group can be linked to what a search found, and no circle of links is closed
+pub record IsFound (graph : Graph) (heads : List (Option ℕ)) (g to : ℕ) : Type 0 where
+  pub reached : (i : ℕ) → home_in graph i ≡ Some g → Reaches (entries_of graph) i to
+  pub below : to < length graph.homes.items
+  pub unready : ready_in graph to ≡ false
+  pub apart : (home_in graph to ≡ None) ⊎ IsAlone graph heads g to
 
--- the way from an instance comes to none of the groups of the first visits
-abbrev pub Avoids : (ℕ → Option ℕ) → List Visit → ℕ → ℕ → Type 0
-Avoids home order n i = (j : ℕ) (v : Visit) → j < n → IsVisit order j v → home i ≡ Some v.group → ⊥
+-- only the link of one group is another
+pub record IsRelinked (old new : List (Option ℕ)) (g : ℕ) : Type 0 where
+  pub kept : (n : ℕ) → (n ≡ g → ⊥) → place new n ≡ place old n
 
--- the links of the members of the visit number k end away from the groups of the visits before
-pub record EndsAway (graph : Graph) (links : List (Option ℕ)) (order : List Visit) (k : ℕ) : Type 0 where
-  pub away : (v : Visit) (i : ℕ) → IsVisit order k v → home_in graph i ≡ Some v.group → Ends (step (home_in graph) (place links)) (Avoids (home_in graph) order k) i
+-- how many groups are linked to an instance
+abbrev pub linked_once : ℕ → Option ℕ → ℕ
+linked_once i None = 0
+linked_once i (Some d) = if d == i then 1 else 0
+
+abbrev pub waiting : ℕ → List (Option ℕ) → ℕ
+waiting i [] = 0
+waiting i (x ∷ xs) = linked_once i x + waiting i xs

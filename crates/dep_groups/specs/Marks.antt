@@ -1,9 +1,8 @@
 -- What becomes ready, and is told.
-use Rattle.std.specs.Prelude.{◌≡◌, ℕ, ◌≤◌, Bool, true, false, Option, Some, ◌⊎◌, List, [], slice_get, length}
+use Rattle.std.specs.Prelude.{◌≡◌, ℕ, ◌≤◌, Bool, true, false, Option, Some, ◌⊎◌, List, [], slice_get, length, Contains}
 use Rattle.std.specs.Option.{option_map_or}
 use Rattle.orc_ids.specs.declared.ids.InstId.{InstId}
 use Rattle.dep_groups.specs.declared.graph.Node.{Node}
-use Rattle.dep_groups.specs.declared.trail.Visit.{Visit}
 use Rattle.dep_groups.specs.Places.{place, is_set}
 use Rattle.dep_groups.specs.Search.{IsVisit}
 
@@ -31,8 +30,12 @@ abbrev pub AreOf : List (Option ℕ) → List Bool → List Bool → ℕ → Typ
 AreOf homes old new g = (i : ℕ) → is_set new i ≡ true → (is_set old i ≡ true) ⊎ (place homes i ≡ Some g)
 
 -- the instance is of a group that a search came to
-pub record IsOfTrail (homes : List (Option ℕ)) (order : List Visit) (i : ℕ) : Type 0 where
+pub record IsOfTrail (homes : List (Option ℕ)) (order : List ℕ) (i : ℕ) : Type 0 where
   pub at : ℕ
-  pub visit : Visit
-  pub is : IsVisit order at visit
-  pub member : place homes i ≡ Some visit.group
+  pub group : ℕ
+  pub is : IsVisit order at group
+  pub member : place homes i ≡ Some group
+
+-- all members of the groups that a search came to, as far as they are at home there, are marked
+pub record AreMarked (homes : List (Option ℕ)) (nodes : List Node) (ready : List Bool) (order : List ℕ) : Type 0 where
+  pub marked : (g : ℕ) (m : InstId) → Contains order g → Contains (members_of nodes g) m → place homes m.0 ≡ Some g → is_set ready m.0 ≡ true

@@ -2,10 +2,9 @@
 use Rattle.std.specs.Prelude.{◌≡◌, ℕ, ◌<◌, ◌+◌, Bool, true, ◌⊎◌, List, length, Contains}
 use Rattle.dep_groups.specs.declared.graph.Graph.{Graph}
 use Rattle.dep_groups.specs.declared.trail.Trail.{Trail}
-use Rattle.dep_groups.specs.declared.trail.Visit.{Visit}
 use Rattle.dep_groups.specs.Places.{is_set, unset}
 use Rattle.dep_groups.specs.Shape.{deps_in}
-use Rattle.dep_groups.specs.Search.{IsVisit, IsLooked, IsOpen}
+use Rattle.dep_groups.specs.Search.{IsVisit, IsNamed, IsLooked, IsOpen}
 
 -- so many flags are set
 pub record AreCounted (flags : List Bool) (count : ℕ) : Type 0 where
@@ -18,7 +17,8 @@ pub record AreWithin (graph : Graph) (flags : List Bool) : Type 0 where
 -- a group that was come to depends on the instance, and the instance is not emitted
 pub record IsPending (graph : Graph) (trail : Trail) (i : ℕ) : Type 0 where
   pub from : ℕ
-  pub is_open : IsOpen graph trail (record { from = from; to = i })
+  pub named : IsNamed graph trail from i
+  pub is_open : IsOpen graph trail i
 
 -- only such instances are flagged
 pub record AreNoted (graph : Graph) (trail : Trail) (flags : List Bool) : Type 0 where
@@ -30,4 +30,4 @@ IsCovered graph trail flags i = IsLooked graph trail i ⊎ (is_set flags i ≡ t
 
 -- so is all that the group of a visit depends on
 pub record IsCoveredFrom (graph : Graph) (trail : Trail) (flags : List Bool) (k : ℕ) : Type 0 where
-  pub covered : (v : Visit) (d : ℕ) → IsVisit trail.order.items k v → Contains (deps_in graph v.group) d → IsCovered graph trail flags d
+  pub covered : (g d : ℕ) → IsVisit trail.order.items k g → Contains (deps_in graph g) d → IsCovered graph trail flags d

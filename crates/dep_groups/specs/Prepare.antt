@@ -26,7 +26,8 @@ pub record IsRoomierGraph (old new : Graph) : Type 0 where
 pub record IsRoomier (old new : Core) : Type 0 where
   pub graph : IsRoomierGraph old.graph new.graph
   pub links : new.links.items ≡ old.links.items
-  pub linked : new.linked.items ≡ old.linked.items
+  pub nexts : new.nexts.items ≡ old.nexts.items
+  pub heads : new.heads.items ≡ old.heads.items
   pub cursors : new.cursors.items ≡ old.cursors.items
   pub seen : new.trail.seen.items ≡ old.trail.seen.items
   pub order : new.trail.order.items ≡ old.trail.order.items
@@ -45,11 +46,12 @@ pub record HasPlaces (graph : Graph) (groups deps places : ℕ) : Type 0 where
 
 pub record HasTables (core : Core) (groups places : ℕ) : Type 0 where
   pub links : vec_len core.links + groups ≤ vec_capacity core.links
-  pub linked : vec_len core.linked + groups ≤ vec_capacity core.linked
+  pub nexts : vec_len core.nexts + groups ≤ vec_capacity core.nexts
   pub cursors : vec_len core.cursors + groups ≤ vec_capacity core.cursors
   pub seen : vec_len core.trail.seen + groups ≤ vec_capacity core.trail.seen
   pub order : vec_len core.trail.seen + groups ≤ vec_capacity core.trail.order
   pub told : places ≤ vec_capacity core.told
+  pub heads : places ≤ vec_capacity core.heads
 
 -- the same for all that is there; there may be more places for instances
 pub record IsAlike (old new : Core) : Type 0 where
@@ -59,10 +61,13 @@ pub record IsAlike (old new : Core) : Type 0 where
   pub nodes : new.graph.nodes.items ≡ old.graph.nodes.items
   pub edges : new.graph.edges.items ≡ old.graph.edges.items
   pub links : new.links.items ≡ old.links.items
-  pub linked : new.linked.items ≡ old.linked.items
+  pub nexts : new.nexts.items ≡ old.nexts.items
+  pub heads : (d : ℕ) → place new.heads.items d ≡ place old.heads.items d
   pub cursors : new.cursors.items ≡ old.cursors.items
   pub seen : new.trail.seen.items ≡ old.trail.seen.items
   pub order : new.trail.order.items ≡ old.trail.order.items
   pub order_room : vec_capacity old.trail.order ≤ vec_capacity new.trail.order
+  pub heads_size : length new.heads.items ≡ length new.graph.homes.items
+  pub more : length old.graph.homes.items ≤ length new.graph.homes.items
   pub size : length new.graph.ready.items ≡ length new.graph.homes.items
   pub room : vec_len new.told + unset new.graph.ready.items ≤ vec_capacity new.told

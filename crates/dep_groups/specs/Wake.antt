@@ -1,5 +1,6 @@
 -- The groups that have to be looked at again, since what they were linked to is ready.
-use Rattle.std.specs.Prelude.{◌≡◌, ℕ, ◌<◌, ◌≤◌, false, Option, Some, ◌⊎◌, List, length, slice_get, Contains}
+use Rattle.std.specs.Prelude.{◌≡◌, ℕ, ◌<◌, ◌≤◌, true, false, Option, Some, None, ◌⊎◌, List, length, slice_get, Contains}
+use Rattle.orc_ids.specs.declared.ids.InstId.{InstId}
 use Rattle.dep_groups.specs.declared.graph.Edge.{Edge}
 use Rattle.dep_groups.specs.declared.graph.Graph.{Graph}
 use Rattle.dep_groups.specs.declared.resolve.Core.{Core}
@@ -34,15 +35,22 @@ pub record IsWaking (core : Core) (at g : ℕ) : Type 0 where
   pub link : place core.links.items g ≡ Some to
   pub told : IsTold core.told.items at (record { 0 = to })
 
--- a group is linked to one instance, and listed from a mention on
-pub record IsLeft (core : Core) (instance : ℕ) (next : Option ℕ) (g : ℕ) : Type 0 where
-  pub link : place core.links.items g ≡ Some instance
-  pub listed : IsListed core.graph.edges.items next g
-
 -- each group with members that aren't ready waits, is to be woken, or is new
 pub record AreHeld (core : Core) (fresh at : ℕ) : Type 0 where
   pub held : (i g : ℕ) → home_in core.graph i ≡ Some g → ready_in core.graph i ≡ false → IsHeld core.graph core.links.items g ⊎ (IsWaking core at g ⊎ (fresh ≤ g))
 
--- the same while those are woken that are linked to one instance
-pub record AreHeldBut (core : Core) (at instance : ℕ) (next : Option ℕ) : Type 0 where
-  pub held : (i g : ℕ) → home_in core.graph i ≡ Some g → ready_in core.graph i ≡ false → IsHeld core.graph core.links.items g ⊎ (IsWaking core at g ⊎ IsLeft core instance next g)
+-- the members of a group are ready, or it waits
+abbrev pub IsSettled : Core → ℕ → Type 0
+IsSettled core group = (i : ℕ) → home_in core.graph i ≡ Some group → (ready_in core.graph i ≡ true) ⊎ IsHeld core.graph core.links.items group
+
+-- each group with members that aren't ready waits
+pub record AllHeld (graph : Graph) (links : List (Option ℕ)) : Type 0 where
+  pub held : (i g : ℕ) → home_in graph i ≡ Some g → ready_in graph i ≡ false → IsHeld graph links g
+
+-- what is told is marked as ready
+pub record AreToldReady (core : Core) : Type 0 where
+  pub ready : (k : ℕ) (m : InstId) → slice_get core.told.items k ≡ Some m → ready_in core.graph m.0 ≡ true
+
+-- groups from one on are linked to nothing
+pub record AreUnlinked (links : List (Option ℕ)) (first : ℕ) : Type 0 where
+  pub unlinked : (g : ℕ) → first ≤ g → place links g ≡ None

@@ -1,8 +1,8 @@
 ghost use Rattle.std.specs.Prelude.{◌≡◌, ◌<◌, ◌≤◌, ◌+◌, ◌^◌, ◌++◌, ◌∷◌, ◌⊎◌, ℕ, [], Some, None, true, false, length, slice_get, vec_len, vec_capacity, Contains};
 ghost use Rattle.orc_ids.specs.declared.ids.InstId.{InstId};
 ghost use Rattle.dep_groups.specs.Places.{place, is_set};
-ghost use Rattle.dep_groups.specs.Wake.{IsListed, IsIndexed, AreHeld};
-ghost use Rattle.dep_groups.specs.Add.{ListsFall};
+ghost use Rattle.dep_groups.specs.Wake.{IsListed, IsIndexed, AreHeld, AreUnlinked};
+ghost use Rattle.dep_groups.specs.Add.{ListsFall, StaysOrMoves, ListsOnly};
 ghost use Rattle.dep_groups.specs.Core.{IsSound};
 ghost use Rattle.dep_groups.specs.Added.{IsHoused, IsAdded, HasRoom, AreFresh};
 ghost use Rattle.dep_groups.specs.Adding.{total, AreBelow, AreApart, AreNew, AreAdded};
@@ -40,23 +40,11 @@ pub(crate) fn grow_flags(flags: &mut Vec<bool>, count: usize)
 pub(crate) fn house(homes: &mut [Option<u32>], members: &[InstId], group: u32)
     requires within { (m : InstId) → Contains members.now m → m.0 < length homes.old }
     ensures members { (m : InstId) → Contains members.now m → place homes.new m.0 ≡ Some group }
-    ensures others { (i : ℕ) → (place homes.new i ≡ place homes.old i) ⊎ (Contains members.now (record { 0 = i }) × (place homes.new i ≡ Some group)) }
+    ensures others { (i : ℕ) → StaysOrMoves homes.old homes.new members.now group i }
 {
     for member in members {
         put(homes, member.0 as usize, group);
     }
-}
-
-/// Whether something depends on one of the members.
-pub(crate) fn is_wanted(firsts: &[Option<u32>], members: &[InstId]) -> bool
-    ensures { result ≡ false → (m : InstId) → Contains members.now m → place firsts.now m.0 ≡ None }
-{
-    for member in members {
-        if at(firsts, member.0 as usize).is_some() {
-            return true;
-        }
-    }
-    false
 }
 
 /// Lists a group with one instance that it depends on.
@@ -68,7 +56,7 @@ fn list_one(firsts: &mut [Option<u32>], edges: &mut Vec<Edge>, instance: u32, gr
     ensures falls { ListsFall firsts.new edges.new.items (group + 1) }
     ensures listed { IsListed edges.new.items (place firsts.new instance) group }
     ensures kept { (d g : ℕ) → IsListed edges.old.items (place firsts.old d) g → IsListed edges.new.items (place firsts.new d) g }
-    ensures only { (d g : ℕ) → IsListed edges.new.items (place firsts.new d) g → IsListed edges.old.items (place firsts.old d) g ⊎ ((d ≡ instance) × (g ≡ group)) }
+    ensures only { ListsOnly firsts.old edges.old.items firsts.new edges.new.items (λ d. d ≡ instance) group }
     ensures len { vec_len edges.new ≡ vec_len edges.old + 1 }
     ensures capacity { vec_capacity edges.new ≡ vec_capacity edges.old }
 {
@@ -86,7 +74,7 @@ pub(crate) fn list_all(firsts: &mut [Option<u32>], edges: &mut Vec<Edge>, deps: 
     ensures falls { ListsFall firsts.new edges.new.items (group + 1) }
     ensures listed { (d : ℕ) → Contains deps.now d → IsListed edges.new.items (place firsts.new d) group }
     ensures kept { (d g : ℕ) → IsListed edges.old.items (place firsts.old d) g → IsListed edges.new.items (place firsts.new d) g }
-    ensures only { (d g : ℕ) → IsListed edges.new.items (place firsts.new d) g → IsListed edges.old.items (place firsts.old d) g ⊎ (Contains deps.now d × (g ≡ group)) }
+    ensures only { ListsOnly firsts.old edges.old.items firsts.new edges.new.items (λ d. Contains deps.now d) group }
     ensures len { vec_len edges.new ≡ vec_len edges.old + length deps.now }
     ensures capacity { vec_capacity edges.new ≡ vec_capacity edges.old }
 {
@@ -108,7 +96,8 @@ fn add_node(graph: &mut Graph, node: Node)
     ensures nodes { graph.new.nodes.items ≡ graph.old.nodes.items ++ node ∷ [] }
     ensures ready { graph.new.ready ≡ graph.old.ready }
     ensures sizes { (length graph.new.homes.items ≡ length graph.old.homes.items) × (length graph.new.firsts.items ≡ length graph.old.firsts.items) }
-    ensures edges { (vec_len graph.new.edges ≡ vec_len graph.old.edges + vec_len node.deps) × (vec_capacity graph.new.edges ≡ vec_capacity graph.old.edges) }
+    ensures edges { vec_len graph.new.edges ≡ vec_len graph.old.edges + vec_len node.deps }
+    ensures edges_room { vec_capacity graph.new.edges ≡ vec_capacity graph.old.edges }
     ensures room { (vec_len graph.new.nodes ≡ vec_len graph.old.nodes + 1) × (vec_capacity graph.new.nodes ≡ vec_capacity graph.old.nodes) }
 {
     let group = graph.nodes.len() as u32;
@@ -121,6 +110,7 @@ fn add_node(graph: &mut Graph, node: Node)
 pub(crate) fn add(core: &mut Core, node: Node)
     requires members { (m : InstId) → Contains node.members.items m → m.0 < length core.old.graph.homes.items }
     requires deps { (d : ℕ) → Contains node.deps.items d → d < length core.old.graph.firsts.items }
+    requires firsts { length core.old.graph.firsts.items ≡ length core.old.graph.homes.items }
     requires fresh { AreFresh core.old.graph node.members.items }
     requires room { HasRoom core.old 1 (vec_len node.deps) }
     requires sound { IsSound core.old }
@@ -129,10 +119,9 @@ pub(crate) fn add(core: &mut Core, node: Node)
     ensures indexed { IsIndexed core.new.graph }
     ensures added { IsAdded core.old core.new node }
 {
-    let wanted = is_wanted(&core.graph.firsts, &node.members);
     add_node(&mut core.graph, node);
     core.links.push_reserved(None);
-    core.linked.push_reserved(wanted);
+    core.nexts.push_reserved(None);
     core.cursors.push_reserved(0);
     core.trail.seen.push_reserved(false);
 }
@@ -150,6 +139,7 @@ pub(crate) fn add_all(core: &mut Core, nodes: &mut Vec<Node>)
     ensures sound { IsSound core.new }
     ensures indexed { IsIndexed core.new.graph }
     ensures held { AreHeld core.new (length core.old.graph.nodes.items) 0 }
+    ensures unlinked { AreUnlinked core.new.links.items (length core.old.graph.nodes.items) }
     ensures added { AreAdded core.old core.new nodes.old.items 0 }
 {
     while let Some(node) = nodes.pop() {

@@ -1,11 +1,11 @@
 ghost use Rattle.std.specs.Prelude.{◌≡◌, ◌<◌, ◌≤◌, ◌⊎◌, ℕ, Some, None, true, false, length, Contains, vec_capacity};
 ghost use Rattle.orc_ids.specs.declared.ids.InstId.{InstId};
 ghost use Rattle.dep_groups.specs.Places.{place, is_set};
-ghost use Rattle.dep_groups.specs.Shape.{home_in, ready_in};
+ghost use Rattle.dep_groups.specs.Shape.{home_in, ready_in, entries_of};
 ghost use Rattle.dep_groups.specs.Search.{IsMore};
 ghost use Rattle.dep_groups.specs.Seek.{IsClear};
 ghost use Rattle.dep_groups.specs.Wake.{IsListed};
-ghost use Rattle.dep_groups.specs.Kept.{entries_of, entries_in};
+ghost use Rattle.dep_groups.specs.Kept.{entries_in};
 ghost use Rattle.dep_groups.specs.Frontier.{IsReady, AreHits, AreFailed};
 ghost use Rattle.dep_groups.specs.Hits.{IsResting, IsWhole, IsComplete, IsNoted, IsMoreHit, IsStruck, IsSwept, IsSpread};
 
@@ -33,7 +33,7 @@ fn hit_group(graph: &Graph, trail: &mut Trail, hits: &mut Hits, group: u32)
     ensures seen { is_set trail.new.seen.items group ≡ true }
 {
     if !is_set(&trail.seen, group as usize) {
-        come_to(trail, group, 0, 0);
+        come_to(trail, group);
         let members = members_of(&graph.nodes, group);
         mark_members(
             &graph.homes,

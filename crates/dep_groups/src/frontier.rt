@@ -56,7 +56,8 @@ impl Frontier {
                     ready: Vec::new(alloc),
                 },
                 links: Vec::new(alloc),
-                linked: Vec::new(alloc),
+                nexts: Vec::new(alloc),
+                heads: Vec::new(alloc),
                 cursors: Vec::new(alloc),
                 trail: Trail {
                     seen: Vec::new(alloc),

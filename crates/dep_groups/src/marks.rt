@@ -1,9 +1,7 @@
 ghost use Rattle.std.specs.Prelude.{◌≡◌, ◌<◌, ◌≤◌, ◌+◌, ◌⊎◌, ℕ, Some, true, false, length, vec_len, vec_capacity, Contains};
 ghost use Rattle.orc_ids.specs.declared.ids.InstId.{InstId};
-ghost use Rattle.dep_groups.specs.declared.trail.Visit.{Visit};
 ghost use Rattle.dep_groups.specs.Places.{place, is_set, unset};
-ghost use Rattle.dep_groups.specs.Search.{IsVisit};
-ghost use Rattle.dep_groups.specs.Marks.{members_of, Tells, AreOf, IsOfTrail};
+ghost use Rattle.dep_groups.specs.Marks.{members_of, Tells, AreOf, AreMarked, IsOfTrail};
 
 use crate::graph::Node;
 use crate::places::{at, is_set, raise};
@@ -87,11 +85,11 @@ pub(crate) fn mark_all(
     ensures room { vec_len told.new + unset ready.new ≤ vec_capacity told.new }
     ensures capacity { vec_capacity told.new ≡ vec_capacity told.old }
     ensures tells { Tells ready.old ready.new told.old.items told.new.items }
-    ensures marked { (v : Visit) (m : InstId) → Contains trail.now.order.items v → Contains (members_of nodes.now v.group) m → place homes.now m.0 ≡ Some v.group → is_set ready.new m.0 ≡ true }
+    ensures marked { AreMarked homes.now nodes.now ready.new trail.now.order.items }
     ensures only { (i : ℕ) → is_set ready.new i ≡ true → (is_set ready.old i ≡ true) ⊎ IsOfTrail homes.now trail.now.order.items i }
 {
-    for visit in trail.order.iter() {
-        let members = members_of(nodes, visit.group);
-        mark_members(homes, ready, told, visit.group, members);
+    for group in trail.order.iter() {
+        let members = members_of(nodes, *group);
+        mark_members(homes, ready, told, *group, members);
     }
 }

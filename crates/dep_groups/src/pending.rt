@@ -1,10 +1,10 @@
 ghost use Rattle.std.specs.Prelude.{◌≡◌, ◌<◌, ◌⊎◌, ℕ, Some, true, false, length, vec_len, Contains};
 ghost use Rattle.dep_groups.specs.Places.{is_set};
-ghost use Rattle.dep_groups.specs.Shape.{home_in};
+ghost use Rattle.dep_groups.specs.Shape.{home_in, entries_of};
 ghost use Rattle.dep_groups.specs.Search.{IsTrailOf, IsRoomy, IsMore, IsNamed, IsWired};
 ghost use Rattle.dep_groups.specs.Seek.{IsClear};
 ghost use Rattle.dep_groups.specs.Core.{AreClosed};
-ghost use Rattle.dep_groups.specs.Kept.{entries_of, entries_in};
+ghost use Rattle.dep_groups.specs.Kept.{entries_in};
 ghost use Rattle.dep_groups.specs.Frontier.{IsPendingCount};
 ghost use Rattle.dep_groups.specs.Hits.{IsWhole};
 ghost use Rattle.dep_groups.specs.Pending.{AreCounted, AreNoted, IsCovered, IsCoveredFrom, AreWithin};
@@ -58,7 +58,7 @@ fn note_one(
     ensures stays { (i : ℕ) → is_set flags.old i ≡ true → is_set flags.new i ≡ true }
     ensures covered { IsCovered graph.now trail.new flags.new to }
 {
-    match look_at(graph, trail, from, to) {
+    match look_at(graph, trail, to) {
         Look::Known => count,
         Look::Open => flag_one(flags, to, count),
         Look::Came => count,
@@ -153,7 +153,7 @@ fn count_from(graph: &Graph, trail: &mut Trail, flags: &mut [bool], group: u32) 
     ensures unflagged { (i : ℕ) → is_set flags.new i ≡ false }
     ensures counted { (i : ℕ) → home_in graph.now i ≡ Some group → IsPendingCount (entries_of graph.now) i result }
 {
-    come_to(trail, group, 0, 0);
+    come_to(trail, group);
     let count = note_all(graph, trail, flags);
     lower_noted(graph, trail, flags);
     clear(trail);

@@ -19,6 +19,14 @@ pub(crate) fn put(places: &mut [Option<u32>], k: usize, number: u32)
     places[k] = Some(number);
 }
 
+/// Sets what stands in a place.
+pub(crate) fn set(places: &mut [Option<u32>], k: usize, content: Option<u32>)
+    requires { k < length places.old }
+    ensures { (n : ℕ) → place places.new n ≡ (if k == n then content else place places.old n) }
+{
+    places[k] = content;
+}
+
 /// Empties a place, if it is there.
 pub(crate) fn empty(places: &mut [Option<u32>], k: usize)
     ensures { (n : ℕ) → place places.new n ≡ (if k == n then None else place places.old n) }

@@ -109,16 +109,18 @@ fn reserve_graph(graph: &mut Graph, groups: usize, needs: Needs) -> Result<(), A
 
 /// Makes the room for groups in the tables.
 fn reserve_tables(core: &mut Core, groups: usize, places: usize) -> Result<(), AllocError>
+    requires heads { vec_len core.old.heads ≤ places }
     ensures same { IsRoomier core.old core.new }
     ensures graph { core.new.graph ≡ core.old.graph }
     ensures room { OnOk result (HasTables core.new groups places) }
 {
     let visits = add_up(core.trail.seen.len(), groups)?;
     core.links.reserve(groups)?;
-    core.linked.reserve(groups)?;
+    core.nexts.reserve(groups)?;
     core.cursors.reserve(groups)?;
     core.trail.seen.reserve(groups)?;
     core.trail.order.reserve(visits)?;
+    core.heads.reserve(places - core.heads.len())?;
     core.told.reserve(places)
 }
 
@@ -167,6 +169,7 @@ pub(crate) fn prepare(core: &mut Core, hits: &mut Hits, nodes: &[Node]) -> Resul
     reserve_graph(&mut core.graph, nodes.len(), needs)?;
     core.told.clear();
     grow(&mut core.graph, needs.places);
+    grow_places(&mut core.heads, needs.places);
     grow_hits(hits, needs.places);
     Ok(())
 }

@@ -1,34 +1,19 @@
-ghost use Rattle.std.specs.Prelude.{◌≡◌, ◌<◌, ◌≤◌, ◌+◌, ◌++◌, ◌∷◌, ℕ, [], Some, None, true, false, ◌==◌, if◌then◌else◌, length, IfSome, MatchOption, vec_len, vec_capacity, Contains, slice_get};
+ghost use Rattle.std.specs.Prelude.{◌≡◌, ◌<◌, ◌≤◌, ◌+◌, ◌++◌, ◌∷◌, ℕ, [], Some, None, true, false, ◌==◌, if◌then◌else◌, length, IfSome, MatchOption, vec_len, vec_capacity, slice_get};
 ghost use Rattle.dep_groups.specs.Places.{place, is_set};
 ghost use Rattle.dep_groups.specs.Shape.{home_in, deps_in, ready_in};
-ghost use Rattle.dep_groups.specs.Search.{IsTrailOf, IsRoomy, IsMore, IsGroupAt, IsNamed, IsLooked, IsOpen, IsWired, LinksAreDeps, IsPassed, WasLooked, ArePassed, IsExhausted};
+ghost use Rattle.dep_groups.specs.Search.{IsTrailOf, IsRoomy, IsMore, IsVisit, IsMet, IsLooked, IsOpen, IsWired, LinksLead, IsPassed, WasLooked, ArePassed, IsExhausted};
 
 use crate::graph::{Graph, deps_of};
 use crate::places::{at, is_set, raise};
-
-/// A group that a search came to: from which visit, and by which of its members.
-#[derive(Drop, Clone, Copy)]
-pub(crate) struct Visit {
-    pub(crate) group: u32,
-    pub(crate) via: u32,
-    pub(crate) from: usize,
-}
 
 /// The groups that a search came to, in order.
 #[derive(Drop)]
 pub(crate) struct Trail {
     pub(crate) seen: Vec<bool>,
-    pub(crate) order: Vec<Visit>,
+    pub(crate) order: Vec<u32>,
 }
 
-/// Where a search ended: a visit, and a dependency of its group that is not emitted.
-#[derive(Drop, Clone, Copy)]
-pub(crate) struct Found {
-    pub(crate) from: usize,
-    pub(crate) to: u32,
-}
-
-/// What a look at a dependency showed: that it is ready or its group was seen, that it is not
+/// What a look at an instance showed: that it is ready or its group was seen, that it is not
 /// emitted, or a group that is new.
 #[derive(Drop, Clone, Copy)]
 pub(crate) enum Look {
@@ -38,34 +23,34 @@ pub(crate) enum Look {
 }
 
 /// Notes that a search came to a group.
-pub(crate) fn come_to(trail: &mut Trail, group: u32, from: usize, via: u32)
+pub(crate) fn come_to(trail: &mut Trail, group: u32)
     requires new { is_set trail.old.seen.items group ≡ false }
     requires within { group < length trail.old.seen.items }
     requires room { IsRoomy trail.old }
-    ensures order { trail.new.order.items ≡ trail.old.order.items ++ record { group = group; from = from; via = via } ∷ [] }
+    ensures order { trail.new.order.items ≡ trail.old.order.items ++ group ∷ [] }
     ensures len { vec_len trail.new.order ≡ vec_len trail.old.order + 1 }
     ensures seen { (n : ℕ) → is_set trail.new.seen.items n ≡ (if group == n then true else is_set trail.old.seen.items n) }
     ensures room { IsRoomy trail.new }
     ensures sizes { (length trail.new.seen.items ≡ length trail.old.seen.items) × (vec_capacity trail.new.order ≡ vec_capacity trail.old.order) }
 {
     raise(&mut trail.seen, group as usize);
-    trail.order.push_reserved(Visit { group, via, from });
+    trail.order.push_reserved(group);
 }
 
 /// The group of a visit.
 pub(crate) fn group_at(trail: &Trail, visit: usize) -> u32
     requires { visit < vec_len trail.now.order }
-    ensures { IsGroupAt trail.now.order.items visit result }
+    ensures { IsVisit trail.now.order.items visit result }
 {
-    trail.order[visit].group
+    trail.order[visit]
 }
 
-/// Looks at a dependency of a group that the search came to, and comes to its group if that is new.
-pub(crate) fn look_at(graph: &Graph, trail: &mut Trail, from: usize, to: u32) -> Look
+/// Looks at an instance that the search met, and comes to its group if that is new.
+pub(crate) fn look_at(graph: &Graph, trail: &mut Trail, to: u32) -> Look
     requires trail { IsTrailOf graph.now trail.old }
     requires room { IsRoomy trail.old }
     requires wired { IsWired graph.now (length trail.old.seen.items) }
-    requires named { IsNamed graph.now trail.old from to }
+    requires met { IsMet graph.now trail.old.order.items to }
     ensures trail { IsTrailOf graph.now trail.new }
     ensures room { IsRoomy trail.new }
     ensures more { IsMore trail.old trail.new }
@@ -81,54 +66,48 @@ pub(crate) fn look_at(graph: &Graph, trail: &mut Trail, from: usize, to: u32) ->
     if is_set(&trail.seen, group as usize) {
         return Look::Known;
     }
-    come_to(trail, group, from, to);
+    come_to(trail, group);
     Look::Came
 }
 
-/// Goes on from the last visit by the links of groups, as long as they lead to new ones.
-fn follow(graph: &Graph, links: &[Option<u32>], trail: &mut Trail) -> Option<Found>
+/// Goes on from the last visit by the links of groups, as long as they lead to new ones; the
+/// instance that is not emitted, if they end at one.
+fn follow(graph: &Graph, links: &[Option<u32>], trail: &mut Trail) -> Option<u32>
     requires trail { IsTrailOf graph.now trail.old }
     requires room { IsRoomy trail.old }
     requires wired { IsWired graph.now (length trail.old.seen.items) }
-    requires links { LinksAreDeps graph.now links.now }
+    requires links { LinksLead graph.now links.now }
     requires some { 0 < vec_len trail.old.order }
     ensures trail { IsTrailOf graph.now trail.new }
     ensures room { IsRoomy trail.new }
     ensures more { IsMore trail.old trail.new }
-    ensures found { IfSome result (λ f. IsOpen graph.now trail.new f) }
+    ensures found { IfSome result (λ to. IsOpen graph.now trail.new to) }
 {
     loop {
-        let from = trail.order.len() - 1;
-        let to = at(links, group_at(trail, from) as usize)?;
-        match look_at(graph, trail, from, to) {
+        let to = at(links, group_at(trail, trail.order.len() - 1) as usize)?;
+        match look_at(graph, trail, to) {
             Look::Known => return None,
-            Look::Open => return Some(Found { from, to }),
+            Look::Open => return Some(to),
             Look::Came => {}
         }
     }
 }
 
-/// Looks at a dependency of a group that the search came to, and goes on from there.
-fn follow_to(
-    graph: &Graph,
-    links: &[Option<u32>],
-    trail: &mut Trail,
-    from: usize,
-    to: u32,
-) -> Option<Found>
+/// Looks at an instance that the search met, and goes on from there.
+fn follow_to(graph: &Graph, links: &[Option<u32>], trail: &mut Trail, to: u32) -> Option<u32>
     requires trail { IsTrailOf graph.now trail.old }
     requires room { IsRoomy trail.old }
     requires wired { IsWired graph.now (length trail.old.seen.items) }
-    requires links { LinksAreDeps graph.now links.now }
-    requires named { IsNamed graph.now trail.old from to }
+    requires links { LinksLead graph.now links.now }
+    requires met { IsMet graph.now trail.old.order.items to }
     ensures trail { IsTrailOf graph.now trail.new }
     ensures room { IsRoomy trail.new }
     ensures more { IsMore trail.old trail.new }
-    ensures found { MatchOption result (IsLooked graph.now trail.new to) (λ f. IsOpen graph.now trail.new f) }
+    ensures found { MatchOption result (IsLooked graph.now trail.new to) (λ d. IsOpen graph.now trail.new d) }
 {
-    match look_at(graph, trail, from, to) {
+    match look_at(graph, trail, to) {
         Look::Known => None,
-        Look::Open => Some(Found { from, to }),
+        Look::Open => Some(to),
         Look::Came => follow(graph, links, trail),
     }
 }
@@ -140,20 +119,20 @@ fn scan(
     trail: &mut Trail,
     from: usize,
     start: usize,
-) -> Option<Found>
+) -> Option<u32>
     requires trail { IsTrailOf graph.now trail.old }
     requires room { IsRoomy trail.old }
     requires wired { IsWired graph.now (length trail.old.seen.items) }
-    requires links { LinksAreDeps graph.now links.now }
+    requires links { LinksLead graph.now links.now }
     requires from { from < vec_len trail.old.order }
     ensures trail { IsTrailOf graph.now trail.new }
     ensures room { IsRoomy trail.new }
     ensures more { IsMore trail.old trail.new }
-    ensures found { MatchOption result (IsPassed graph.now trail.new from start) (λ f. IsOpen graph.now trail.new f) }
+    ensures found { MatchOption result (IsPassed graph.now trail.new from start) (λ d. IsOpen graph.now trail.new d) }
 {
     let deps = deps_of(&graph.nodes, group_at(trail, from));
     for k in start..deps.len() {
-        let found = follow_to(graph, links, trail, from, deps[k]);
+        let found = follow_to(graph, links, trail, deps[k]);
         if found.is_some() {
             return found;
         }
@@ -184,17 +163,17 @@ pub(crate) fn search(
     links: &[Option<u32>],
     cursors: &mut [usize],
     trail: &mut Trail,
-) -> Option<Found>
+) -> Option<u32>
     requires trail { IsTrailOf graph.now trail.old }
     requires room { IsRoomy trail.old }
     requires wired { IsWired graph.now (length trail.old.seen.items) }
-    requires links { LinksAreDeps graph.now links.now }
+    requires links { LinksLead graph.now links.now }
     requires cursors { ArePassed graph.now cursors.old }
     requires sizes { length cursors.old ≡ length trail.old.seen.items }
     ensures trail { IsTrailOf graph.now trail.new }
     ensures more { IsMore trail.old trail.new }
     ensures cursors { ArePassed graph.now cursors.new }
-    ensures found { MatchOption result (IsExhausted graph.now trail.new (vec_len trail.new.order)) (λ f. IsOpen graph.now trail.new f) }
+    ensures found { MatchOption result (IsExhausted graph.now trail.new (vec_len trail.new.order)) (λ d. IsOpen graph.now trail.new d) }
 {
     let mut from = 0;
     while from < trail.order.len() {

@@ -3,7 +3,7 @@ use Rattle.std.proofs.Common.{◌≡◌, ℕ, Some, length, vec_len}
 use Rattle.std.specs.Prelude.{slice_get}
 use Rattle.dep_groups.specs.declared.graph.Node.{Node}
 use Rattle.dep_groups.specs.Core.{IsSound}
-use Rattle.dep_groups.specs.Wake.{IsIndexed, AreHeld}
+use Rattle.dep_groups.specs.Wake.{IsIndexed, AreHeld, AreUnlinked}
 use Rattle.dep_groups.specs.Added.{HasRoom}
 use Rattle.dep_groups.specs.Adding.{total, AreAdded}
 use Rattle.dep_groups.proofs.add.add_all.Given as goal
@@ -15,6 +15,7 @@ invariant-loop-node l = record {
   sound : IsSound l.core;
   indexed : IsIndexed l.core.graph;
   held : AreHeld l.core (length l.initial.core.graph.nodes.items) 0;
+  unlinked : AreUnlinked l.core.links.items (length l.initial.core.graph.nodes.items);
   added : AreAdded l.initial.core l.core l.initial.nodes.items (vec_len l.nodes);
 }
 

@@ -24,15 +24,15 @@ loop-member-preserved c =
     let m : InstId = get_or c.args.members.now c.loop-member.member-index none in
     let old = place c.loop-member.homes in
     let new = place c.put.new.places in
-    let hit : new m.0 ≡ Some c.args.group = written_here old new m.0 c.args.group c.put.ensures in
+    let hit : new m.0 ≡ Some c.args.group = written_here old new m.0 (Some c.args.group) c.put.ensures in
     let named : Contains c.args.members.now m = at_contains c.args.members.now c.loop-member.member-index m (slice_get-get_or c.args.members.now c.loop-member.member-index none c.loop-member-test.true) in
     record {
       sizes = c.put.auto.places ∙ i.sizes;
       members = each_more c.args.members.now c.loop-member.member-index (λ (x : InstId). new x.0 ≡ Some c.args.group)
-          (λ k x below is. ⊎_elim (λ (e : m.0 ≡ x.0). subst (λ n. new n ≡ Some c.args.group) e hit) (λ (e : m.0 ≡ x.0 → ⊥). written_other old new m.0 c.args.group c.put.ensures x.0 e ∙ i.members k x below is) (cases_eq m.0 x.0))
+          (λ k x below is. ⊎_elim (λ (e : m.0 ≡ x.0). subst (λ n. new n ≡ Some c.args.group) e hit) (λ (e : m.0 ≡ x.0 → ⊥). written_other old new m.0 (Some c.args.group) c.put.ensures x.0 e ∙ i.members k x below is) (cases_eq m.0 x.0))
           (λ x is. subst (λ (y : InstId). new y.0 ≡ Some c.args.group) (get_or_from_slice_get c.args.members.now c.loop-member.member-index x none is) hit);
       others = λ n. ⊎_elim (λ (e : m.0 ≡ n). inr (subst (λ (k : ℕ). Contains c.args.members.now (record { 0 = k })) e named, subst (λ k. new k ≡ Some c.args.group) e hit))
-          (λ (e : m.0 ≡ n → ⊥). keep old new c.args.homes.now c.args.members.now c.args.group n (written_other old new m.0 c.args.group c.put.ensures n e) (i.others n)) (cases_eq m.0 n);
+          (λ (e : m.0 ≡ n → ⊥). keep old new c.args.homes.now c.args.members.now c.args.group n (written_other old new m.0 (Some c.args.group) c.put.ensures n e) (i.others n)) (cases_eq m.0 n);
     }
 
 pub returns-clause-members : goal.returns-clause-members

@@ -1,6 +1,9 @@
-use Rattle.std.proofs.Common.{inl}
+use Rattle.std.proofs.Common.{◌≡◌, ◌∙◌, inl, List, [], ap, sym}
+use Rattle.std.specs.Prelude.{slice_get}
+use Rattle.std.proofs.lemmas.Option.{none-some}
+use Rattle.orc_ids.specs.declared.ids.InstId.{InstId}
 use Rattle.dep_groups.proofs.Alike.{sound_alike, indexed_alike, held_alike}
-use Rattle.dep_groups.proofs.Told.{tells_then}
+use Rattle.dep_groups.proofs.Told.{tells_then, told_ready}
 use Rattle.dep_groups.proofs.Wakes.{same_then}
 use Rattle.dep_groups.proofs.Emissions.{emitted}
 use Rattle.dep_groups.proofs.emit.emit_nodes.Goals as goal
@@ -32,3 +35,10 @@ returns-clause-emitted c =
     (same_then first.graph mid.graph last.graph c.resolve_from.ensures.graph c.wake_all.ensures.graph)
     c.in_ok-prepare.ensures.told
     (tells_then first.graph.ready.items mid.graph.ready.items last.graph.ready.items first.told.items mid.told.items last.told.items c.resolve_from.ensures.tells c.wake_all.ensures.tells)
+
+pub wake_all-requires-clause-ready : goal.wake_all-requires-clause-ready
+wake_all-requires-clause-ready c =
+    let first = c.add_all.new.core in
+    let mid = c.resolve_from.new.core in
+    let none : first.told.items ≡ [] = ap (λ ts. ts.items) c.add_all.ensures.added.told ∙ c.in_ok-prepare.ensures.told in
+    record { ready = told_ready first.graph.ready.items mid.graph.ready.items first.told.items mid.told.items c.resolve_from.ensures.tells (λ k m is. absurd (none-some m (ap (λ (ms : List InstId). slice_get ms k) (sym none) ∙ is))) }

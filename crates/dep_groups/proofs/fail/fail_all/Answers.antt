@@ -8,7 +8,7 @@ use Rattle.dep_groups.specs.Places.{place, is_set}
 use Rattle.dep_groups.specs.Marks.{IsTold}
 use Rattle.dep_groups.proofs.Tables.{flag_within}
 use Rattle.dep_groups.proofs.Spreads.{noted_at}
-use Rattle.dep_groups.proofs.Failures.{home_cases, unmarked, kept_without, failed_without}
+use Rattle.dep_groups.proofs.Failures.{home_cases, unmarked, reach_left, kept_without, failed_without}
 use Rattle.dep_groups.proofs.fail.fail_all.Goals as goal
 
 pub lower_all-requires-clause-within : goal.lower_all-requires-clause-within
@@ -33,11 +33,14 @@ returns-clause-whole c =
     let flags : Vec Bool Global = with_items hits.flags c.lower_all.new.flags in
     let low : flags.items ≡ c.lower_all.new.flags = with_items_is hits.flags c.lower_all.new.flags (c.lower_all.auto.flags ∙ c.deref_mut-2.ensures.len) in
     let places : length flags.items ≡ length c.args.hits.now.flags.items = ap length low ∙ c.lower_all.auto.flags ∙ ap length c.deref_mut-2.ensures.value ∙ f.places in
+    let others = home_cases c.deref_mut.result.now c.take_out.new.homes core.graph.homes.items homes.items c.deref.result.now hits.order.items c.deref_mut.ensures.value is c.deref.ensures.value c.take_out.ensures.others in
     record {
       kept = kept_without core homes c.find_hits.new.trail
-          (unmarked core c.args.roots.now hits.order.items homes.items c.requires.whole.kept.sound f.hits
-          (home_cases c.deref_mut.result.now c.take_out.new.homes core.graph.homes.items homes.items c.deref.result.now hits.order.items c.deref_mut.ensures.value is c.deref.ensures.value c.take_out.ensures.others))
-          c.requires.whole.kept count f.clear f.groups;
+          (unmarked core c.args.roots.now hits.order.items homes.items c.requires.whole.kept.sound f.hits others)
+          c.requires.whole.kept
+          (reach_left core homes c.find_hits.new.trail c.args.roots.now hits.order.items f.hits others
+          (λ m named. ap (λ (hs : List (Option ℕ)). place hs m.0) is ∙ c.take_out.ensures.out m (subst (λ (ms : List InstId). Contains ms m) (sym c.deref.ensures.value) named)))
+          count f.clear f.groups;
       resting = record {
         clear = λ i. ap (λ (fs : List Bool). is_set fs i) low ∙ c.lower_all.ensures i;
         room = omega (arith, places, f.capacity, c.requires.whole.resting.room);

@@ -2,7 +2,7 @@
 use Rattle.std.proofs.Common.{◌≡◌, Some, arith}
 use Rattle.std.specs.Prelude.{slice_get}
 use Rattle.orc_ids.specs.declared.ids.InstId.{InstId}
-use Rattle.dep_groups.specs.Kept.{entries_of}
+use Rattle.dep_groups.specs.Shape.{entries_of}
 use Rattle.dep_groups.proofs.Trails.{more_then}
 use Rattle.dep_groups.proofs.Wakes.{told_there}
 use Rattle.dep_groups.proofs.Spreads.{hit_then, spread_next}

@@ -1,7 +1,7 @@
 -- All groups that depend on the instances so far are come to.
 use Rattle.std.proofs.Common.{◌-◌, vec_capacity}
 use Rattle.dep_groups.specs.Search.{IsMore}
-use Rattle.dep_groups.specs.Kept.{entries_of}
+use Rattle.dep_groups.specs.Shape.{entries_of}
 use Rattle.dep_groups.specs.Hits.{IsNoted, IsMoreHit, IsSwept, IsSpread}
 use Rattle.dep_groups.proofs.fail.hit_all.Given as goal
 

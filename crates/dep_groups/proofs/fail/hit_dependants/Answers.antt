@@ -4,7 +4,7 @@ use Rattle.std.specs.Prelude.{slice_get}
 use Rattle.std.proofs.lemmas.Option.{same_Some}
 use Rattle.dep_groups.specs.declared.graph.Edge.{Edge}
 use Rattle.dep_groups.specs.Places.{place, is_set}
-use Rattle.dep_groups.specs.Kept.{entries_of}
+use Rattle.dep_groups.specs.Shape.{entries_of}
 use Rattle.dep_groups.specs.Wake.{IsListed, here, later}
 use Rattle.dep_groups.proofs.Adds.{listed_next}
 use Rattle.dep_groups.proofs.Additions.{unlisted}

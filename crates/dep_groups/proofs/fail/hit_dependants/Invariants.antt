@@ -3,7 +3,7 @@ use Rattle.std.proofs.Common.{◌≡◌, ◌<◌, ◌⊎◌, ℕ, Some, true, le
 use Rattle.dep_groups.specs.Places.{place, is_set}
 use Rattle.dep_groups.specs.Search.{IsMore}
 use Rattle.dep_groups.specs.Wake.{IsListed}
-use Rattle.dep_groups.specs.Kept.{entries_of}
+use Rattle.dep_groups.specs.Shape.{entries_of}
 use Rattle.dep_groups.specs.Hits.{IsNoted, IsMoreHit, IsSwept}
 use Rattle.dep_groups.proofs.Wakes.{left}
 use Rattle.dep_groups.proofs.fail.hit_dependants.Given as goal

@@ -2,7 +2,6 @@
 use Rattle.std.proofs.Common.{◌≡◌, ◌<◌, ◌≤◌, ◌∙◌, ⊎_elim, ℕ, List, Contains, subst, sym, ap, arith}
 use Rattle.std.proofs.lemmas.Bool.{cases_lt, false_from_ne_true}
 use Rattle.dep_groups.specs.declared.graph.Node.{Node}
-use Rattle.dep_groups.specs.declared.trail.Visit.{Visit}
 use Rattle.dep_groups.specs.Places.{is_set}
 use Rattle.dep_groups.specs.Shape.{deps_of, deps_in}
 use Rattle.dep_groups.specs.Search.{IsVisit}
@@ -26,7 +25,7 @@ loop-k-preserved c =
           (λ (b : k < c.loop-k.k). i.low k n v b is named (c.lower_each.ensures n high).0)
           (λ (b : c.loop-k.k ≤ k).
           let e : k ≡ c.loop-k.k = omega (arith, b, less) in
-          let group : v.group ≡ c.group_at.result = ap (λ (u : Visit). u.group) (same_visit order c.loop-k.k v at.visit (subst (λ m. IsVisit order m v) e is) at.is) ∙ at.same in
+          let group : v ≡ c.group_at.result = same_visit order c.loop-k.k v c.group_at.result (subst (λ m. IsVisit order m v) e is) at in
           (c.lower_each.ensures n high).1 (subst (λ (ds : List ℕ). Contains ds n) (sym list) (subst (λ m. Contains (deps_in graph m) n) group named)))
           (cases_lt k c.loop-k.k);
     }
@@ -35,5 +34,5 @@ pub returns : goal.returns
 returns c = λ n. false_from_ne_true (is_set c.loop-k.flags n) (λ high.
     let i = c.loop-k.invariant in
     let p = c.requires.noted.only n (i.left n high) in
-    let v = p.is_open.named in
+    let v = p.named in
     i.low p.from n v.visit (omega (arith, visit_below c.args.trail.now.order.items p.from v.visit v.is, c.args.trail.now.order.ok.0, c.loop-k-test.false)) v.is v.named high)

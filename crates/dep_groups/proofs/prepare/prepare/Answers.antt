@@ -12,11 +12,14 @@ returns-clause-alike c = let t = c.reserve_tables.ensures in let g = c.reserve_g
   nodes = ap (λ ns. ns.items) w.nodes ∙ g.same.nodes ∙ ap (λ (gr : Graph). gr.nodes.items) t.graph;
   edges = ap (λ es. es.items) w.edges ∙ g.same.edges ∙ ap (λ (gr : Graph). gr.edges.items) t.graph;
   links = t.same.links;
-  linked = t.same.linked;
+  nexts = t.same.nexts;
+  heads = λ d. c.grow_places.ensures.same d ∙ ap (λ (hs : List (Option ℕ)). place hs d) t.same.heads;
   cursors = t.same.cursors;
   seen = t.same.seen;
   order = t.same.order;
   order_room = t.same.order_room;
+  heads_size = omega (arith, c.grow_places.ensures.len, c.grow_places.new.places.ok.0, w.sizes.0);
+  more = omega (arith, w.sizes.0, c.in_ok-needs.ensures.places, c.len.ensures, c.args.core.now.graph.homes.ok.0);
   size = w.sizes.2 ∙ sym w.sizes.0;
   room = omega (arith, x.len, x.capacity, unset_few c.grow.new.graph.ready.items, w.sizes.2, c.in_ok-reserve_tables.ensures.room.told, c.reserve_tables.ensures.same.count);
 }

@@ -1,57 +1,52 @@
--- One mention more is passed.
-use Rattle.std.proofs.Common.{◌≡◌, ◌<◌, ◌∙◌, ◌+◌, ℕ, List, Option, Some, length, refl, subst, sym, ap, arith}
-use Rattle.std.specs.Prelude.{slice_get}
+-- One group less waits for the instance.
+use Rattle.std.proofs.Common.{◌∙◌, ℕ, List, Option, length, refl, sym, ap, arith}
 use Rattle.orc_ids.specs.declared.ids.InstId.{InstId}
-use Rattle.dep_groups.specs.declared.graph.Edge.{Edge}
 use Rattle.dep_groups.specs.Places.{place}
-use Rattle.dep_groups.specs.Wake.{AreHeldBut}
 use Rattle.dep_groups.proofs.Told.{tells_none, tells_then}
-use Rattle.dep_groups.proofs.Wakes.{same_none, same_then, indexed_same, but_first, left_falls, edge_there, told_there}
+use Rattle.dep_groups.proofs.Wakes.{same_none, same_then, held_passed, told_there}
 use Rattle.dep_groups.proofs.wake.wake.Goals as goal
 
-pub loop-next-init : goal.loop-next-init
-loop-next-init c =
+pub loop-group-init : goal.loop-group-init
+loop-group-init c =
     let core = c.args.core.now in
-    let m : InstId = c.index.result.now in
-    let next : c.at-next.result ≡ place core.graph.firsts.items m.0 = c.at-next.ensures ∙ ap (λ (fs : List (Option ℕ)). place fs m.0) c.deref.ensures.value in
     record {
       sound = c.requires.sound;
-      indexed = c.requires.indexed;
       graph = same_none core.graph;
       capacity = refl;
       tells = tells_none core.graph.ready.items core.told.items;
-      within = λ k is. c.requires.indexed.firsts m.0 k (sym next ∙ is);
-      held = subst (λ (o : Option ℕ). AreHeldBut core (c.args.told + 1) m.0 o) (sym next)
-          (but_first core c.args.told (length core.graph.nodes.items) m c.requires.indexed c.requires.sound.deps c.requires.sound.wired.within (told_there core.told.items c.args.told m (omega (arith, c.requires.told, core.told.ok.0)) c.index.ensures) c.requires.held);
+      ready = c.requires.ready.ready c.args.told c.index.result.now (told_there core.told.items c.args.told c.index.result.now (omega (arith, c.requires.told, core.told.ok.0)) c.index.ensures);
+      held = c.requires.held;
     }
 
-pub loop-next-smaller : goal.loop-next-smaller
-loop-next-smaller c =
-    let new = c.wake_group.new.core in
-    let i = c.loop-next.invariant in
-    let e = c.wake_group.ensures in
-    let below : c.in-Some.mention < length new.graph.edges.items = subst (λ es. c.in-Some.mention < length es.items) (sym e.graph.edges) (i.within c.in-Some.mention c.in-Some.is) in
-    let indexed = indexed_same c.loop-next.core.graph new.graph e.graph i.indexed in
-    let is = edge_there new.graph.edges.items c.in-Some.mention c.index-in-Some.result.now below c.index-in-Some.ensures in
-    left_falls c.loop-next.next c.index-in-Some.result.now.next c.in-Some.mention c.in-Some.is (λ j next. indexed.falls c.in-Some.mention j c.index-in-Some.result.now is next)
+pub wake_first-requires-clause-told : goal.wake_first-requires-clause-told
+wake_first-requires-clause-told c = omega (arith, c.requires.told, c.loop-group.invariant.tells.longer, c.args.core.now.told.ok.0, c.loop-group.core.told.ok.0)
 
-pub loop-next-preserved : goal.loop-next-preserved
-loop-next-preserved c =
+pub loop-group-smaller : goal.loop-group-smaller
+loop-group-smaller c = c.wake_first.ensures.fewer
+
+pub loop-group-preserved : goal.loop-group-preserved
+loop-group-preserved c =
     let start = c.args.core.now in
-    let old = c.loop-next.core in
-    let new = c.wake_group.new.core in
-    let i = c.loop-next.invariant in
-    let e = c.wake_group.ensures in
-    let edge : Edge = c.index-in-Some.result.now in
-    let below : c.in-Some.mention < length new.graph.edges.items = subst (λ es. c.in-Some.mention < length es.items) (sym e.graph.edges) (i.within c.in-Some.mention c.in-Some.is) in
-    let indexed = indexed_same old.graph new.graph e.graph i.indexed in
-    let is : slice_get new.graph.edges.items c.in-Some.mention ≡ Some edge = edge_there new.graph.edges.items c.in-Some.mention edge below c.index-in-Some.ensures in
+    let old = c.loop-group.core in
+    let new = c.wake_first.new.core in
+    let i = c.loop-group.invariant in
+    let e = c.wake_first.ensures in
     record {
       sound = e.sound;
-      indexed = indexed;
       graph = same_then start.graph old.graph new.graph i.graph e.graph;
       capacity = e.capacity ∙ i.capacity;
       tells = tells_then start.graph.ready.items old.graph.ready.items new.graph.ready.items start.told.items old.told.items new.told.items i.tells e.tells;
-      within = λ k next. let less = indexed.falls c.in-Some.mention k edge is next in omega (arith, less, below);
-      held = e.held edge (ap (λ es. slice_get es.items c.in-Some.mention) (sym e.graph.edges) ∙ is);
+      ready = e.tells.stays c.index.result.now.0 i.ready;
+      held = e.held;
     }
+
+pub returns-clause-held : goal.returns-clause-held
+returns-clause-held c =
+    let start = c.args.core.now in
+    let core = c.loop-group.core in
+    let i = c.loop-group.invariant in
+    let m : InstId = c.index.result.now in
+    held_passed core (length core.graph.nodes.items) c.args.told m i.sound.queued
+    (ap (λ (hs : List (Option ℕ)). place hs m.0) (sym c.deref.ensures.value) ∙ sym c.at.ensures ∙ c.in_default.is)
+    (i.tells.front c.args.told m (told_there start.told.items c.args.told m (omega (arith, c.requires.told, start.told.ok.0)) c.index.ensures))
+    i.held

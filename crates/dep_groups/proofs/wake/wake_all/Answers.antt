@@ -1,7 +1,7 @@
 -- What was told so far wakes nobody.
 use Rattle.std.proofs.Common.{◌∙◌, length, arith}
-use Rattle.dep_groups.proofs.Told.{tells_then}
-use Rattle.dep_groups.proofs.Wakes.{same_then, indexed_same, all_held}
+use Rattle.dep_groups.proofs.Told.{tells_then, told_ready}
+use Rattle.dep_groups.proofs.Wakes.{same_then, all_held}
 use Rattle.dep_groups.proofs.wake.wake_all.Goals as goal
 
 pub loop-told-preserved : goal.loop-told-preserved
@@ -13,10 +13,10 @@ loop-told-preserved c =
     let e = c.wake.ensures in
     record {
       sound = e.sound;
-      indexed = indexed_same old.graph new.graph e.graph i.indexed;
       graph = same_then start.graph old.graph new.graph i.graph e.graph;
       capacity = e.capacity ∙ i.capacity;
       tells = tells_then start.graph.ready.items old.graph.ready.items new.graph.ready.items start.told.items old.told.items new.told.items i.tells e.tells;
+      ready = record { ready = told_ready old.graph.ready.items new.graph.ready.items old.told.items new.told.items e.tells i.ready.ready };
       held = e.held;
     }
 

@@ -9,9 +9,10 @@ invariant_of-result c = whole_empty _ (record {
   edges = c.new-4.ensures.items;
   ready = c.new-5.ensures.items;
   links = c.new-6.ensures.items;
-  linked = c.new-7.ensures.items;
-  cursors = c.new-8.ensures.items;
-  seen = c.new-9.ensures.items;
-  order = c.new-10.ensures.items;
-  told = c.new-11.ensures.items;
-}) _ c.new-12.ensures.items
+  nexts = c.new-7.ensures.items;
+  heads = c.new-8.ensures.items;
+  cursors = c.new-9.ensures.items;
+  seen = c.new-10.ensures.items;
+  order = c.new-11.ensures.items;
+  told = c.new-12.ensures.items;
+}) _ c.new-13.ensures.items
