@@ -8,7 +8,9 @@ pub mod Entries
 pub mod Units
 pub mod LaidOut
 pub mod Known
+pub mod Changed
 pub mod Deposited
 pub mod Tied
+pub mod LastShown
 pub mod Counted
 pub mod Placed

@@ -111,10 +111,15 @@ tied_fill u bytes placed now bases gaps room last p tied is long written =
     let more : 0 < length placed = omega (arith, few, some) in omega (arith, few, tied.spare more))
     (laid_out-set o.front p bytes o.back (subst AreLaidOut o.split tied.laid_out) long)
 
+pub values_filled : (u : UnitId) (bytes : List ℕ) (placed now : List (ℕ × Placement)) (bases : Bases) (gaps : List Gap) (room last : ℕ) (p : Placement) → IsTied placed bases gaps room last → (is : IsHere u placed bases p) →
+    now ≡ set_value (is_at (nat_cmp p.base)) placed (record p { bytes = Some bytes }) → values_of now ≡ is.owned.front ++ with p (Some bytes) ∷ is.owned.back
+values_filled u bytes placed now bases gaps room last p tied is written =
+    ap values_of (filled_is u bytes placed now bases gaps room last p tied is written is.owned) ∙ values-keyed (is.owned.front ++ with p (Some bytes) ∷ is.owned.back)
+
 pub shown_fill : (u : UnitId) (bytes : List ℕ) (placed now : List (ℕ × Placement)) (bases : Bases) (gaps : List Gap) (room last : ℕ) (p : Placement) (m : List Placement) → IsTied placed bases gaps room last → values_of placed ≡ m → IsHere u placed bases p →
     now ≡ set_value (is_at (nat_cmp p.base)) placed (record p { bytes = Some bytes }) → values_of now ≡ with_bytes m u bytes
 shown_fill u bytes placed now bases gaps room last p m tied shown is written =
-    ap values_of (filled_is u bytes placed now bases gaps room last p tied is written is.owned) ∙ values-keyed (is.owned.front ++ with p (Some bytes) ∷ is.owned.back)
+    values_filled u bytes placed now bases gaps room last p tied is written
     ∙ sym (fill-owned u bytes (values_of placed) p is.owned) ∙ ap (λ ps. with_bytes ps u bytes) shown
 
 -- a placement is taken away
@@ -143,9 +148,14 @@ tied_free u placed now bases next gaps left room last top p tied is written drop
     let any : 0 < length placed = omega (arith, more) in omega (arith, more, tied.spare any))
     (laid_out-remove o.front p o.back (subst AreLaidOut o.split tied.laid_out))
 
+pub values_left : (u : UnitId) (placed now : List (ℕ × Placement)) (bases : Bases) (gaps : List Gap) (room last : ℕ) (p : Placement) → IsTied placed bases gaps room last → (is : IsHere u placed bases p) → now ≡ remove_entry (is_at (nat_cmp p.base)) placed →
+    values_of now ≡ is.owned.front ++ is.owned.back
+values_left u placed now bases gaps room last p tied is written =
+    ap values_of (taken_is u placed now bases gaps room last p tied is.owned written) ∙ values-keyed (is.owned.front ++ is.owned.back)
+
 pub shown_free : (u : UnitId) (placed now : List (ℕ × Placement)) (bases : Bases) (gaps : List Gap) (room last : ℕ) (p : Placement) (m : List Placement) → IsTied placed bases gaps room last → values_of placed ≡ m → (is : IsHere u placed bases p) → now ≡ remove_entry (is_at (nat_cmp p.base)) placed → values_of now ≡ without m u
 shown_free u placed now bases gaps room last p m tied shown is written =
-    ap values_of (taken_is u placed now bases gaps room last p tied is.owned written) ∙ values-keyed (is.owned.front ++ is.owned.back)
+    values_left u placed now bases gaps room last p tied is written
     ∙ sym (without-owned u (values_of placed) p is.owned) ∙ ap (λ ps. without ps u) shown
 
 -- a base is found, or none is free

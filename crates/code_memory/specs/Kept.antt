@@ -7,9 +7,11 @@ use Rattle.std.specs.declared.hash.BuildHasherDefault.{BuildHasherDefault}
 use Rattle.orc_ids.specs.declared.ids.UnitId.{UnitId}
 use Rattle.orc_ids.specs.declared.limits.TheConstants.{CODE_START, CODE_END}
 use Rattle.code_memory.specs.declared.gaps.Gap.{Gap}
+use Rattle.code_memory.specs.declared.last_image.LastImage.{LastImage}
 use Rattle.code_memory.specs.declared.placement.Placement.{Placement}
 use Rattle.code_memory.specs.Gaps.{gaps_below, last_end, end_of}
-use Rattle.code_memory.specs.Places.{placement_of, AreBetween, AreLaidOut}
+use Rattle.code_memory.specs.LastImage.{IsLastOf}
+use Rattle.code_memory.specs.Places.{placement_of, deposits, AreBetween, AreLaidOut}
 
 -- the base of each unit
 abbrev pub Bases : Type 0
@@ -41,3 +43,8 @@ pub record IsTied (placed : List (ℕ × Placement)) (bases : Bases) (gaps : Lis
   pub filled : AreGaps gaps last (values_of placed)
   pub spare : 0 < length placed → length placed < room
   pub laid_out : AreLaidOut (values_of placed)
+
+-- all of that, and the last image is of what is deposited
+pub record IsSpace (placed : List (ℕ × Placement)) (bases : Bases) (gaps : List Gap) (room last : ℕ) (recent : LastImage) : Type 0 where
+  pub tied : IsTied placed bases gaps room last
+  pub shown : IsLastOf recent (deposits (values_of placed))

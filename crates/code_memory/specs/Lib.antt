@@ -1,6 +1,7 @@
 pub mod Apart
 pub mod Gaps
 pub mod Kept
+pub mod LastImage
 pub mod Laws
 pub mod Mapped
 pub mod Places

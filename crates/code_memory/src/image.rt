@@ -1,9 +1,12 @@
-ghost use Rattle.std.specs.Prelude.{◌≡◌, ◌<◌, length, slice_get, option_map};
+ghost use Rattle.std.specs.Prelude.{◌≡◌, ◌<◌, length, slice_get, option_map, IfOk};
+ghost use Rattle.std.specs.Arc.{arc_value};
 ghost use Rattle.code_memory.specs.Apart.{AreApart};
 ghost use Rattle.code_memory.specs.Mapped.{AreSegments};
 
 use orc_ids::Bytes;
+use std::alloc::{AllocError, Global};
 use std::marker::Model;
+use std::sync::Arc;
 
 /// A range of memory with its bytes, of which there is at least one.
 #[derive(Debug, Drop)]
@@ -12,10 +15,10 @@ pub struct Segment {
     pub bytes: Bytes,
 }
 
-/// A copy of the deposited ranges, in rising order. Contracts see the list.
+/// A copy of the deposited ranges, in rising order, which stays as it is. Contracts see the list.
 #[derive(Debug, Drop)]
 pub struct Image {
-    segments: Vec<Segment>,
+    segments: Arc<Vec<Segment>, Global>,
 }
 
 impl Model for Image {
@@ -24,20 +27,38 @@ impl Model for Image {
 
     ghost Value = { List Segment };
 
+    ghost use Rattle.std.specs.Arc.{arc_value};
     ghost use Rattle.code_memory.specs.Mapped.{AreSegments};
 
-    ghost view = { λ i. i.segments.items };
+    ghost view = { λ i. (arc_value i.segments).items };
 
-    ghost invariant = { λ i. AreSegments i.segments.items };
+    ghost invariant = { λ i. AreSegments (arc_value i.segments).items };
 }
 
 impl Image {
     /// The image of a list of ranges; takes no memory.
-    pub(crate) fn from_segments(segments: Vec<Segment>) -> Image
-        requires { AreSegments segments.items }
-        ensures { result ≡ segments.items }
+    pub(crate) fn from_list(segments: Arc<Vec<Segment>, Global>) -> Image
+        requires { AreSegments (arc_value segments).items }
+        ensures { result ≡ (arc_value segments).items }
     {
         Image { segments }
+    }
+
+    /// Its list, which other images may have too.
+    pub(crate) fn into_list(self) -> Arc<Vec<Segment>, Global>
+        ensures list { (arc_value result).items ≡ self }
+        ensures segments { AreSegments self }
+    {
+        self.segments
+    }
+
+    /// The same image once more. No byte is copied; it is refused only where 2^63 have the list.
+    pub(crate) fn share(&self) -> Result<Image, AllocError>
+        ensures { IfOk result (λ image. image ≡ self.now) }
+    {
+        Ok(Image {
+            segments: Arc::try_clone(&self.segments)?,
+        })
     }
 
     /// How many ranges it has.
@@ -54,7 +75,7 @@ impl Image {
         requires { k < length self.now }
         ensures { option_map (λ s. s.base) (slice_get self.now k) ≡ Some result }
     {
-        self.segments[k as usize].base
+        self.segments.as_slice()[k as usize].base
     }
 
     /// The bytes of range k.
@@ -62,6 +83,6 @@ impl Image {
         requires { k < length self.now }
         ensures { option_map (λ s. s.bytes) (slice_get self.now k) ≡ Some result.now }
     {
-        self.segments[k as usize].bytes.as_slice()
+        self.segments.as_slice()[k as usize].bytes.as_slice()
     }
 }

@@ -9,11 +9,13 @@
 //! `byte_at` as the map from addresses to bytes that such a list is.
 //!
 //! Inside, the gaps below the placements stand in a list of their own, so that placing looks at gaps
-//! alone. Read `exec_run` next, for what a run does with an image.
+//! alone, and the last image with the lowest base at which something changed since, so that the next
+//! one costs what changed. Read `exec_run` next, for what a run does with an image.
 #![tactic(auto)]
 
 mod gaps;
 mod image;
+mod last_image;
 mod laws;
 mod placement;
 mod ranges;

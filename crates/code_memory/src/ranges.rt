@@ -1,13 +1,17 @@
-ghost use Rattle.std.specs.Prelude.{◌≡◌, ℕ, List, ◌+◌, ◌<◌, ◌≤◌, ◌∷◌, [], ◌++◌, cond, Some, None, length, vec_len, vec_capacity, nat_eq, IsSome, IfOk, OnOk, OnErr};
+ghost use Rattle.std.specs.Prelude.{◌≡◌, ℕ, List, ◌+◌, ◌<◌, ◌≤◌, ◌∷◌, [], ◌++◌, cond, Some, None, length, take, vec_len, vec_capacity, nat_eq, IsSome, is_some, IfOk, OnOk, OnErr};
 ghost use Rattle.std.specs.Ordering.{nat_cmp};
 ghost use Rattle.std.specs.List.Sorted.{IsNonDecreasingBy};
 ghost use Rattle.std.specs.HashMap.{get};
-ghost use Rattle.std.specs.Map.{remove_entry, set_value};
+ghost use Rattle.std.specs.Map.{remove_entry, set_value, values_of};
 ghost use Rattle.std.specs.BTreeMap as tree;
+ghost use Rattle.std.specs.BTreeMap.Range.{entries_between};
+ghost use Rattle.std.specs.declared.ops.Bound.TheVariants.{Included, Unbounded};
 ghost use Rattle.orc_ids.specs.declared.limits.TheConstants.{CODE_START, CODE_END};
 ghost use Rattle.code_memory.specs.Gaps.{gaps_below, last_end, end_of};
-ghost use Rattle.code_memory.specs.Kept.{AreGaps, IsCut};
-ghost use Rattle.code_memory.specs.Places.{AreBetween, deposits};
+ghost use Rattle.code_memory.specs.Kept.{keyed, AreGaps, IsCut};
+ghost use Rattle.code_memory.specs.LastImage.{based_below};
+ghost use Rattle.code_memory.specs.Mapped.{AreSegments};
+ghost use Rattle.code_memory.specs.Places.{AreBetween, deposits, AreLaidOut};
 ghost use Rattle.code_memory.specs.declared.placement.Placement.{Placement};
 
 use crate::gaps::{Gap, add_gap, count_below, take_ending, take_starting};
@@ -52,6 +56,16 @@ pub(crate) fn take_at(placed: &mut BTreeMap<u64, Placement>, base: u64) -> u64
     match placed.remove(&base) {
         Some(placement) => placement.shape.need,
         None => 0,
+    }
+}
+
+/// Whether the placement at a base has bytes.
+pub(crate) fn is_deposited(placed: &BTreeMap<u64, Placement>, base: u64) -> bool
+    ensures { (p : Placement) → tree.get nat_cmp placed.now base ≡ Some p → result ≡ is_some p.bytes }
+{
+    match placed.get(&base) {
+        Some(placement) => placement.bytes.is_some(),
+        None => false,
     }
 }
 
@@ -102,6 +116,47 @@ pub(crate) fn copy_deposits(
         push_copy(alloc, &mut copies, placement)?;
     }
     Ok(copies)
+}
+
+/// Brings copies of the deposited ranges up to date that are so below a base.
+pub(crate) fn renew(
+    alloc: Global,
+    copies: &mut Vec<Segment>,
+    base: u64,
+    placed: &BTreeMap<u64, Placement>,
+) -> Result<(), AllocError>
+    requires laid_out { AreLaidOut (tree.values placed.now) }
+    requires by_base { placed.now.entries ≡ keyed (tree.values placed.now) }
+    requires segments { AreSegments copies.old.items }
+    requires same { based_below base copies.old.items ≡ based_below base (deposits (tree.values placed.now)) }
+    ensures { IfOk result (λ _. copies.new.items ≡ deposits (tree.values placed.now)) }
+{
+    let kept = count_based_below(copies.as_slice(), base);
+    copies.truncate(kept);
+    push_from(alloc, copies, base, placed)
+}
+
+/// How many ranges have bases below an address.
+fn count_based_below(segments: &[Segment], at: u64) -> usize
+    requires { IsNonDecreasingBy (λ s. s.base) segments.now }
+    ensures { take result segments.now ≡ based_below at segments.now }
+{
+    segments.partition_point(|segment| segment.base < at)
+}
+
+/// Adds the deposited ranges from a base on.
+fn push_from(
+    alloc: Global,
+    copies: &mut Vec<Segment>,
+    base: u64,
+    placed: &BTreeMap<u64, Placement>,
+) -> Result<(), AllocError>
+    ensures { IfOk result (λ _. copies.new.items ≡ copies.old.items ++ deposits (values_of (entries_between nat_cmp (Included base) Unbounded placed.now.entries))) }
+{
+    for (_, placement) in placed.range(base..) {
+        push_copy(alloc, copies, placement)?;
+    }
+    Ok(())
 }
 
 /// Adds the range of a placement, if it has bytes.

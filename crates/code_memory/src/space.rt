@@ -4,8 +4,9 @@ ghost use Rattle.code_memory.specs.Places.{placement_of, IsLowestFree, IsRefused
 
 use crate::gaps::{Gap, find_fit};
 use crate::image::Image;
+use crate::last_image::LastImage;
 use crate::placement::Placement;
-use crate::ranges::{copy_deposits, fill, give_back, record, take_at, take_out};
+use crate::ranges::{fill, give_back, record, take_at, take_out};
 use orc_ids::{Bytes, CODE_START, Shape, UnitId};
 use std::alloc::{AllocError, Global};
 use std::collections::{BTreeMap, HashMap};
@@ -29,6 +30,7 @@ pub struct Space {
     bases: HashMap<u32, u64>,
     gaps: Vec<Gap>,
     last: u64,
+    shown: LastImage,
 }
 
 impl Model for Space {
@@ -39,11 +41,11 @@ impl Model for Space {
 
     ghost use Rattle.std.specs.Prelude.{vec_capacity};
     ghost use Rattle.std.specs.BTreeMap.{values};
-    ghost use Rattle.code_memory.specs.Kept.{IsTied};
+    ghost use Rattle.code_memory.specs.Kept.{IsSpace};
 
     ghost view = { λ s. values s.placed };
 
-    ghost invariant = { λ s. IsTied s.placed.entries s.bases s.gaps.items (vec_capacity s.gaps) s.last };
+    ghost invariant = { λ s. IsSpace s.placed.entries s.bases s.gaps.items (vec_capacity s.gaps) s.last s.shown };
 }
 
 impl Space {
@@ -57,6 +59,7 @@ impl Space {
             bases: HashMap::new(alloc),
             gaps: Vec::new(alloc),
             last: CODE_START,
+            shown: LastImage::new(),
         }
     }
 
@@ -99,6 +102,7 @@ impl Space {
     {
         if let Some(base) = self.bases.get(&u.0) {
             fill(&mut self.placed, *base, bytes);
+            self.shown.touch(*base);
         }
     }
 
@@ -108,16 +112,19 @@ impl Space {
         ensures { self.new ≡ without self.old u }
     {
         if let Some(base) = self.bases.remove(&u.0) {
+            self.shown.leave(&self.placed, base);
             let need = take_at(&mut self.placed, base);
             self.last = give_back(&mut self.gaps, self.last, base, base + need);
         }
     }
 
-    /// A copy of the deposited ranges.
-    pub fn image(&self) -> Result<Image, AllocError>
-        ensures image { IfOk result (λ image. image ≡ deposits self.now) }
-        ensures laid_out { AreLaidOut self.now }
+    /// A copy of the deposited ranges, at the cost of those that changed since the last one. Only
+    /// where that one is still held by somebody, and not all is as it was, is each range copied.
+    pub fn image(&mut self) -> Result<Image, AllocError>
+        ensures image { IfOk result (λ image. image ≡ deposits self.old) }
+        ensures same { self.new ≡ self.old }
+        ensures laid_out { AreLaidOut self.old }
     {
-        Ok(Image::from_segments(copy_deposits(self.alloc, &self.placed)?))
+        self.shown.show(self.alloc, &self.placed)
     }
 }

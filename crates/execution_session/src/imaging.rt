@@ -41,10 +41,11 @@ impl Imaged {
 
 impl<U: UnitKind, N: Notify> Live<U, N> {
     /// A copy of the memory, which changes nothing.
-    fn copy_memory(&self) -> Result<Image, AllocError>
+    fn copy_memory(&mut self) -> Result<Image, AllocError>
         ghost m: { Plain }
-        requires stands { Stands U.meaning m self.now.parts }
-        ensures step { (s : ℕ) → IsQuietStep U.meaning m s event.Image reply.Image self.now.parts self.now.parts }
+        requires stands { Stands U.meaning m self.old.parts }
+        ensures step { (s : ℕ) → IsQuietStep U.meaning m s event.Image reply.Image self.old.parts self.old.parts }
+        ensures same { self.new ≡ self.old }
         ensures copy { IfOk result (IsMemory m) }
     {
         self.parts.space.image()

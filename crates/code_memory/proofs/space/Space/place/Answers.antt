@@ -11,6 +11,7 @@ use Rattle.code_memory.specs.Gaps.{first_fit, with_rest}
 use Rattle.code_memory.specs.Kept.{AreGaps}
 use Rattle.code_memory.specs.Places.{placement_of, AreLaidOut, IsFull, IsLowestFree}
 use Rattle.code_memory.proofs.Fits.{IsFit, lowest_free}
+use Rattle.code_memory.proofs.LastShown.{last_placed}
 use Rattle.code_memory.proofs.Tied.{found, missed, new, fit_cut, shown_place, tied_place, gaps_few, power_some, fit_within, if_not_err}
 use Rattle.code_memory.proofs.space.Space.place.Goals as goal
 
@@ -23,79 +24,82 @@ pub returns-in_default-clause-refused : goal.returns-in_default-clause-refused
 returns-in_default-clause-refused c =
     let s = c.self.inside in
     let none : first_fit c.args.shape 0 (with_rest s.gaps.items s.last) ≡ None = ap (λ gs. first_fit c.args.shape 0 (with_rest gs s.last)) (sym c.as_slice.ensures.value) ∙ sym c.in_default.ensures in
-    (refl, subst (λ m. IsFull m c.args.shape) c.self.view_is (missed s.gaps.items s.last (values_of s.placed.entries) c.args.shape c.self.invariant.laid_out c.self.invariant.filled c.requires.need (power_some c.args.shape.align c.requires.align) none))
+    (refl, subst (λ m. IsFull m c.args.shape) c.self.view_is (missed s.gaps.items s.last (values_of s.placed.entries) c.args.shape c.self.invariant.tied.laid_out c.self.invariant.tied.filled c.requires.need (power_some c.args.shape.align c.requires.align) none))
 
 pub overflow_sub-room : goal.overflow_sub-room
 overflow_sub-room c =
     let s = c.self.inside in
-    omega (arith, gaps_few s.placed.entries s.bases s.gaps.items (vec_capacity s.gaps) s.last c.self.invariant, s.gaps.ok.0)
+    omega (arith, gaps_few s.placed.entries s.bases s.gaps.items (vec_capacity s.gaps) s.last c.self.invariant.tied, s.gaps.ok.0)
 
 pub returns-then-is_err-clause-refused : goal.returns-then-is_err-clause-refused
 returns-then-is_err-clause-refused c =
     let s = c.self.inside in
-    let f = fit s.gaps.items c.as_slice.result.now s.last (values_of s.placed.entries) c.args.shape c.in-Some.at c.in-Some.base c.self.invariant.laid_out c.self.invariant.filled c.requires.need c.requires.align c.as_slice.ensures.value c.in-Some.ensures in
-    (c.in-Some.base, (subst (λ m. IsLowestFree m c.args.shape c.in-Some.base) c.self.view_is (lowest_free (values_of s.placed.entries) c.args.shape c.in-Some.at c.in-Some.base c.self.invariant.laid_out.apart f)).free)
+    let f = fit s.gaps.items c.as_slice.result.now s.last (values_of s.placed.entries) c.args.shape c.in-Some.at c.in-Some.base c.self.invariant.tied.laid_out c.self.invariant.tied.filled c.requires.need c.requires.align c.as_slice.ensures.value c.in-Some.ensures in
+    (c.in-Some.base, (subst (λ m. IsLowestFree m c.args.shape c.in-Some.base) c.self.view_is (lowest_free (values_of s.placed.entries) c.args.shape c.in-Some.at c.in-Some.base c.self.invariant.tied.laid_out.apart f)).free)
 
 pub returns-then-is_err-2-clause-refused : goal.returns-then-is_err-2-clause-refused
 returns-then-is_err-2-clause-refused c =
     let s = c.self.inside in
-    let f = fit s.gaps.items c.as_slice.result.now s.last (values_of s.placed.entries) c.args.shape c.in-Some.at c.in-Some.base c.self.invariant.laid_out c.self.invariant.filled c.requires.need c.requires.align c.as_slice.ensures.value c.in-Some.ensures in
-    (c.in-Some.base, (subst (λ m. IsLowestFree m c.args.shape c.in-Some.base) c.self.view_is (lowest_free (values_of s.placed.entries) c.args.shape c.in-Some.at c.in-Some.base c.self.invariant.laid_out.apart f)).free)
+    let f = fit s.gaps.items c.as_slice.result.now s.last (values_of s.placed.entries) c.args.shape c.in-Some.at c.in-Some.base c.self.invariant.tied.laid_out c.self.invariant.tied.filled c.requires.need c.requires.align c.as_slice.ensures.value c.in-Some.ensures in
+    (c.in-Some.base, (subst (λ m. IsLowestFree m c.args.shape c.in-Some.base) c.self.view_is (lowest_free (values_of s.placed.entries) c.args.shape c.in-Some.at c.in-Some.base c.self.invariant.tied.laid_out.apart f)).free)
 
 pub overflow_add-base : goal.overflow_add-base
 overflow_add-base c =
     let s = c.self.inside in
-    let f = fit s.gaps.items c.as_slice.result.now s.last (values_of s.placed.entries) c.args.shape c.in-Some.at c.in-Some.base c.self.invariant.laid_out c.self.invariant.filled c.requires.need c.requires.align c.as_slice.ensures.value c.in-Some.ensures in
-    let w = fit_within (values_of s.placed.entries) c.args.shape s.gaps.items s.last c.in-Some.at c.in-Some.base c.self.invariant.laid_out c.self.invariant.filled f in
+    let f = fit s.gaps.items c.as_slice.result.now s.last (values_of s.placed.entries) c.args.shape c.in-Some.at c.in-Some.base c.self.invariant.tied.laid_out c.self.invariant.tied.filled c.requires.need c.requires.align c.as_slice.ensures.value c.in-Some.ensures in
+    let w = fit_within (values_of s.placed.entries) c.args.shape s.gaps.items s.last c.in-Some.at c.in-Some.base c.self.invariant.tied.laid_out c.self.invariant.tied.filled f in
     omega (arith, w.0)
 
 pub take_out-self-inside-requires-clause-at : goal.take_out-self-inside-requires-clause-at
 take_out-self-inside-requires-clause-at c =
     let s = c.self.inside in
-    let f = fit s.gaps.items c.as_slice.result.now s.last (values_of s.placed.entries) c.args.shape c.in-Some.at c.in-Some.base c.self.invariant.laid_out c.self.invariant.filled c.requires.need c.requires.align c.as_slice.ensures.value c.in-Some.ensures in
-    let w = fit_within (values_of s.placed.entries) c.args.shape s.gaps.items s.last c.in-Some.at c.in-Some.base c.self.invariant.laid_out c.self.invariant.filled f in
+    let f = fit s.gaps.items c.as_slice.result.now s.last (values_of s.placed.entries) c.args.shape c.in-Some.at c.in-Some.base c.self.invariant.tied.laid_out c.self.invariant.tied.filled c.requires.need c.requires.align c.as_slice.ensures.value c.in-Some.ensures in
+    let w = fit_within (values_of s.placed.entries) c.args.shape s.gaps.items s.last c.in-Some.at c.in-Some.base c.self.invariant.tied.laid_out c.self.invariant.tied.filled f in
     omega (arith, w.2, s.gaps.ok.0, c.reserve.ensures.len)
 
 pub take_out-self-inside-requires-clause-room : goal.take_out-self-inside-requires-clause-room
 take_out-self-inside-requires-clause-room c =
     let s = c.self.inside in
     let room = if_not_err c.reserve.result _ c.reserve.ensures.ok (sym c.is_err.ensures.value ∙ c.if-is_err.false) in
-    omega (arith, room, c.reserve.ensures.len, c.len.ensures.len, c.len-2.ensures, gaps_few s.placed.entries s.bases s.gaps.items (vec_capacity s.gaps) s.last c.self.invariant, s.gaps.ok.0)
+    omega (arith, room, c.reserve.ensures.len, c.len.ensures.len, c.len-2.ensures, gaps_few s.placed.entries s.bases s.gaps.items (vec_capacity s.gaps) s.last c.self.invariant.tied, s.gaps.ok.0)
 
 pub returns-clause-lowest : goal.returns-clause-lowest
 returns-clause-lowest c =
     let s = c.self.inside in
-    let f = fit s.gaps.items c.as_slice.result.now s.last (values_of s.placed.entries) c.args.shape c.in-Some.at c.in-Some.base c.self.invariant.laid_out c.self.invariant.filled c.requires.need c.requires.align c.as_slice.ensures.value c.in-Some.ensures in
-    subst (λ m. IsLowestFree m c.args.shape c.in-Some.base) c.self.view_is (lowest_free (values_of s.placed.entries) c.args.shape c.in-Some.at c.in-Some.base c.self.invariant.laid_out.apart f)
+    let f = fit s.gaps.items c.as_slice.result.now s.last (values_of s.placed.entries) c.args.shape c.in-Some.at c.in-Some.base c.self.invariant.tied.laid_out c.self.invariant.tied.filled c.requires.need c.requires.align c.as_slice.ensures.value c.in-Some.ensures in
+    subst (λ m. IsLowestFree m c.args.shape c.in-Some.base) c.self.view_is (lowest_free (values_of s.placed.entries) c.args.shape c.in-Some.at c.in-Some.base c.self.invariant.tied.laid_out.apart f)
 
 pub returns-clause-ok : goal.returns-clause-ok
 returns-clause-ok c =
     let s = c.self.inside in
-    let f = fit s.gaps.items c.as_slice.result.now s.last (values_of s.placed.entries) c.args.shape c.in-Some.at c.in-Some.base c.self.invariant.laid_out c.self.invariant.filled c.requires.need c.requires.align c.as_slice.ensures.value c.in-Some.ensures in
+    let f = fit s.gaps.items c.as_slice.result.now s.last (values_of s.placed.entries) c.args.shape c.in-Some.at c.in-Some.base c.self.invariant.tied.laid_out c.self.invariant.tied.filled c.requires.need c.requires.align c.as_slice.ensures.value c.in-Some.ensures in
     let went = sym c.is_err-2.ensures.value ∙ c.if-is_err-2.false in
     let stored = if_not_err c.record.result _ c.record.ensures.placed went in
     let known = if_not_err c.record.result _ c.record.ensures.bases went in
-    let cut = fit_cut (values_of s.placed.entries) c.args.u c.args.shape c.in-Some.at c.in-Some.base (c.in-Some.base + c.args.shape.need) c.self.invariant.laid_out c.requires.need refl f in
-    let shown = shown_place c.args.u c.args.shape s.placed.entries c.record.new.placed.entries s.bases s.gaps.items (vec_capacity s.gaps) s.last c.in-Some.at c.in-Some.base (c.in-Some.base + c.args.shape.need) c.args.self.now c.self.invariant c.self.view_is f cut stored in
+    let cut = fit_cut (values_of s.placed.entries) c.args.u c.args.shape c.in-Some.at c.in-Some.base (c.in-Some.base + c.args.shape.need) c.self.invariant.tied.laid_out c.requires.need refl f in
+    let shown = shown_place c.args.u c.args.shape s.placed.entries c.record.new.placed.entries s.bases s.gaps.items (vec_capacity s.gaps) s.last c.in-Some.at c.in-Some.base (c.in-Some.base + c.args.shape.need) c.args.self.now c.self.invariant.tied c.self.view_is f cut stored in
     shown.1
 
 pub invariant_of-self-2 : goal.invariant_of-self-2
 invariant_of-self-2 c =
     let s = c.self.inside in
-    let f = fit s.gaps.items c.as_slice.result.now s.last (values_of s.placed.entries) c.args.shape c.in-Some.at c.in-Some.base c.self.invariant.laid_out c.self.invariant.filled c.requires.need c.requires.align c.as_slice.ensures.value c.in-Some.ensures in
-    let w = fit_within (values_of s.placed.entries) c.args.shape s.gaps.items s.last c.in-Some.at c.in-Some.base c.self.invariant.laid_out c.self.invariant.filled f in
+    let f = fit s.gaps.items c.as_slice.result.now s.last (values_of s.placed.entries) c.args.shape c.in-Some.at c.in-Some.base c.self.invariant.tied.laid_out c.self.invariant.tied.filled c.requires.need c.requires.align c.as_slice.ensures.value c.in-Some.ensures in
+    let w = fit_within (values_of s.placed.entries) c.args.shape s.gaps.items s.last c.in-Some.at c.in-Some.base c.self.invariant.tied.laid_out c.self.invariant.tied.filled f in
     let went = sym c.is_err-2.ensures.value ∙ c.if-is_err-2.false in
     let stored = if_not_err c.record.result _ c.record.ensures.placed went in
     let known = if_not_err c.record.result _ c.record.ensures.bases went in
-    let cut = fit_cut (values_of s.placed.entries) c.args.u c.args.shape c.in-Some.at c.in-Some.base (c.in-Some.base + c.args.shape.need) c.self.invariant.laid_out c.requires.need refl f in
-    let shown = shown_place c.args.u c.args.shape s.placed.entries c.record.new.placed.entries s.bases s.gaps.items (vec_capacity s.gaps) s.last c.in-Some.at c.in-Some.base (c.in-Some.base + c.args.shape.need) c.args.self.now c.self.invariant c.self.view_is f cut stored in
+    let cut = fit_cut (values_of s.placed.entries) c.args.u c.args.shape c.in-Some.at c.in-Some.base (c.in-Some.base + c.args.shape.need) c.self.invariant.tied.laid_out c.requires.need refl f in
+    let shown = shown_place c.args.u c.args.shape s.placed.entries c.record.new.placed.entries s.bases s.gaps.items (vec_capacity s.gaps) s.last c.in-Some.at c.in-Some.base (c.in-Some.base + c.args.shape.need) c.args.self.now c.self.invariant.tied c.self.view_is f cut stored in
     let absent = subst (λ m. placement_of m c.args.u ≡ None) (sym c.self.view_is) c.requires.absent in
-    let gaps = subst (λ gs. AreGaps gs s.last (values_of s.placed.entries)) (sym c.reserve.ensures.items) c.self.invariant.filled in
+    let gaps = subst (λ gs. AreGaps gs s.last (values_of s.placed.entries)) (sym c.reserve.ensures.items) c.self.invariant.tied.filled in
     let left = c.take_out-self-inside.ensures.gaps f.front (new c.args.u c.args.shape c.in-Some.base) f.back cut (subst (AreGaps c.reserve.new.self.items s.last) f.split gaps) w.1 in
     let room = if_not_err c.reserve.result _ c.reserve.ensures.ok (sym c.is_err.ensures.value ∙ c.if-is_err.false) in
-    tied_place c.args.u c.args.shape s.placed.entries c.record.new.placed.entries s.bases c.record.new.bases s.gaps.items c.take_out-self-inside.new.gaps.items (vec_capacity s.gaps) (vec_capacity c.take_out-self-inside.new.gaps) s.last c.take_out-self-inside.result
-    c.in-Some.at c.in-Some.base (c.in-Some.base + c.args.shape.need) c.self.invariant absent f cut shown.0 known left
-    (omega (arith, room, c.take_out-self-inside.ensures.capacity, c.reserve.ensures.len, c.len.ensures.len, c.len-2.ensures, gaps_few s.placed.entries s.bases s.gaps.items (vec_capacity s.gaps) s.last c.self.invariant, s.gaps.ok.0))
+    record {
+      tied = tied_place c.args.u c.args.shape s.placed.entries c.record.new.placed.entries s.bases c.record.new.bases s.gaps.items c.take_out-self-inside.new.gaps.items (vec_capacity s.gaps) (vec_capacity c.take_out-self-inside.new.gaps) s.last c.take_out-self-inside.result
+          c.in-Some.at c.in-Some.base (c.in-Some.base + c.args.shape.need) c.self.invariant.tied absent f cut shown.0 known left
+          (omega (arith, room, c.take_out-self-inside.ensures.capacity, c.reserve.ensures.len, c.len.ensures.len, c.len-2.ensures, gaps_few s.placed.entries s.bases s.gaps.items (vec_capacity s.gaps) s.last c.self.invariant.tied, s.gaps.ok.0));
+      shown = last_placed c.args.u c.args.shape s.placed.entries c.record.new.placed.entries c.in-Some.at c.in-Some.base s.shown f shown.0 c.self.invariant.shown;
+    }
 
 pub returns-clause-laid_out : goal.returns-clause-laid_out
-returns-clause-laid_out c = (invariant_of-self-2 c).laid_out
+returns-clause-laid_out c = (invariant_of-self-2 c).tied.laid_out
