@@ -4,10 +4,9 @@ ghost use Rattle.asm_lines.specs.Instructions as want;
 ghost use Rattle.asm_lines.specs.Statements.{fixup_of, is_short};
 
 use crate::name::Name;
-use crate::relocs::{HI20, LO12_I, LO12_S};
 use crate::statement::{AsmWhy, Fixup};
 use crate::values::{Operand, Part, Reference};
-use link_model::kinds::{GOT_HI20, PCREL_HI20, PCREL_LO12_I, PCREL_LO12_S};
+use link_model::kinds::{GOT_HI20, HI20, LO12_I, LO12_S, PCREL_HI20, PCREL_LO12_I, PCREL_LO12_S};
 use orc_words::{fits_signed, sign_extend};
 
 /// The most bytes that a symbol has.

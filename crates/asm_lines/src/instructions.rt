@@ -15,8 +15,8 @@ use crate::operands::{
     two_registers_and_low, two_registers_and_number,
 };
 use crate::pseudo::pseudo_statement;
-use crate::relocs::BRANCH;
 use crate::statement::{AsmWhy, Fixup, Statement};
+use link_model::kinds::BRANCH;
 use rv_insn::Insn;
 
 /// The statement of an instruction and its relocation; none of a word that names no instruction.

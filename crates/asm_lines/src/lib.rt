@@ -22,7 +22,6 @@ mod pieces;
 mod pseudo;
 mod quotes;
 mod registers;
-mod relocs;
 mod statement;
 mod values;
 mod words;

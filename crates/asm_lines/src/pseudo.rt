@@ -7,8 +7,8 @@ use crate::fence::fence_operands;
 use crate::immediates::{fixup_of, is_short, low_value};
 use crate::operands::{ended, jalr_operands, one_label, register_and_label, two_registers};
 use crate::pieces::Pieces;
-use crate::relocs::JAL;
 use crate::statement::{AsmWhy, Statement};
+use link_model::kinds::JAL;
 use rv_insn::Insn;
 
 /// jal rd, S.

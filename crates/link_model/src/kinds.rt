@@ -1,6 +1,12 @@
 /// `R_RISCV_NONE`.
 pub const NONE: u32 = 0;
 
+/// `R_RISCV_BRANCH`.
+pub const BRANCH: u32 = 16;
+
+/// `R_RISCV_JAL`.
+pub const JAL: u32 = 17;
+
 /// `R_RISCV_CALL`.
 pub const CALL: u32 = 18;
 
@@ -18,6 +24,15 @@ pub const PCREL_LO12_I: u32 = 24;
 
 /// `R_RISCV_PCREL_LO12_S`.
 pub const PCREL_LO12_S: u32 = 25;
+
+/// `R_RISCV_HI20`.
+pub const HI20: u32 = 26;
+
+/// `R_RISCV_LO12_I`.
+pub const LO12_I: u32 = 27;
+
+/// `R_RISCV_LO12_S`.
+pub const LO12_S: u32 = 28;
 
 /// `R_RISCV_ALIGN`.
 pub const ALIGN: u32 = 43;
