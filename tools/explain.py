@@ -22,7 +22,6 @@ NOT_BUILT = {
     "sectionkind": "it has a placed section of a type that isn't built",
     "xindex": "it keeps a section number elsewhere",
     "bind": "it has a symbol of a binding that isn't built",
-    "form": "it is not of the form that is built",
 }
 USAGE = {
     "no command": "No command was named.",

@@ -83,7 +83,7 @@ PARTS = {
     "usage": ("(no command|unknown command|bad words|bad number)", str),
     "line": ("(toolong|bytes|word|count|name|number|order|taken|unknown|nonote|toomany)", str),
     "statement": ("(word|operands|number|label|name|section)", str),
-    "form": ("(group|rel|tls|compressed|sectionkind|xindex|bind|form)", str),
+    "form": ("(group|rel|tls|compressed|sectionkind|xindex|bind)", str),
 }
 
 

@@ -412,7 +412,7 @@ class Explanations(unittest.TestCase):
             "e9 21": ["symbol 21 (is_even)"],
             "e10 2": ["section 2 (.rela.text)"],
             "e11 6": ["section 6 (.text.startup)"],
-            **{f"e12 {form}": ["it "] for form in "group rel tls compressed sectionkind xindex bind form".split()},
+            **{f"e12 {form}": ["it "] for form in "group rel tls compressed sectionkind xindex bind".split()},
             "g1 60 4 12": ["R_RISCV_CALL_PLT against symbol 21 (is_even) at 12 of section 6 (.text.startup)", "isn't linked"],
             "g1 60 0 8": ["R_RISCV_SET_ULEB128 at 8 of section 1 (.text)"],
             "g2 0 44": ["R_RISCV_CALL_PLT against symbol 23 (is_odd) at 44 of section 1 (.text)", "outside its section"],

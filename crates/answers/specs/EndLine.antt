@@ -6,7 +6,7 @@ use Rattle.asm_lines.specs.declared.statement.AsmWhy.TheVariants as asm_why
 use Rattle.elf_read.specs.declared.error.ElfError.{ElfError}
 use Rattle.elf_read.specs.declared.error.ElfError.TheVariants.{Short, BadMagic, NotClass64, NotLittle, NotRelocatable, NotRiscv, BadFlags, BadTable, BadSymbol, BadLink, Overlap, NotBuilt, NoMemory as ElfNoMemory}
 use Rattle.elf_read.specs.declared.error.NotBuiltKind.{NotBuiltKind}
-use Rattle.elf_read.specs.declared.error.NotBuiltKind.TheVariants.{Group, Rel, Tls, Compressed, SectionKind, Xindex, Bind, Form}
+use Rattle.elf_read.specs.declared.error.NotBuiltKind.TheVariants.{Group, Rel, Tls, Compressed, SectionKind, Xindex, Bind}
 use Rattle.link_graph.specs.declared.error.GraphError.{GraphError}
 use Rattle.link_graph.specs.declared.error.GraphError.TheVariants.{UnknownReloc, RelocOutside, TlsOrIfunc, BadPair, NeedsAlign, TooMany, NoMemory as GraphNoMemory}
 use Rattle.exec_run.specs.declared.ran.RunEnd.TheVariants as end
@@ -42,7 +42,6 @@ kind_text Compressed = codes "compressed"
 kind_text SectionKind = codes "sectionkind"
 kind_text Xindex = codes "xindex"
 kind_text Bind = codes "bind"
-kind_text Form = codes "form"
 
 abbrev pub elf_text : ElfError → List ℕ
 elf_text (Short place) = codes "e1 " ++ decimal place

@@ -180,6 +180,5 @@ fn put_kind(out: &mut Vec<u8>, kind: NotBuiltKind) -> Result<(), AllocError>
         NotBuiltKind::SectionKind => put(out, b"sectionkind"),
         NotBuiltKind::Xindex => put(out, b"xindex"),
         NotBuiltKind::Bind => put(out, b"bind"),
-        NotBuiltKind::Form => put(out, b"form"),
     }
 }

@@ -16,7 +16,6 @@ fn kind_word(kind: NotBuiltKind) -> &'static str {
         NotBuiltKind::SectionKind => "sectionkind",
         NotBuiltKind::Xindex => "xindex",
         NotBuiltKind::Bind => "bind",
-        NotBuiltKind::Form => "form",
     }
 }
 

@@ -58,8 +58,6 @@ pub enum NotBuiltKind {
     Xindex,
     /// A symbol's binding other than local, global and weak.
     Bind,
-    /// An object outside the form that is linked so far.
-    Form,
 }
 
 impl ElfError {
