@@ -1,5 +1,5 @@
 -- Bytes that are read range by range, and the memory of an image with its stack.
-use Rattle.std.proofs.Common.{◌≡◌, ◌⊎◌, ⊎_elim, inl, inr, ℕ, true, false, Option, Some, None, ◌+◌, ◌-◌, ◌<◌, ◌≤◌, List, [], ◌∷◌, ◌++◌, length, map, take, zero, suc, refl, ap, sym, ◌∙◌, cond, arith, append_assoc}
+use Rattle.std.proofs.Common.{◌≡◌, ◌⊎◌, ⊎_elim, inl, inr, ℕ, true, false, Option, Some, None, ◌+◌, ◌-◌, ◌<◌, ◌≤◌, List, [], ◌∷◌, ◌++◌, length, take, zero, suc, refl, ap, sym, ◌∙◌, cond, arith, append_assoc}
 use Rattle.std.specs.Prelude.{option_map, slice_get, nat_lt, is_some, IsSomeAnd, ◌&&◌}
 use Rattle.std.proofs.Math.Dec.{leb}
 use Rattle.std.proofs.lemmas.Bool.Decides.{leb_tells}
@@ -8,11 +8,10 @@ use Rattle.code_memory.specs.Mapped.{byte_at, AreSegments}
 use Rattle.orc_ids.specs.declared.limits.TheConstants.{CODE_START, CODE_END}
 use Rattle.code_memory.specs.declared.image.Segment.{Segment}
 use Rattle.exec_run.specs.declared.host.TheConstants.{STACK_START, STACK_END}
-use Rattle.exec_run.specs.declared.region.Region.{Region}
 use Rattle.exec_run.specs.Bytes.{bytes_from}
-use Rattle.exec_run.specs.Regions.{shown, all_shown, AreRegions, AreZeros, IsRest}
+use Rattle.exec_run.specs.Regions.{AreRegions, AreZeros, IsRest}
 use Rattle.exec_run.specs.Start.{with_stack}
-use Rattle.exec_run.proofs.Regions.{Rise, end_of, in_range, before_first, after_first}
+use Rattle.exec_run.proofs.Regions.{Rise, end_of, in_range, before_first, after_first, wider}
 use Rattle.exec_run.proofs.Spans.{bytes_none, bytes_take, bytes_join}
 use Rattle.exec_run.proofs.Loads.{byte_none}
 
@@ -51,49 +50,23 @@ pub added_all : (o : Option (List ℕ)) (old new : List ℕ) → Some new ≡ op
 added_all (Some all) old new e = cc
 added_all None old new e = absurd cc
 
-pub shown_push : (rs : List Region) (r : Region) → all_shown (rs ++ r ∷ []) ≡ all_shown rs ++ shown r ∷ []
-shown_push [] r = refl
-shown_push (x ∷ rs) r = ap (λ xs. shown x ∷ xs) (shown_push rs r)
-
--- the ranges of an image, one by one
-pub copied : (rs : List Region) (ss : List Segment) (k base : ℕ) (r : Region) → all_shown rs ≡ take k ss → option_map (λ (s : Segment). s.base) (slice_get ss k) ≡ Some r.base → option_map (λ (s : Segment). s.bytes) (slice_get ss k) ≡ Some r.bytes.items → all_shown (rs ++ r ∷ []) ≡ take (k + 1) ss
-copied rs ss k base r so_far b bs =
-    shown_push rs r ∙ ap (λ xs. xs ++ shown r ∷ []) so_far ∙ take_next ss k (shown r) (same (slice_get ss k) (shown r) b bs)
-    ∙ ap (λ n. take n ss) (let e : suc k ≡ k + 1 = omega arith in e)
-  where
-    same : (o : Option Segment) (s : Segment) → option_map (λ (s : Segment). s.base) o ≡ Some s.base → option_map (λ (s : Segment). s.bytes) o ≡ Some s.bytes → o ≡ Some s
-    same None s b bs = absurd cc
-    same (Some t) s b bs =
-        let p : t.base ≡ s.base = cc in
-        let q : t.bytes ≡ s.bytes = cc in
-        ap (λ x. Some (record t { base = x })) p ∙ ap (λ x. Some (record { base = s.base; bytes = x })) q
-
-    take_next : (ss : List Segment) (k : ℕ) (s : Segment) → slice_get ss k ≡ Some s → take k ss ++ s ∷ [] ≡ take (suc k) ss
-    take_next [] k s there = absurd cc
-    take_next (t ∷ ss) zero s there = let e : t ≡ s = cc in ap (λ x. x ∷ []) (sym e)
-    take_next (t ∷ ss) (suc k) s there = ap (λ xs. t ∷ xs) (take_next ss k s there)
-
 -- an image with a stack above it
 stack_above : (low : ℕ) (ss : List Segment) (t : Segment) → Rise low ss CODE_END → CODE_END ≤ t.base → 0 < length t.bytes → end_of t ≤ STACK_END → Rise low (ss ++ t ∷ []) STACK_END
 stack_above low [] t rise above some within = (omega arith, some, within)
 stack_above low (s ∷ ss) t rise above some within = (rise.0, rise.1, stack_above (end_of s) ss t rise.2 above some within)
 
-from_zero : (low : ℕ) (ss : List Segment) (high : ℕ) → Rise low ss high → Rise 0 ss high
-from_zero low [] high rise = omega arith
-from_zero low (s ∷ ss) high rise = (omega arith, rise.1, rise.2)
-
-last_there : (ss : List Segment) (t : Segment) → slice_get (ss ++ t ∷ []) (length ss) ≡ Some t
+pub last_there : (ss : List Segment) (t : Segment) → slice_get (ss ++ t ∷ []) (length ss) ≡ Some t
 last_there [] t = refl
 last_there (s ∷ ss) t = last_there ss t
 
-besides : (ss : List Segment) (t : Segment) (a : ℕ) → (a < t.base) ⊎ (end_of t ≤ a) → byte_at (ss ++ t ∷ []) a ≡ byte_at ss a
+pub besides : (ss : List Segment) (t : Segment) (a : ℕ) → (a < t.base) ⊎ (end_of t ≤ a) → byte_at (ss ++ t ∷ []) a ≡ byte_at ss a
 besides [] t a out = ⊎_elim (λ low. before_first t [] a low) (λ high. after_first t [] a high) out
 besides (s ∷ ss) t a out =
     ap (λ b. cond (nat_lt a s.base) b (cond (nat_lt a (end_of s)) (slice_get s.bytes (a - s.base)) b)) (besides ss t a out)
 
 pub with_stack_rises : (ss : List Segment) (t : Segment) → AreSegments ss → t.base ≡ STACK_START → length t.bytes ≡ STACK_END - STACK_START → AreRegions (ss ++ t ∷ [])
 with_stack_rises ss t apart base long =
-    from_zero CODE_START (ss ++ t ∷ []) STACK_END (stack_above CODE_START ss t apart (omega (arith, base)) (omega (arith, long)) (omega (arith, base, long)))
+    wider CODE_START 0 (ss ++ t ∷ []) STACK_END STACK_END (omega arith) (omega arith) (stack_above CODE_START ss t apart (omega (arith, base)) (omega (arith, long)) (omega (arith, base, long)))
 
 funext : {A : Type 0} (f g : ℕ → A) → ((a : ℕ) → f a ≡ g a) → f ≡ g
 funext f g h = λ i a. h a i

@@ -1,8 +1,12 @@
 pub mod Calls
+pub mod Copies
+pub mod Filled
 pub mod Joined
 pub mod Loads
 pub mod Regions
 pub mod Runs
 pub mod Spans
+pub mod Stretches
+pub mod Tops
 pub mod Wider
 pub mod Writes

@@ -1,15 +1,15 @@
 -- What is loaded from the ranges, and which addresses are mapped.
-use Rattle.std.proofs.Common.{◌≡◌, ◌⊎◌, ⊎_elim, inl, inr, ℕ, true, false, Option, Some, None, ◌+◌, ◌-◌, ◌/◌, ◌%◌, ◌^◌, ◌<◌, ◌≤◌, List, [], ◌∷◌, length, set, take, drop, get_or, zero, suc, refl, ap, sym, ◌∙◌, cond, subst, arith, length-set, length-drop}
+use Rattle.std.proofs.Common.{◌≡◌, ◌⊎◌, ⊎_elim, inl, inr, ℕ, Bool, true, false, Option, Some, None, ◌+◌, ◌-◌, ◌/◌, ◌%◌, ◌^◌, ◌<◌, ◌≤◌, List, [], ◌∷◌, length, set, take, drop, get_or, zero, suc, refl, ap, sym, ◌∙◌, cond, subst, arith, length-set, length-drop}
 use Rattle.std.specs.Prelude.{replicate, option_map, slice_get, nat_lt, is_some, IsSome, IfNone, IfSome, ◌==◌}
+use Rattle.std.specs.Bool.{OnTrue, OnFalse}
 use Rattle.std.proofs.lemmas.List.{take_all}
 use Rattle.std.proofs.lemmas.Grind.{take-set_at}
 use Rattle.rv_hart.specs.Map.{Map, byte_of, read, stored, with_byte}
 use Rattle.code_memory.specs.Mapped.{byte_at}
 use Rattle.code_memory.specs.declared.image.Segment.{Segment}
-use Rattle.exec_run.specs.declared.host.TheConstants.{STACK_END}
 use Rattle.exec_run.specs.Bytes.{bytes_from}
-use Rattle.exec_run.specs.Regions.{AreRegions, IsRest, IsGathered, number_of}
-use Rattle.exec_run.proofs.Regions.{in_none, bounds, end_of, rest_is, not_less, not_below}
+use Rattle.exec_run.specs.Regions.{AreRegions, IsRest, IsGathered, IsPut, number_of}
+use Rattle.exec_run.proofs.Regions.{end_of, rest_is, not_less, not_below}
 use Rattle.exec_run.proofs.Spans.{bytes_begin, bytes_more, bytes_none, bytes_take, read-bytes, number_take}
 
 pub if_none : {T : Type 0} (o : Option T) (P : Type 0) → P → IfNone o P
@@ -87,17 +87,17 @@ option_cases : {T : Type 0} (o : Option T) → (o ≡ None) ⊎ (is_some o ≡ t
 option_cases None = inl refl
 option_cases (Some x) = inr refl
 
-not_none : {T : Type 0} (o : Option T) → o ≡ None → is_some o ≡ true → ⊥
+pub not_none : {T : Type 0} (o : Option T) → o ≡ None → is_some o ≡ true → ⊥
 not_none o none some = let e : is_some o ≡ false = ap is_some none in cc
-
-pub mapped_below : (ss : List Segment) (at : ℕ) → AreRegions ss → IsSome (byte_at ss at) → at < STACK_END
-mapped_below ss at rise some =
-    not_less STACK_END (suc at) (λ past. not_none (byte_at ss at) (in_none ss at (λ k s there. inr (let b = bounds 0 ss STACK_END k s rise there in omega (arith, b.2)))) some)
 
 pub mapped_each : (map : Map) (at n j : ℕ) → IsSome (bytes_from map at n) → j < n → IsSome (map (at + j))
 mapped_each map at n j some less =
     ⊎_elim (λ (none : map (at + j) ≡ None). absurd (not_none (bytes_from map at n) (bytes_none map at j n less (byte_none map (at + j) none)) some))
     (λ (yes : is_some (map (at + j)) ≡ true). yes) (option_cases (map (at + j)))
+
+pub below_each : (map : Map) (at n j : ℕ) → IsSome (bytes_from map at n) → j < n → at + j < 2 ^ 64
+below_each map at n j some less =
+    not_less (2 ^ 64) (suc (at + j)) (λ past. not_none (bytes_from map at n) (bytes_none map at j n less (byte_past map (at + j) (omega arith))) some)
 
 pub mapped_after : (map : Map) (at b other : ℕ) → IsSome (map other) → IsSome (with_byte map at b other)
 mapped_after map at b other some = elim (other == at) as (λ t. is_some (cond t (Some b) (map other)) ≡ true) [ true ↦ refl | false ↦ some ]
@@ -140,3 +140,14 @@ some_of (Some x) Q h e = (x, h)
 
 pub read_gathered : (ss : List Segment) (at n : ℕ) (bytes : List ℕ) → IsGathered ss at n bytes → IsSome (read (byte_at ss) at n)
 read_gathered ss at n bytes is = subst IsSome (sym (load_gathered ss at n bytes is)) refl
+
+pub put_read : (old new : List Segment) (k at width value : ℕ) → AreRegions old → IsPut old new k at width value → IsSome (read (byte_at old) at width)
+put_read old new k at width value rise put = within_read old k put.segment at width rise put.there put.low put.high put.fits
+
+pub true_of : (b : Bool) (P : Type 0) → OnTrue b P → b ≡ true → P
+true_of true P h e = h
+true_of false P h e = absurd cc
+
+pub false_of : (b : Bool) (P : Type 0) → OnFalse b P → b ≡ false → P
+false_of false P h e = h
+false_of true P h e = absurd cc

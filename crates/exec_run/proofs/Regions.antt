@@ -1,16 +1,16 @@
 -- What the ranges of a memory have at an address.
-use Rattle.std.proofs.Common.{◌≡◌, ◌⊎◌, ⊎_elim, inl, inr, ℕ, true, false, Some, None, ◌+◌, ◌-◌, ◌^◌, ◌<◌, ◌≤◌, List, [], ◌∷◌, length, map, drop, get_or, zero, suc, refl, ap, sym, ◌∙◌, cond, subst, arith, length-drop}
-use Rattle.std.specs.Prelude.{slice_get, nat_lt}
+use Rattle.std.proofs.Common.{◌≡◌, ◌↔◌, ◌⊎◌, ⊎_elim, inl, inr, ℕ, true, false, Option, Some, None, ◌+◌, ◌-◌, ◌^◌, ◌<◌, ◌≤◌, List, [], ◌∷◌, length, drop, get_or, zero, suc, refl, ap, sym, ◌∙◌, cond, subst, arith, length-drop}
+use Rattle.std.specs.Prelude.{slice_get, nat_lt, option_map}
 use Rattle.std.proofs.Math.Dec.{leb}
 use Rattle.std.proofs.lemmas.Bool.Decides.{leb_tells}
 use Rattle.code_memory.specs.Apart.{AreApart}
-use Rattle.code_memory.specs.Mapped.{byte_at}
+use Rattle.code_memory.specs.Mapped.{byte_at, AreSegments}
 use Rattle.code_memory.specs.declared.image.Segment.{Segment}
+use Rattle.orc_ids.specs.declared.limits.TheConstants.{CODE_START, CODE_END}
 use Rattle.exec_run.specs.declared.host.TheConstants.{STACK_END}
-use Rattle.exec_run.specs.declared.region.Region.{Region}
 use Rattle.rv_hart.specs.Map.{Map, byte_of}
 use Rattle.exec_run.specs.Bytes.{bytes_from, before}
-use Rattle.exec_run.specs.Regions.{shown, all_shown, AreRegions, IsIn, IsRest}
+use Rattle.exec_run.specs.Regions.{AreRegions, IsIn, IsFrom, IsPart, IsRest}
 
 -- ranges from an address on, up to another
 abbrev pub Rise : ℕ → List Segment → ℕ → Type 0
@@ -85,18 +85,13 @@ in_none (s ∷ ss) at h =
     let rest : byte_at ss at ≡ None = in_none ss at (λ k t there. h (suc k) t there) in
     ⊎_elim (λ low. before_first s ss at low ∙ rest) (λ high. after_first s ss at high ∙ rest) (h 0 s refl)
 
--- a range that is read from the list
-shown_at : (rs : List Region) (i : ℕ) (d : Region) → i < length rs → slice_get (all_shown rs) i ≡ Some (shown (get_or rs i d))
-shown_at [] i d h = absurd (omega arith)
-shown_at (r ∷ rs) zero d h = refl
-shown_at (r ∷ rs) (suc i) d h = shown_at rs i d (omega arith)
+-- bounds that are wider
+pub wider : (low low' : ℕ) (ss : List Segment) (high high' : ℕ) → low' ≤ low → high ≤ high' → Rise low ss high → Rise low' ss high'
+wider low low' [] high high' less more rise = omega arith
+wider low low' (s ∷ ss) high high' less more rise = (omega (arith, rise.0), rise.1, wider (end_of s) (end_of s) ss high high' (omega arith) more rise.2)
 
-pub shown_item : (rs : List Region) (i : ℕ) (r : Region) → i < length rs → r ≡ get_or rs i r → slice_get (all_shown rs) i ≡ Some (shown r)
-shown_item rs i r h is = shown_at rs i r h ∙ ap (λ x. Some (shown x)) (sym is)
-
-pub shown_length : (rs : List Region) → length (all_shown rs) ≡ length rs
-shown_length [] = refl
-shown_length (r ∷ rs) = omega (arith, shown_length rs)
+pub segments_rise : (ss : List Segment) → AreSegments ss → AreRegions ss
+segments_rise ss apart = wider CODE_START 0 ss CODE_END STACK_END (omega arith) (omega arith) apart
 
 -- what halving keeps: the ranges below end before the address, those above begin after it
 pub record IsSearched (ss : List Segment) (at low high : ℕ) : Type 0 where
@@ -143,11 +138,6 @@ search_ends ss at low high searched met = in_none ss at (λ k s there.
     (λ (e : (leb (suc k) low ≡ false) × (low < suc k)). inl (searched.above k s (omega (arith, e.1)) there))
     (leb_tells (suc k) low))
 
-pub shown_get : (rs : List Region) (i : ℕ) (r : Region) → slice_get rs i ≡ Some r → slice_get (all_shown rs) i ≡ Some (shown r)
-shown_get [] i r there = absurd cc
-shown_get (x ∷ rs) zero r there = ap (λ (q : Region). Some (shown q)) (let same : x ≡ r = cc in same)
-shown_get (x ∷ rs) (suc i) r there = shown_get rs i r there
-
 -- bytes that are mapped one after another
 pub bytes_are : (map : Map) (at : ℕ) (bytes : List ℕ) → ((j : ℕ) → j < length bytes → byte_of map (at + j) ≡ slice_get bytes j) → bytes_from map at (length bytes) ≡ Some bytes
 unfolding bytes_from
@@ -163,29 +153,99 @@ get-drop bytes zero j = ap (slice_get bytes) (let e : j ≡ zero + j = omega ari
 get-drop [] (suc off) j = refl
 get-drop (b ∷ bytes) (suc off) j = get-drop bytes off j ∙ ap (slice_get (b ∷ bytes)) (let e : suc (off + j) ≡ suc off + j = omega arith in e)
 
+-- what a list has from a place on
+pub from_drop : (bytes : List ℕ) (place : ℕ) (rest : List ℕ) → place < length bytes → rest ≡ drop place bytes → IsFrom bytes place rest
+from_drop bytes place rest less is =
+    let long : length rest + place ≡ length bytes = omega (arith, ap length is, length-drop place bytes) in
+    record { some = omega arith; within = omega arith; same = λ j _. ap (λ bs. slice_get bs j) is ∙ get-drop bytes place j }
+
 -- what a range has from an address on
-pub rest_is : (ss : List Segment) (k : ℕ) (s : Segment) (at : ℕ) (rest : List ℕ) → AreRegions ss → slice_get ss k ≡ Some s → s.base ≤ at → at < end_of s → rest ≡ drop (at - s.base) s.bytes → IsRest ss at rest
-rest_is ss k s at rest rise there low high is =
-    let within = bounds 0 ss STACK_END k s rise there in
-    let long : length rest + (at - s.base) ≡ length s.bytes = omega (arith, ap length is, length-drop (at - s.base) s.bytes) in
+pub part_rest : (ss : List Segment) (at : ℕ) (rest : List ℕ) → AreRegions ss → IsPart ss at rest → IsRest ss at rest
+part_rest ss at rest rise part =
+    let s = part.segment in
+    let low : s.base ≤ at = part.low in
+    let some : 0 < length rest = part.from.some in
+    let fits : at - s.base + length rest ≤ length s.bytes = part.from.within in
+    let within = bounds 0 ss STACK_END part.range s rise part.there in
     record {
-      some = omega arith;
+      some = some;
       below = omega (arith, within.2);
       mapped = bytes_are (byte_at ss) at rest (λ j less.
           ap (λ b. cond b (byte_at ss (at + j)) None) (below_is (at + j) (2 ^ 64) (omega (arith, within.2)))
-          ∙ in_range 0 ss STACK_END k s (at + j) rise there (omega arith) (omega arith)
+          ∙ in_range 0 ss STACK_END part.range s (at + j) rise part.there (omega arith) (omega arith)
           ∙ ap (slice_get s.bytes) (let e : at + j - s.base ≡ at - s.base + j = omega arith in e)
-          ∙ sym (get-drop s.bytes (at - s.base) j)
-          ∙ ap (λ bs. slice_get bs j) (sym is));
+          ∙ sym (part.from.same j less));
     }
+
+pub rest_is : (ss : List Segment) (k : ℕ) (s : Segment) (at : ℕ) (rest : List ℕ) → AreRegions ss → slice_get ss k ≡ Some s → s.base ≤ at → at < end_of s → rest ≡ drop (at - s.base) s.bytes → IsRest ss at rest
+rest_is ss k s at rest rise there low high is =
+    part_rest ss at rest rise (record { range = k; segment = s; there = there; low = low; from = from_drop s.bytes (at - s.base) rest (omega arith) is })
 
 pub not_less : (a b : ℕ) → (a < b → ⊥) → b ≤ a
 not_less a b never =
     ⊎_elim (λ (e : (leb (suc a) b ≡ true) × (suc a ≤ b)). absurd (never (omega (arith, e.1)))) (λ (e : (leb (suc a) b ≡ false) × (b < suc a)). omega (arith, e.1)) (leb_tells (suc a) b)
 
--- the range that was found is the one read
-pub found_is : (rs : List Region) (k at : ℕ) (r : Region) → IsIn (all_shown rs) k at → r ≡ get_or rs k r → (slice_get (all_shown rs) k ≡ Some (shown r)) × (r.base ≤ at) × (at < end_of (shown r))
-found_is rs k at r found is =
-    let there = shown_item rs k r (omega (arith, inside (all_shown rs) k found.segment found.there, shown_length rs)) is in
-    let same : found.segment ≡ shown r = (let f = found.there in cc) in
-    (there, subst (λ (x : Segment). x.base ≤ at) same found.low, subst (λ (x : Segment). at < end_of x) same found.high)
+-- the base and the bytes that were read are those of the range
+pub base_of : (o : Option Segment) (s : Segment) (b : ℕ) → o ≡ Some s → option_map (λ (s : Segment). s.base) o ≡ Some b → s.base ≡ b
+base_of o s b is read = let e : Some s.base ≡ Some b = sym (ap (option_map (λ (s : Segment). s.base)) is) ∙ read in cc
+
+pub bytes_of_range : (o : Option Segment) (s : Segment) (bytes : List ℕ) → o ≡ Some s → option_map (λ (s : Segment). s.bytes) o ≡ Some bytes → s.bytes ≡ bytes
+bytes_of_range o s bytes is read = let e : Some s.bytes ≡ Some bytes = sym (ap (option_map (λ (s : Segment). s.bytes)) is) ∙ read in cc
+
+-- a number below the length names an item
+pub some_item : {X : Type 0} (xs : List X) (k : ℕ) → k < length xs → (x : X) × (slice_get xs k ≡ Some x)
+some_item [] k less = absurd (omega arith)
+some_item (x ∷ xs) zero less = (x, refl)
+some_item (x ∷ xs) (suc k) less = some_item xs k (omega arith)
+
+-- an item that was read is the one at its number
+pub item_at : {X : Type 0} (xs : List X) (k : ℕ) (x : X) → k < length xs → x ≡ get_or xs k x → slice_get xs k ≡ Some x
+item_at xs k x less is = read xs k x less ∙ ap Some (sym is)
+  where
+    read : {X : Type 0} (xs : List X) (k : ℕ) (d : X) → k < length xs → slice_get xs k ≡ Some (get_or xs k d)
+    read [] k d less = absurd (omega arith)
+    read (x ∷ xs) zero d less = refl
+    read (x ∷ xs) (suc k) d less = read xs k d (omega arith)
+
+-- a range that has the address, by what was read of it
+pub is_in : (ss : List Segment) (k at base : ℕ) (bytes : List ℕ) → k < length ss → option_map (λ (s : Segment). s.base) (slice_get ss k) ≡ Some base → option_map (λ (s : Segment). s.bytes) (slice_get ss k) ≡ Some bytes → base ≤ at → at - base < length bytes → IsIn ss k at
+is_in ss k at base bytes less b bs low high =
+    let s = some_item ss k less in
+    let p : s.0.base ≡ base = base_of (slice_get ss k) s.0 base s.1 b in
+    let q : length s.0.bytes ≡ length bytes = ap length (bytes_of_range (slice_get ss k) s.0 bytes s.1 bs) in
+    record { segment = s.0; there = s.1; low = omega arith; high = omega arith }
+
+pub is_in_base : (ss : List Segment) (k at base : ℕ) → IsIn ss k at → option_map (λ (s : Segment). s.base) (slice_get ss k) ≡ Some base → base ≤ at
+is_in_base ss k at base is b =
+    let p : is.segment.base ≡ base = base_of (slice_get ss k) is.segment base is.there b in
+    let low : is.segment.base ≤ at = is.low in omega arith
+
+pub is_in_bytes : (ss : List Segment) (k at base : ℕ) (bytes : List ℕ) → IsIn ss k at → option_map (λ (s : Segment). s.base) (slice_get ss k) ≡ Some base → option_map (λ (s : Segment). s.bytes) (slice_get ss k) ≡ Some bytes → at - base < length bytes
+is_in_bytes ss k at base bytes is b bs =
+    let p : is.segment.base ≡ base = base_of (slice_get ss k) is.segment base is.there b in
+    let q : length is.segment.bytes ≡ length bytes = ap length (bytes_of_range (slice_get ss k) is.segment bytes is.there bs) in
+    let low : is.segment.base ≤ at = is.low in
+    let high : at < is.segment.base + length is.segment.bytes = is.high in omega arith
+
+-- the rest of the range that has the address
+pub in_part : (ss : List Segment) (k at base : ℕ) (bytes rest : List ℕ) → IsIn ss k at → option_map (λ (s : Segment). s.base) (slice_get ss k) ≡ Some base → option_map (λ (s : Segment). s.bytes) (slice_get ss k) ≡ Some bytes → rest ≡ drop (at - base) bytes → IsPart ss at rest
+in_part ss k at base bytes rest is b bs same =
+    let s = is.segment in
+    let p : s.base ≡ base = base_of (slice_get ss k) s base is.there b in
+    let q : s.bytes ≡ bytes = bytes_of_range (slice_get ss k) s bytes is.there bs in
+    let low : s.base ≤ at = is.low in
+    let high : at < s.base + length s.bytes = is.high in
+    record {
+      range = k;
+      segment = s;
+      there = is.there;
+      low = is.low;
+      from = from_drop s.bytes (at - s.base) rest (omega arith) (same ∙ ap (λ x. drop (at - x) bytes) (sym p) ∙ ap (drop (at - s.base)) (sym q));
+    }
+
+pub has_is : (ss : List Segment) (k at base n : ℕ) (bytes : List ℕ) → k < length ss → option_map (λ (s : Segment). s.base) (slice_get ss k) ≡ Some base → option_map (λ (s : Segment). s.bytes) (slice_get ss k) ≡ Some bytes → base ≤ at → n ≡ length bytes → (nat_lt (at - base) n ≡ true) ↔ IsIn ss k at
+has_is ss k at base n bytes less b bs low long = (
+  λ (yes : nat_lt (at - base) n ≡ true). is_in ss k at base bytes less b bs low (⊎_elim (λ (e : (leb (suc (at - base)) n ≡ true) × (suc (at - base) ≤ n)). omega (arith, e.1))
+      (λ (e : (leb (suc (at - base)) n ≡ false) × (n < suc (at - base))). absurd (let f : false ≡ true = sym e.0 ∙ yes in cc)) (leb_tells (suc (at - base)) n)),
+  λ is. below_is (at - base) n (omega (arith, is_in_bytes ss k at base bytes is b bs)),
+)

@@ -7,21 +7,15 @@ use Rattle.rv_hart.specs.Map.{stored, with_byte}
 use Rattle.code_memory.specs.Mapped.{byte_at}
 use Rattle.code_memory.specs.declared.image.Segment.{Segment}
 use Rattle.exec_run.specs.declared.host.TheConstants.{STACK_END}
-use Rattle.exec_run.specs.declared.region.Region.{Region}
-use Rattle.exec_run.specs.Regions.{shown, all_shown, AreRegions, with_number}
+use Rattle.exec_run.specs.Regions.{AreRegions, IsPut, IsSet, with_number}
 use Rattle.exec_run.proofs.Regions.{Rise, end_of, in_range, before_first, after_first}
 
-pub shown_set : (rs : List Region) (k : ℕ) (r : Region) → all_shown (set rs k r) ≡ set (all_shown rs) k (shown r)
-shown_set [] k r = refl
-shown_set (x ∷ rs) zero r = refl
-shown_set (x ∷ rs) (suc k) r = ap (λ ss. shown x ∷ ss) (shown_set rs k r)
-
-set_there : (ss : List Segment) (k : ℕ) (s t : Segment) → slice_get ss k ≡ Some s → slice_get (set ss k t) k ≡ Some t
+pub set_there : (ss : List Segment) (k : ℕ) (s t : Segment) → slice_get ss k ≡ Some s → slice_get (set ss k t) k ≡ Some t
 set_there [] k s t there = absurd cc
 set_there (u ∷ ss) zero s t there = refl
 set_there (u ∷ ss) (suc k) s t there = set_there ss k s t there
 
-set_itself : (ss : List Segment) (k : ℕ) (s : Segment) → slice_get ss k ≡ Some s → set ss k s ≡ ss
+pub set_itself : (ss : List Segment) (k : ℕ) (s : Segment) → slice_get ss k ≡ Some s → set ss k s ≡ ss
 set_itself [] k s there = refl
 set_itself (u ∷ ss) zero s there = let e : u ≡ s = cc in ap (λ x. x ∷ ss) (sym e)
 set_itself (u ∷ ss) (suc k) s there = ap (λ xs. u ∷ xs) (set_itself ss k s there)
@@ -60,12 +54,12 @@ elsewhere (u ∷ ss) zero s t a there base long out =
 elsewhere (u ∷ ss) (suc k) s t a there base long out =
     ap (λ b. cond (nat_lt a u.base) b (cond (nat_lt a (end_of u)) (slice_get u.bytes (a - u.base)) b)) (elsewhere ss k s t a there base long out)
 
-get-set_same : (bytes : List ℕ) (place b : ℕ) → place < length bytes → slice_get (set bytes place b) place ≡ Some b
+pub get-set_same : {X : Type 0} (bytes : List X) (place : ℕ) (b : X) → place < length bytes → slice_get (set bytes place b) place ≡ Some b
 get-set_same [] place b less = absurd (omega arith)
 get-set_same (x ∷ bytes) zero b less = refl
 get-set_same (x ∷ bytes) (suc place) b less = get-set_same bytes place b (omega arith)
 
-get-set_other : (bytes : List ℕ) (place i b : ℕ) → i ≢ place → slice_get (set bytes place b) i ≡ slice_get bytes i
+pub get-set_other : {X : Type 0} (bytes : List X) (place i : ℕ) (b : X) → i ≢ place → slice_get (set bytes place b) i ≡ slice_get bytes i
 get-set_other [] place i b apart = refl
 get-set_other (x ∷ bytes) zero zero b apart = absurd (apart refl)
 get-set_other (x ∷ bytes) zero (suc i) b apart = refl
@@ -132,11 +126,26 @@ several_bytes ss k s place (suc width) value rise there within =
     ∙ ap (λ m. stored m (s.base + (place + 1)) width (value / 2 ^ 8)) (one_byte ss k s place b rise there (omega arith))
     ∙ ap (λ a. stored (with_byte (byte_at ss) (s.base + place) b) a width (value / 2 ^ 8)) (let e : s.base + (place + 1) ≡ s.base + place + 1 = omega arith in e)
 
-number_length : (bytes : List ℕ) (place width value : ℕ) → length (with_number bytes place width value) ≡ length bytes
+pub number_length : (bytes : List ℕ) (place width value : ℕ) → length (with_number bytes place width value) ≡ length bytes
 unfolding with_number
 number_length bytes place zero value = refl
 number_length bytes place (suc width) value =
     number_length (set bytes place (value % 2 ^ 8)) (place + 1) width (value / 2 ^ 8) ∙ length-set bytes place (value % 2 ^ 8)
 
-pub rise_several : (ss : List Segment) (k : ℕ) (s : Segment) (place width value : ℕ) → AreRegions ss → slice_get ss k ≡ Some s → AreRegions (set ss k (with_several s place width value))
-rise_several ss k s place width value rise there = rise_set 0 ss STACK_END k s (with_several s place width value) rise there refl (number_length s.bytes place width value)
+-- a range that a value or a byte was written in
+pub put_bytes : (old new : List Segment) (k at width value : ℕ) → AreRegions old → IsPut old new k at width value → byte_at new ≡ stored (byte_at old) at width value
+put_bytes old new k at width value rise put =
+    let s = put.segment in
+    let low : s.base ≤ at = put.low in
+    ap byte_at put.written
+    ∙ several_bytes old k s (at - s.base) width value rise put.there put.fits
+    ∙ ap (λ a. stored (byte_at old) a width value) (let e : s.base + (at - s.base) ≡ at = omega arith in e)
+
+pub set_byte : (old new : List Segment) (k at byte : ℕ) → AreRegions old → IsSet old new k at byte → byte_at new ≡ with_byte (byte_at old) at byte
+set_byte old new k at byte rise set_in =
+    let s = set_in.segment in
+    let low : s.base ≤ at = set_in.low in
+    let high : at < s.base + length s.bytes = set_in.high in
+    ap byte_at set_in.written
+    ∙ one_byte old k s (at - s.base) byte rise set_in.there (omega arith)
+    ∙ ap (λ a. with_byte (byte_at old) a byte) (let e : s.base + (at - s.base) ≡ at = omega arith in e)

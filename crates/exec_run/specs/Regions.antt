@@ -1,18 +1,68 @@
--- The ranges of a run's memory.
-use Rattle.std.specs.Prelude.{◌≡◌, ℕ, zero, suc, Some, ◌+◌, ◌-◌, ◌*◌, ◌/◌, ◌%◌, ◌^◌, ◌≤◌, ◌<◌, List, [], ◌∷◌, length, map, take, drop, replicate, slice_get, slice_set}
+-- The memory of a run: the ranges of an image, with copies of those that were written, and the stack.
+use Rattle.std.specs.Prelude.{◌≡◌, ◌≢◌, ◌⊎◌, ℕ, zero, suc, Option, Some, None, ◌+◌, ◌-◌, ◌*◌, ◌/◌, ◌%◌, ◌^◌, ◌≤◌, ◌<◌, List, [], ◌∷◌, ◌++◌, length, map, take, drop, replicate, slice_get, slice_set}
 use Rattle.code_memory.specs.Apart.{AreApart}
-use Rattle.code_memory.specs.Mapped.{byte_at}
+use Rattle.code_memory.specs.Mapped.{byte_at, AreSegments}
 use Rattle.code_memory.specs.declared.image.Segment.{Segment}
-use Rattle.exec_run.specs.declared.host.TheConstants.{STACK_END}
-use Rattle.exec_run.specs.declared.region.Region.{Region}
+use Rattle.exec_run.specs.declared.host.TheConstants.{STACK_START, STACK_END, STACK_SIZE}
+use Rattle.exec_run.specs.declared.ranges.Region.{Region}
 use Rattle.exec_run.specs.Bytes.{bytes_from}
 
--- a range as its base and its bytes
-abbrev pub shown : Region → Segment
-shown r = record { base = r.base; bytes = r.bytes.items }
+-- the bytes of a range: those of the image, or those of its copy in the pool
+abbrev pub bytes_of : List ℕ → Option ℕ → List ℕ → List ℕ
+bytes_of pool None bytes = bytes
+bytes_of pool (Some place) bytes = take (length bytes) (drop place pool)
 
-abbrev pub all_shown : List Region → List Segment
-all_shown rs = map shown rs
+-- a range as its base and its bytes
+abbrev pub shown : List ℕ → Region → Segment
+shown pool r = record { base = r.base; bytes = bytes_of pool r.copy r.bytes.now }
+
+abbrev pub all_shown : List ℕ → List Region → List Segment
+all_shown pool rs = map (shown pool) rs
+
+-- how many bytes a range adds to those that have no copy
+abbrev pub uncopied : Option ℕ → ℕ → ℕ
+uncopied None count = count
+uncopied (Some place) count = 0
+
+-- how many bytes of the ranges have no copy
+unfoldable pub all_uncopied : List Region → ℕ
+all_uncopied [] = 0
+all_uncopied (r ∷ rs) = uncopied r.copy (length r.bytes.now) + all_uncopied rs
+
+-- one stretch of bytes ends before the other begins
+abbrev pub AreApartFrom : ℕ → ℕ → ℕ → ℕ → Type 0
+AreApartFrom p m q n = (p + m ≤ q) ⊎ (q + n ≤ p)
+
+-- each copy is in the pool and apart from the others, and the pool has room for the bytes that have none
+pub record AreCopied (rs : List Region) (pool : List ℕ) (capacity : ℕ) : Type 0 where
+  pub within : (k place : ℕ) (r : Region) → slice_get rs k ≡ Some r → r.copy ≡ Some place → place + length r.bytes.now ≤ length pool
+  pub apart : (j k p q : ℕ) (r s : Region) → j ≢ k → slice_get rs j ≡ Some r → slice_get rs k ≡ Some s → r.copy ≡ Some p → s.copy ≡ Some q → AreApartFrom p (length r.bytes.now) q (length s.bytes.now)
+  pub room : length pool + all_uncopied rs ≤ capacity
+  pub segments : AreSegments (all_shown pool rs)
+
+-- range k has its copy from a place on
+pub record HasCopy (rs : List Region) (k place : ℕ) : Type 0 where
+  pub region : Region
+  pub there : slice_get rs k ≡ Some region
+  pub copy : region.copy ≡ Some place
+
+-- the bytes kept of a stack, and room for all of them
+pub record HasRoom (bytes : List ℕ) (capacity : ℕ) : Type 0 where
+  pub long : length bytes ≤ STACK_SIZE
+  pub room : STACK_SIZE ≤ capacity
+
+-- so many bytes, of which those at the end are these and the others are zero
+unfoldable pub filled : ℕ → List ℕ → List ℕ
+filled count bytes = replicate (count - length bytes) 0 ++ bytes
+
+-- the ranges, with the stack above them
+abbrev pub with_top : List Segment → List ℕ → List Segment
+with_top ss bytes = ss ++ record { base = STACK_START; bytes = bytes } ∷ []
+
+-- ranges in code memory, and the bytes of a stack
+pub record HasTop (ss : List Segment) (bytes : List ℕ) : Type 0 where
+  pub apart : AreSegments ss
+  pub long : length bytes ≡ STACK_SIZE
 
 -- the ranges rise and are apart, up to the end of the stack
 abbrev pub AreRegions : List Segment → Type 0
@@ -24,6 +74,20 @@ pub record IsIn (ss : List Segment) (k at : ℕ) : Type 0 where
   pub there : slice_get ss k ≡ Some segment
   pub low : segment.base ≤ at
   pub high : at < segment.base + length segment.bytes
+
+-- what stands in bytes from a place on, one byte at least
+pub record IsFrom (bytes : List ℕ) (place : ℕ) (part : List ℕ) : Type 0 where
+  pub some : 0 < length part
+  pub within : place + length part ≤ length bytes
+  pub same : (j : ℕ) → j < length part → slice_get part j ≡ slice_get bytes (place + j)
+
+-- what stands in a range from the address on
+pub record IsPart (ss : List Segment) (at : ℕ) (part : List ℕ) : Type 0 where
+  pub range : ℕ
+  pub segment : Segment
+  pub there : slice_get ss range ≡ Some segment
+  pub low : segment.base ≤ at
+  pub from : IsFrom segment.bytes (at - segment.base) part
 
 -- bytes that are mapped from the address on, one at least
 pub record IsRest (ss : List Segment) (at : ℕ) (bytes : List ℕ) : Type 0 where
@@ -51,3 +115,25 @@ number_of (byte ∷ bytes) = byte + 2 ^ 8 * number_of bytes
 unfoldable pub with_number : List ℕ → ℕ → ℕ → ℕ → List ℕ
 with_number bytes place zero value = bytes
 with_number bytes place (suc width) value = with_number (slice_set bytes place (value % 2 ^ 8)) (place + 1) width (value / 2 ^ 8)
+
+-- a value is written in bytes, from a place on
+pub record IsPutAt (old new : List ℕ) (place width value : ℕ) : Type 0 where
+  pub fits : place + width ≤ length old
+  pub written : new ≡ with_number old place width value
+
+-- a value is written in range k, from the address on
+pub record IsPut (old new : List Segment) (k at width value : ℕ) : Type 0 where
+  pub segment : Segment
+  pub there : slice_get old k ≡ Some segment
+  pub low : segment.base ≤ at
+  pub high : at < segment.base + length segment.bytes
+  pub fits : at - segment.base + width ≤ length segment.bytes
+  pub written : new ≡ slice_set old k (record segment { bytes = with_number segment.bytes (at - segment.base) width value })
+
+-- a byte is written in range k, at the address
+pub record IsSet (old new : List Segment) (k at byte : ℕ) : Type 0 where
+  pub segment : Segment
+  pub there : slice_get old k ≡ Some segment
+  pub low : segment.base ≤ at
+  pub high : at < segment.base + length segment.bytes
+  pub written : new ≡ slice_set old k (record segment { bytes = slice_set segment.bytes (at - segment.base) byte })

@@ -7,6 +7,9 @@ pub const STACK_START: u64 = 0x7FEF_0000;
 /// Where the stack of a run ends: it has 1 MiB.
 pub const STACK_END: u64 = 0x7FFF_0000;
 
+/// How many bytes the stack of a run has.
+pub(crate) const STACK_SIZE: u64 = STACK_END - STACK_START;
+
 /// The most bytes that a run may write.
 pub const OUTPUT_MAX: u64 = 1_048_576;
 

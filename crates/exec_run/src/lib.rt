@@ -1,4 +1,4 @@
-//! Runs of linked code: the code at an address is run on a copy of an image and a stack of its own,
+//! Runs of linked code: the code at an address is run on an image and a stack of its own,
 //! one instruction for one fuel, until it exits, traps, is out of fuel or has written too much
 //! (RISC-V ELF psABI, "Integer Register Convention"; the calls `write` and `exit` are Linux's).
 //!
@@ -9,12 +9,15 @@
 //! says that a run which stays within what is mapped (`Stays` of `specs/Larger.antt`) has the same
 //! end and output on every larger memory.
 //!
-//! The memory of a run is the list of its ranges; the range of the last access is looked at first,
-//! and any other is found by halves. Read `rv_hart` for the step, and `code_memory` for the image.
+//! A run costs what it touches: a range of the image is copied when the run first writes to it, and
+//! the stack's bytes are kept as far down as was written. Room for all of them is reserved when the
+//! run starts, so that no store is refused for memory. The range of the last access is looked at
+//! first, and any other is found by halves. Read `rv_hart` for the step, and `code_memory` for the
+//! image.
 #![tactic(auto)]
 
 mod access;
-mod copy;
+mod find;
 mod host;
 mod laws;
 mod machine;
@@ -22,8 +25,9 @@ mod memory;
 mod number;
 mod pieces;
 mod ran;
-mod region;
+mod ranges;
 mod runner;
+mod stack;
 
 pub use host::{HOME, OUTPUT_MAX, STACK_END, STACK_START};
 pub use laws::{larger_memory, runs_have_one_end};

@@ -8,6 +8,7 @@ use crate::host::{
     BAD_ADDRESS, BAD_DESCRIPTOR, EXIT, HOME, NO_CALL, OUTPUT_MAX, STACK_END, STDOUT, WRITE,
 };
 use crate::memory::RunMemory;
+use crate::pieces::{append, has_bytes};
 use crate::ran::RunEnd;
 use code_memory::Image;
 use rv_hart::{Hart, Step};
@@ -15,22 +16,22 @@ use std::alloc::{AllocError, Global};
 
 /// A hart with its memory, and what it wrote.
 #[derive(Drop)]
-pub(crate) struct Machine {
+pub(crate) struct Machine<'a> {
     pub(crate) hart: Hart,
-    pub(crate) memory: RunMemory,
+    pub(crate) memory: RunMemory<'a>,
     pub(crate) output: Vec<u8>,
 }
 
-impl Machine {
+impl<'a> Machine<'a> {
     ghost use Rattle.exec_run.specs.Machine.{state_of, IsCalled, IsWritten, IsTaken};
 
     /// A machine at the start of a run.
     pub(crate) fn new(
         alloc: Global,
-        image: &Image,
+        image: &'a Image,
         pc: u64,
         args: &[u64],
-    ) -> Result<Machine, AllocError>
+    ) -> Result<Machine<'a>, AllocError>
         requires { length args.now ≤ 8 }
         ensures { IfOk result (λ machine. state_of machine ≡ start (byte_at image.now) pc args.now) }
     {
@@ -43,7 +44,7 @@ impl Machine {
 
     /// What the run wrote.
     pub(crate) fn into_output(self) -> Vec<u8>
-        ensures { result.items ≡ self.output.items }
+        ensures { result.items ≡ self.entry.output.items }
     {
         let Machine { output, .. } = self;
         output
@@ -104,14 +105,14 @@ impl Machine {
         }
         let from = self.hart.register(11);
         let count = self.hart.register(12);
-        if !self.memory.has_bytes(from, count) {
+        if !has_bytes(&self.memory, from, count) {
             self.answer(BAD_ADDRESS);
             return Ok(None);
         }
         if (self.output.len() as u64).saturating_add(count) > OUTPUT_MAX {
             return Ok(Some(RunEnd::OutputFull));
         }
-        self.memory.append(from, count, &mut self.output)?;
+        append(&self.memory, from, count, &mut self.output)?;
         self.answer(count);
         Ok(None)
     }

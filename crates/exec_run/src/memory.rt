@@ -1,89 +1,128 @@
-ghost use Rattle.std.specs.Prelude.{◌≡◌, ◌+◌, ◌≤◌, ◌<◌, ◌↔◌, ◌++◌, Some, None, IsTrue, IsSome, IfSome, IfNone, IfOk, OnOk, IsSomeAnd, length, vec_len};
-ghost use Rattle.rv_hart.specs.Map.{read, stored};
+ghost use Rattle.std.specs.Prelude.{◌≡◌, ◌≤◌, ◌<◌, Some, None, IsSome, IfSome, IfNone, IfOk};
+ghost use Rattle.std.specs.Bool.{OnTrue, OnFalse};
+ghost use Rattle.rv_hart.specs.Map.{read, stored, with_byte};
 ghost use Rattle.code_memory.specs.Mapped.{byte_at};
-ghost use Rattle.exec_run.specs.Bytes.{bytes_from};
+ghost use Rattle.exec_run.specs.Regions.{IsRest};
 ghost use Rattle.exec_run.specs.Start.{with_stack};
 
 use crate::access::{fetch, load, store};
-use crate::copy::{copy_of, zeros};
-use crate::host::{STACK_END, STACK_START};
-use crate::pieces::{append, has_bytes};
-use crate::region::Region;
+use crate::find::{find, rest_from};
+use crate::ranges::Ranges;
+use crate::stack::{Stack, is_on_stack};
 use code_memory::Image;
 use rv_hart::Memory;
 use std::alloc::{AllocError, Global};
 use std::cell::Cell;
 use std::marker::Model;
 
-/// The memory of a run. Contracts see its ranges, and `byte_at` of them as its map.
+/// The memory of a run. Contracts see its ranges, the last of them the stack, and `byte_at` of them
+/// as its map.
 #[derive(Drop)]
-pub(crate) struct RunMemory {
-    regions: Vec<Region>,
+pub(crate) struct RunMemory<'a> {
+    ranges: Ranges<'a>,
+    stack: Stack,
     code: Cell<usize>,
     data: Cell<usize>,
 }
 
-impl Model for RunMemory {
+impl<'a> Model for RunMemory<'a> {
     ghost use Rattle.std.specs.Prelude.{List};
     ghost use Rattle.code_memory.specs.declared.image.Segment.{Segment};
 
     ghost Value = { List Segment };
 
-    ghost use Rattle.exec_run.specs.Regions.{all_shown, AreRegions};
+    ghost use Rattle.exec_run.specs.Regions.{with_top, HasTop};
 
-    ghost view = { λ m. all_shown m.regions.items };
+    ghost view = { λ m. with_top m.ranges m.stack };
 
-    ghost invariant = { λ m. AreRegions (all_shown m.regions.items) };
+    ghost invariant = { λ m. HasTop m.ranges m.stack };
 }
 
-impl Memory for RunMemory {
+impl<'a> Memory for RunMemory<'a> {
     ghost bytes = { byte_at };
 
     #[inline(always)]
     fn load(&self, at: u64, width: u8) -> Option<u64> {
-        load(self.regions.as_slice(), &self.data, at, width)
+        load(self, at, width)
     }
 
     #[inline(always)]
     fn store(&mut self, at: u64, width: u8, value: u64) -> bool {
-        store(&mut self.regions, &self.data, at, width, value)
+        store(self, at, width, value)
     }
 
     #[inline(always)]
     fn fetch(&self, at: u64) -> Option<u32> {
-        fetch(self.regions.as_slice(), &self.code, at)
+        fetch(self, at)
     }
 }
 
-impl RunMemory {
-    /// A copy of the image, with a stack of zero bytes above it.
-    pub(crate) fn of_image(alloc: Global, image: &Image) -> Result<RunMemory, AllocError>
+impl<'a> RunMemory<'a> {
+    /// The image, with a stack of zero bytes above it. All memory that stores need is reserved here.
+    pub(crate) fn of_image(alloc: Global, image: &'a Image) -> Result<RunMemory<'a>, AllocError>
         ensures { IfOk result (λ memory. byte_at memory ≡ with_stack (byte_at image.now)) }
     {
-        let mut regions = copy_of(alloc, image)?;
-        regions.push(Region {
-            base: STACK_START,
-            bytes: zeros(alloc, (STACK_END - STACK_START) as usize)?,
-        })?;
         Ok(RunMemory {
-            regions,
+            ranges: Ranges::of_image(alloc, image)?,
+            stack: Stack::new(alloc)?,
             code: Cell::new(0),
             data: Cell::new(0),
         })
     }
 
-    /// Whether each of `count` bytes from the address on is mapped.
-    pub(crate) fn has_bytes(&self, at: u64, count: u64) -> bool
-        ensures { IsTrue result ↔ IsSome (bytes_from (byte_at self.now) at count) }
+    /// Mapped bytes of data, from the address on.
+    #[inline(always)]
+    pub(crate) fn data_from(&self, at: u64) -> Option<&[u8]>
+        ensures found { IfSome result (λ rest. IsRest self.now at rest.now) }
+        ensures missing { IfNone result (byte_at self.now at ≡ None) }
     {
-        has_bytes(self.regions.as_slice(), &self.data, at, count)
+        if is_on_stack(at) {
+            return Some(self.stack.bytes_from(at));
+        }
+        rest_from(&self.ranges, &self.data, at)
     }
 
-    /// Adds `count` mapped bytes from the address on at the end of `output`.
-    pub(crate) fn append(&self, at: u64, count: u64, output: &mut Vec<u8>) -> Result<(), AllocError>
-        requires { IsSome (bytes_from (byte_at self.now) at count) }
-        ensures { OnOk result (IsSomeAnd (bytes_from (byte_at self.now) at count) (λ bytes. output.new.items ≡ output.old.items ++ bytes)) }
+    /// Mapped bytes of code, from the address on.
+    #[inline(always)]
+    pub(crate) fn code_from(&self, at: u64) -> Option<&[u8]>
+        ensures found { IfSome result (λ rest. IsRest self.now at rest.now) }
+        ensures missing { IfNone result (byte_at self.now at ≡ None) }
     {
-        append(self.regions.as_slice(), &self.data, at, count, output)
+        if let Some(rest) = rest_from(&self.ranges, &self.code, at) {
+            return Some(rest);
+        }
+        if is_on_stack(at) {
+            return Some(self.stack.bytes_from(at));
+        }
+        None
+    }
+
+    /// Writes a value where all of its bytes are in one range that was written before, or does
+    /// nothing.
+    #[inline(always)]
+    pub(crate) fn put(&mut self, at: u64, width: u8, value: u64) -> bool
+        ensures mapped { OnTrue result (IsSome (read (byte_at self.old) at width)) }
+        ensures done { OnTrue result (byte_at self.new ≡ stored (byte_at self.old) at width value) }
+        ensures kept { OnFalse result (self.new ≡ self.old) }
+    {
+        if is_on_stack(at) {
+            return self.stack.put(at, width, value);
+        }
+        match find(&self.ranges, &self.data, at) {
+            Some(k) => self.ranges.put(k, at, width, value),
+            None => false,
+        }
+    }
+
+    /// Writes a byte at a mapped address.
+    pub(crate) fn set(&mut self, at: u64, byte: u8)
+        requires { IsSome (byte_at self.old at) }
+        ensures { byte_at self.new ≡ with_byte (byte_at self.old) at byte }
+    {
+        if is_on_stack(at) {
+            self.stack.set(at, byte);
+        } else if let Some(k) = find(&self.ranges, &self.data, at) {
+            self.ranges.set(k, at, byte);
+        }
     }
 }

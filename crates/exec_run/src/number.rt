@@ -1,4 +1,4 @@
-ghost use Rattle.std.specs.Prelude.{◌≡◌, ◌+◌, ◌≤◌, ◌<◌, ◌⊎◌, ◌^◌, length, vec_len};
+ghost use Rattle.std.specs.Prelude.{◌≡◌, ◌+◌, ◌≤◌, ◌<◌, ◌⊎◌, ◌^◌, length, vec_len, vec_capacity};
 ghost use Rattle.std.specs.Prelude.{take};
 ghost use Rattle.exec_run.specs.Regions.{number_of, with_number};
 
@@ -32,7 +32,8 @@ pub(crate) fn word(bytes: &[u8]) -> u32
 #[inline(always)]
 pub(crate) fn put(bytes: &mut Vec<u8>, place: usize, width: u8, value: u64)
     requires { place + width ≤ vec_len bytes.old }
-    ensures { bytes.new.items ≡ with_number bytes.old.items place width value }
+    ensures items { bytes.new.items ≡ with_number bytes.old.items place width value }
+    ensures capacity { vec_capacity bytes.new ≡ vec_capacity bytes.old }
 {
     let mut rest = value;
     for k in 0..width {

@@ -9,8 +9,8 @@ use code_memory::Image;
 use orc_ids::Bytes;
 use std::alloc::{AllocError, Global};
 
-/// Runs the code at `pc` on a copy of the image and a stack of its own, with up to eight arguments
-/// in a0 to a7, for at most `fuel` instructions.
+/// Runs the code at `pc` on the image and a stack of its own, with up to eight arguments in a0 to
+/// a7, for at most `fuel` instructions. What the run writes is its own: the image stays as it is.
 pub fn run(
     alloc: Global,
     image: &Image,

@@ -1,24 +1,18 @@
 -- Nothing is stored unless all is mapped.
-use Rattle.std.proofs.Common.{◌≡◌, List, None, true, false, subst, refl}
-use Rattle.std.specs.Prelude.{IsSome}
-use Rattle.rv_hart.specs.Map.{read}
+use Rattle.std.proofs.Common.{◌≡◌, false, true, refl}
 use Rattle.code_memory.specs.Mapped.{byte_at}
-use Rattle.exec_run.specs.declared.region.Region.{Region}
-use Rattle.exec_run.specs.Regions.{all_shown}
 use Rattle.exec_run.proofs.Loads.{load_missing, never_read, read_gathered, none_of, some_of}
 use Rattle.exec_run.proofs.access.store_apart.Goals as goal
 
 pub returns-then-is_none-clause-mapped : goal.returns-then-is_none-clause-mapped
 returns-then-is_none-clause-mapped c =
     let none = none_of c.gather.result _ c.gather.ensures.missing c.if-is_none.ensures in
-    let unread = load_missing (byte_at (all_shown c.as_slice.result.now)) c.args.at c.args.width none in (
+    let unread = load_missing (byte_at c.args.memory.now) c.args.at c.args.width none in (
       λ (f : false ≡ true). absurd cc,
-      λ some. absurd (never_read (byte_at (all_shown c.args.regions.now.items)) c.args.at c.args.width (subst (λ (rs : List Region). read (byte_at (all_shown rs)) c.args.at c.args.width ≡ None) c.as_slice.ensures.value unread) some),
+      λ some. absurd (never_read (byte_at c.args.memory.now) c.args.at c.args.width unread some),
     )
 
 pub returns-clause-mapped : goal.returns-clause-mapped
 returns-clause-mapped c =
-    let found = some_of c.gather.result _ c.gather.ensures.found c.if-is_none.ensures in (
-      λ _. subst (λ (rs : List Region). IsSome (read (byte_at (all_shown rs)) c.args.at c.args.width)) c.as_slice.ensures.value (read_gathered (all_shown c.as_slice.result.now) c.args.at c.args.width found.0 found.1),
-      λ _. refl,
-    )
+    let found = some_of c.gather.result _ c.gather.ensures.found c.if-is_none.ensures in
+    (λ _. read_gathered c.args.memory.now c.args.at c.args.width found.0 found.1, λ _. refl)

@@ -3,12 +3,10 @@ use Rattle.std.proofs.Common.{◌≡◌, ◌+◌, ◌-◌, ◌<◌, ℕ}
 use Rattle.std.specs.Prelude.{IsSome}
 use Rattle.rv_hart.specs.Map.{stored}
 use Rattle.code_memory.specs.Mapped.{byte_at}
-use Rattle.exec_run.specs.Regions.{all_shown, AreRegions}
 use Rattle.exec_run.proofs.access.store_bytes.Given as goal
 
 abbrev pub invariant-loop-k : goal.invariant-loop-k
 invariant-loop-k l = record {
-  same : stored (byte_at (all_shown l.regions.items)) (l.at + l.k) (l.width - l.k) l.rest ≡ stored (byte_at (all_shown l.fn.regions.items)) l.at l.width l.value;
-  apart : AreRegions (all_shown l.regions.items);
-  mapped : (j : ℕ) → j < l.width → IsSome (byte_at (all_shown l.regions.items) (l.at + j));
+  same : stored (byte_at l.memory) (l.at + l.k) (l.width - l.k) l.rest ≡ stored (byte_at l.fn.memory) l.at l.width l.value;
+  mapped : (j : ℕ) → j < l.width → IsSome (byte_at l.memory (l.at + j));
 }

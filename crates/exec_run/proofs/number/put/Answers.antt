@@ -19,8 +19,9 @@ loop-k-preserved c = record {
       ∙ sym (step c.loop-k.bytes.items (c.args.place + c.loop-k.k) (c.args.place + (c.loop-k.k + 1)) (c.args.width - c.loop-k.k) (c.args.width - (c.loop-k.k + 1)) c.loop-k.rest (omega arith) (omega arith))
       ∙ c.loop-k.invariant.same;
   long = length-set c.loop-k.bytes.items (c.args.place + c.from.result) (c.loop-k.rest % 256) ∙ c.loop-k.invariant.long;
+  capacity = c.loop-k.invariant.capacity;
 }
 
-pub returns : goal.returns
-returns c =
+pub returns-clause-items : goal.returns-clause-items
+returns-clause-items c =
     sym (done c.loop-k.bytes.items (c.args.place + c.loop-k.k) (c.args.width - c.loop-k.k) c.loop-k.rest (omega arith)) ∙ c.loop-k.invariant.same

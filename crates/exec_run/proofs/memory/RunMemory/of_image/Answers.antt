@@ -1,20 +1,15 @@
 -- The image's ranges and the stack above them.
-use Rattle.std.proofs.Common.{◌∙◌, ◌++◌, ◌∷◌, [], ap, sym, subst, refl}
-use Rattle.code_memory.specs.Mapped.{byte_at}
-use Rattle.exec_run.specs.declared.region.Region.{Region}
-use Rattle.exec_run.specs.declared.host.TheConstants.{STACK_START}
-use Rattle.exec_run.specs.Regions.{shown, all_shown, AreRegions}
-use Rattle.exec_run.proofs.Joined.{shown_push, with_stack_rises, with_stack_is}
+use Rattle.std.proofs.Common.{◌∙◌, ap, sym, subst}
+use Rattle.code_memory.specs.Mapped.{byte_at, AreSegments}
+use Rattle.exec_run.specs.Regions.{HasTop}
+use Rattle.exec_run.specs.Start.{with_stack}
+use Rattle.exec_run.proofs.Tops.{top_starts}
 use Rattle.exec_run.proofs.memory.RunMemory.of_image.Goals as goal
 
 pub invariant_of-result : goal.invariant_of-result
-invariant_of-result c =
-    let r : Region = record { base = STACK_START; bytes = c.in_ok-zeros.field-0 } in
-    subst AreRegions (sym (ap all_shown c.in_ok-push.ensures.items ∙ shown_push c.in_ok-regions.regions.items r ∙ ap (λ ss. ss ++ shown r ∷ []) c.in_ok-regions.ensures.copy))
-    (with_stack_rises c.args.image.now (shown r) c.copy_of.ensures.apart refl c.in_ok-zeros.ensures.long)
+invariant_of-result c = record { apart = subst AreSegments (sym c.in_ok-of_image.ensures.image) c.of_image.ensures.apart; long = c.in_ok-new.ensures.long }
 
 pub returns : goal.returns
 returns c =
-    let r : Region = record { base = STACK_START; bytes = c.in_ok-zeros.field-0 } in
-    ap byte_at (ap all_shown c.in_ok-push.ensures.items ∙ shown_push c.in_ok-regions.regions.items r ∙ ap (λ ss. ss ++ shown r ∷ []) c.in_ok-regions.ensures.copy)
-    ∙ with_stack_is c.args.image.now (shown r) c.copy_of.ensures.apart refl c.in_ok-zeros.ensures
+    let has : HasTop c.in_ok-of_image.field-0 c.in_ok-new.field-0 = record { apart = subst AreSegments (sym c.in_ok-of_image.ensures.image) c.of_image.ensures.apart; long = c.in_ok-new.ensures.long } in
+    top_starts c.in_ok-of_image.field-0 c.in_ok-new.field-0 has c.in_ok-new.ensures ∙ ap (λ ss. with_stack (byte_at ss)) c.in_ok-of_image.ensures.image

@@ -1,11 +1,10 @@
 -- The ranges below end before the address, those above begin after it.
 use Rattle.std.proofs.Common.{◌-◌, ◌≤◌, length}
-use Rattle.exec_run.specs.Regions.{all_shown}
 use Rattle.exec_run.proofs.Regions.{IsSearched}
-use Rattle.exec_run.proofs.region.search.Given as goal
+use Rattle.exec_run.proofs.find.search.Given as goal
 
 abbrev pub invariant-loop-low : goal.invariant-loop-low
-invariant-loop-low l = record { within : l.high ≤ length l.regions; searched : IsSearched (all_shown l.regions) l.at l.low l.high }
+invariant-loop-low l = record { within : l.high ≤ length l.ranges; searched : IsSearched l.ranges l.at l.low l.high }
 
 abbrev pub decreases-loop-low : goal.decreases-loop-low
 decreases-loop-low l = l.high - l.low

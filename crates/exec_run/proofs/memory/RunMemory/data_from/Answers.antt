@@ -1,0 +1,25 @@
+-- Bytes of the stack, or of a range below it.
+use Rattle.std.proofs.Common.{◌≡◌, None, subst}
+use Rattle.code_memory.specs.Mapped.{byte_at}
+use Rattle.exec_run.specs.Regions.{IsRest}
+use Rattle.exec_run.proofs.Tops.{rest_low, rest_top, off_stack, none_low, some_so, none_so}
+use Rattle.exec_run.proofs.memory.RunMemory.data_from.Goals as goal
+
+pub returns-then-is_on_stack-clause-found : goal.returns-then-is_on_stack-clause-found
+returns-then-is_on_stack-clause-found c =
+    let i = c.self.inside in
+    let on = c.is_on_stack.ensures.0 c.if-is_on_stack.true in
+    subst (λ ss. IsRest ss c.args.at c.bytes_from.result.now) c.self.view_is (rest_top i.ranges i.stack c.args.at c.bytes_from.result.now c.self.invariant on.0 c.bytes_from.ensures)
+
+pub returns-clause-found : goal.returns-clause-found
+returns-clause-found c =
+    let i = c.self.inside in
+    some_so c.rest_from.result _ _ c.rest_from.ensures.found
+    (λ rest part. subst (λ ss. IsRest ss c.args.at rest.now) c.self.view_is (rest_low i.ranges i.stack c.args.at rest.now c.self.invariant part))
+
+pub returns-clause-missing : goal.returns-clause-missing
+returns-clause-missing c =
+    let i = c.self.inside in
+    let off = off_stack c.is_on_stack.result c.args.at c.is_on_stack.ensures c.if-is_on_stack.false in
+    none_so c.rest_from.result _ _ c.rest_from.ensures.missing
+    (λ none. subst (λ ss. byte_at ss c.args.at ≡ None) c.self.view_is (none_low i.ranges i.stack c.args.at c.self.invariant off none))
