@@ -58,3 +58,14 @@ fn what_was_freed_is_used_again(rt: HostRuntime) {
     space.free(UnitId(0));
     assert!(rt; matches!(space.place(UnitId(0), all), Ok(0x1000_0000)));
 }
+
+#[test]
+fn memory_is_enough_for_an_image_of_nothing(rt: HostRuntime) {
+    let mut space = Space::new(rt.alloc());
+    assert_eq!(rt; space.image().expect(&rt, "memory").count(), 0);
+    let one = Shape { need: 1, align: 1 };
+    assert!(rt; matches!(space.place(UnitId(0), one), Ok(0x1000_0000)));
+    assert_eq!(rt; space.image().expect(&rt, "memory").count(), 0);
+    space.free(UnitId(0));
+    assert_eq!(rt; space.image().expect(&rt, "memory").count(), 0);
+}
