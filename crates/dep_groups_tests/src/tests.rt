@@ -162,3 +162,32 @@ fn a_circle_fails_with_its_third(rt: HostRuntime) -> Result<(), Fail> {
     assert!(rt; are_told(&frontier, &[2]));
     Ok(())
 }
+
+#[test]
+fn memory_is_enough_for_any_number_of_groups(rt: HostRuntime) -> Result<(), Fail> {
+    let alloc = rt.alloc();
+    let mut frontier = Frontier::new(alloc);
+    frontier.room(0)?;
+    frontier.emit(&[])?;
+    assert!(rt; are_told(&frontier, &[]));
+    let first = group_of(alloc, InstId(0), &[])?;
+    let second = group_of(alloc, InstId(1), &[InstId(0), InstId(2)])?;
+    frontier.room(2)?;
+    frontier.emit(&[first, second])?;
+    assert!(rt; are_told(&frontier, &[0]));
+    assert!(rt; !frontier.is_ready(InstId(1)));
+    Ok(())
+}
+
+#[test]
+fn memory_is_enough_for_a_group_of_any_number_of_members(rt: HostRuntime) -> Result<(), Fail> {
+    let alloc = rt.alloc();
+    let mut frontier = Frontier::new(alloc);
+    let two = Group {
+        members: Items::from_vec(vec![in alloc; InstId(0), InstId(1)]?),
+        deps: Items::new(alloc),
+    };
+    frontier.emit(&[two])?;
+    assert!(rt; are_told(&frontier, &[0, 1]));
+    Ok(())
+}

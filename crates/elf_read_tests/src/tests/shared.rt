@@ -1,5 +1,5 @@
 //! Objects whose names share bytes.
-use elf_read::{ElfError, ElfObject, read_object};
+use elf_read::{ElfError, ElfObject, Name, NameTable, read_object};
 use std::alloc::{AllocError, Global};
 use std::test::Fail;
 
@@ -156,5 +156,40 @@ fn refuses_a_name_that_is_too_long_or_has_no_end(rt: HostRuntime) -> Result<(), 
     assert_eq!(rt; long.err(), Some(ElfError::BadSymbol(2)));
     let past = with_symbols(rt.alloc(), &[201, 202], 200)?;
     assert_eq!(rt; past.err(), Some(ElfError::BadSymbol(2)));
+    Ok(())
+}
+
+#[test]
+fn memory_is_enough_for_any_number_of_sections(rt: HostRuntime) -> Result<(), Fail> {
+    for count in [0, 1, 2] {
+        for len in [0, 1, 8] {
+            let object = with_sections(rt.alloc(), count, len)?;
+            assert_eq!(rt; object.sections.as_slice().len(), count as usize);
+            assert_eq!(rt; object.symbols.as_slice().len(), 1);
+        }
+    }
+    Ok(())
+}
+
+#[test]
+fn memory_is_enough_for_any_number_of_symbols(rt: HostRuntime) -> Result<(), Fail> {
+    let none = with_symbols(rt.alloc(), &[], 1)??;
+    assert_eq!(rt; none.symbols.as_slice().len(), 1);
+    let one = with_symbols(rt.alloc(), &[1], 1)??;
+    assert_eq!(rt; one.symbols.as_slice().len(), 2);
+    let two = with_symbols(rt.alloc(), &[0, 1], 1)??;
+    assert_eq!(rt; two.symbols.as_slice().len(), 3);
+    Ok(())
+}
+
+#[test]
+fn memory_is_enough_for_each_name(rt: HostRuntime) -> Result<(), Fail> {
+    let alloc = rt.alloc();
+    assert!(rt; Name::copy_of(alloc, b"")?.is_empty());
+    assert_eq!(rt; Name::copy_of(alloc, b"f")?.as_slice(), b"f".as_slice());
+    let table = NameTable::copy_of(alloc, b"main")?;
+    assert!(rt; table.name(0, 0)?.is_empty());
+    assert_eq!(rt; table.name(1, 1)?.as_slice(), b"a".as_slice());
+    assert_eq!(rt; table.name(1, 3)?.as_slice(), b"ain".as_slice());
     Ok(())
 }
