@@ -40,3 +40,23 @@ fn what_is_read_is_written(rt: HostRuntime) -> Result<(), Fail> {
     assert_eq!(rt; written.as_slice(), HELLO.as_slice());
     Ok(())
 }
+
+/// An object of no section but the table of their names, as the format has it.
+const NOTHING: [u8; 200] = [
+    127, 69, 76, 70, 2, 1, 1, 0, 0, 0, 0, 0, 0, 0, 0, 0, 1, 0, 243, 0, 1, 0, 0, 0, 0, 0, 0, 0, 0,
+    0, 0, 0, 0, 0, 0, 0, 0, 0, 0, 0, 72, 0, 0, 0, 0, 0, 0, 0, 0, 0, 0, 0, 64, 0, 0, 0, 0, 0, 64, 0,
+    2, 0, 1, 0, 0, 0, 0, 0, 0, 0, 0, 0, 0, 0, 0, 0, 0, 0, 0, 0, 0, 0, 0, 0, 0, 0, 0, 0, 0, 0, 0, 0,
+    0, 0, 0, 0, 0, 0, 0, 0, 0, 0, 0, 0, 0, 0, 0, 0, 0, 0, 0, 0, 0, 0, 0, 0, 0, 0, 0, 0, 0, 0, 0, 0,
+    0, 0, 0, 0, 0, 0, 0, 0, 0, 0, 0, 0, 0, 0, 0, 0, 3, 0, 0, 0, 0, 0, 0, 0, 0, 0, 0, 0, 0, 0, 0, 0,
+    0, 0, 0, 0, 64, 0, 0, 0, 0, 0, 0, 0, 1, 0, 0, 0, 0, 0, 0, 0, 0, 0, 0, 0, 0, 0, 0, 0, 1, 0, 0,
+    0, 0, 0, 0, 0, 0, 0, 0, 0, 0, 0, 0, 0,
+];
+
+#[test]
+fn memory_is_enough_for_the_file_of_nothing(rt: HostRuntime) -> Result<(), Fail> {
+    let object = read_object(rt.alloc(), &NOTHING)?;
+    let written = write_object(rt.alloc(), &object)?;
+    let again = read_object(rt.alloc(), written.as_slice())?;
+    assert!(rt; again.sections.as_slice().is_empty());
+    Ok(())
+}

@@ -234,3 +234,49 @@ fn each_dylib_has_its_own_names(rt: HostRuntime) {
     dylibs.drop_rows(DylibId(1), &[(F, InstId(5))]);
     assert!(rt; dylibs.row(DylibId(1), F).is_none());
 }
+
+#[test]
+fn memory_is_enough_for_each_link_order(rt: HostRuntime) {
+    let mut dylibs = Dylibs::new(rt.alloc());
+    dylibs.make(F).expect(&rt, "made");
+    dylibs.make(G).expect(&rt, "made");
+    let all = OrderItem {
+        dylib: DylibId(1),
+        scope: Scope::All,
+    };
+    let exported = OrderItem {
+        dylib: DylibId(1),
+        scope: Scope::Exported,
+    };
+    dylibs.set_order(DylibId(0), &[]).expect(&rt, "none");
+    assert!(rt; begins_with(dylibs.order(DylibId(0)), 0, 1));
+    dylibs.set_order(DylibId(0), &[all]).expect(&rt, "all");
+    assert!(rt; begins_with(dylibs.order(DylibId(0)), 0, 2));
+    dylibs
+        .set_order(DylibId(0), &[exported])
+        .expect(&rt, "exported");
+    assert!(rt; begins_with(dylibs.order(DylibId(0)), 0, 2));
+    dylibs
+        .set_order(DylibId(0), &[exported, all])
+        .expect(&rt, "both");
+    assert!(rt; begins_with(dylibs.order(DylibId(0)), 0, 3));
+}
+
+#[test]
+fn memory_is_enough_for_a_definition_of_any_number_of_names(rt: HostRuntime) {
+    let mut dylibs = Dylibs::new(rt.alloc());
+    dylibs.make(F).expect(&rt, "made");
+    let none = dylibs
+        .define(DylibId(0), &[], InstId(0), &[])
+        .expect(&rt, "none");
+    assert!(rt; none.live.is_empty());
+    assert!(rt; none.replaced.is_empty());
+    let one = dylibs
+        .define(DylibId(0), &[(F, COMMON)], InstId(0), &[])
+        .expect(&rt, "one");
+    assert!(rt; matches!(one.live.as_slice(), [true]));
+    let two = dylibs
+        .define(DylibId(0), &[(G, WEAK), (H, STRONG)], InstId(1), &[])
+        .expect(&rt, "two");
+    assert!(rt; matches!(two.live.as_slice(), [true, true]));
+}

@@ -167,3 +167,67 @@ fn a_lookup_of_a_failed_instance_fails(rt: HostRuntime) {
     assert_eq!(rt; book.next_unit(), Some(UnitId(3)));
     end(&rt, book);
 }
+
+/// A book with one open lookup of these matches.
+fn book_of(
+    rt: &impl Abort,
+    alloc: Global,
+    matched: &[Option<InstId>],
+    level: Level,
+    unit: Option<u32>,
+) -> Book<Note>
+    ensures { IsCurrent (stand_of false false) result }
+{
+    let mut book = Book::new(alloc);
+    let query = Query {
+        asked: 4,
+        matched: Items::from_vec(matched.to_vec(alloc).expect(rt, "memory")),
+        level,
+        unit,
+        note: None,
+    };
+    let waits = First {
+        failed: false,
+        ready: false,
+    };
+    let mut then = None;
+    book.lodge(query, &waits, &mut then).expect(rt, "memory");
+    assert!(rt; !give_up(then));
+    book
+}
+
+/// With how many matches the lookup is found once the first instance is ready.
+fn found_count(
+    rt: &impl Abort,
+    alloc: Global,
+    matched: &[Option<InstId>],
+    level: Level,
+    unit: Option<u32>,
+) -> Option<usize> {
+    let mut book = book_of(rt, alloc, matched, level, unit);
+    let ready = First {
+        failed: false,
+        ready: true,
+    };
+    settle(&mut book, &ready).fire_all(&mut FiredList::new());
+    let found = match book.collect(QueryId(0)) {
+        Ok(Collected::Found(_, found)) => Some(found.len()),
+        _ => None,
+    };
+    end(rt, book);
+    found
+}
+
+#[test]
+fn memory_is_enough_for_each_lookup(rt: HostRuntime) {
+    let alloc = rt.alloc();
+    let many = [Some(InstId(0)), None, Some(InstId(0))];
+    for level in [Level::Resolved, Level::Ready] {
+        for unit in [None, Some(3)] {
+            assert_eq!(rt; found_count(&rt, alloc, &[], level, unit), Some(0));
+            assert_eq!(rt; found_count(&rt, alloc, &[None], level, unit), Some(1));
+            assert_eq!(rt; found_count(&rt, alloc, &many[..1], level, unit), Some(1));
+            assert_eq!(rt; found_count(&rt, alloc, &many, level, unit), Some(3));
+        }
+    }
+}
