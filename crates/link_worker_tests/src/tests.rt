@@ -4,6 +4,7 @@ ghost use Rattle.std.specs.Prelude.{◌≡◌, None};
 ghost use Rattle.turn_lock.specs.Handles.{view, turn_id, IsReady};
 ghost use Rattle.link_worker.specs.Works.{IsFree};
 
+mod items;
 mod objects;
 mod units;
 
