@@ -229,3 +229,91 @@ fn an_alias(rt: HostRuntime) -> Result<(), Fail> {
     assert_eq!(rt; group.deps.as_slice(), [InstId(0)].as_slice());
     Ok(())
 }
+
+/// What an emit of absolute symbols hands in: no bytes, and one group of the names that are live, if there
+/// is one, which depends on nothing.
+fn hands_in_live_ones(
+    alloc: Global,
+    unit: &ObjectUnit,
+    live: &[bool],
+    own: &[InstId],
+) -> Result<bool, Fail> {
+    let Ok((groups, bytes)) = finished(alloc, unit, live, &[], own)? else {
+        return Err(Fail::from("refused"));
+    };
+    let are_right = match groups.as_slice() {
+        [] => own.is_empty(),
+        [group] => group.members.as_slice() == own && group.deps.is_empty(),
+        _ => false,
+    };
+    Ok(are_right && bytes.is_empty() && unit.stands_alone(alloc, live)?)
+}
+
+#[test]
+fn memory_is_enough_for_any_number_of_absolute_symbols(rt: HostRuntime) -> Result<(), Fail> {
+    let alloc = rt.alloc();
+    let name = UnitName::Absolute(0);
+    let none = ObjectUnit::of_absolutes(alloc, name, &[])?;
+    assert!(rt; hands_in_live_ones(alloc, &none, &[], &[])?);
+    let one = ObjectUnit::of_absolutes(alloc, name, &[(NameId(5), 64)])?;
+    assert_eq!(rt; one.share(alloc)?.count(), 1);
+    assert!(rt; hands_in_live_ones(alloc, &one, &[false], &[])?);
+    assert!(rt; hands_in_live_ones(alloc, &one, &[true], &[InstId(3)])?);
+    let two = ObjectUnit::of_absolutes(alloc, name, &[(NameId(5), 64), (NameId(6), 0)])?;
+    assert_eq!(rt; two.share(alloc)?.count(), 2);
+    assert!(rt; hands_in_live_ones(alloc, &two, &[false, true], &[InstId(4)])?);
+    assert!(rt; hands_in_live_ones(alloc, &two, &[true, true], &[InstId(3), InstId(4)])?);
+    Ok(())
+}
+
+/// An object of no section but the table of their names, as the format has it.
+const NOTHING: [u8; 200] = [
+    127, 69, 76, 70, 2, 1, 1, 0, 0, 0, 0, 0, 0, 0, 0, 0, 1, 0, 243, 0, 1, 0, 0, 0, 0, 0, 0, 0, 0,
+    0, 0, 0, 0, 0, 0, 0, 0, 0, 0, 0, 72, 0, 0, 0, 0, 0, 0, 0, 0, 0, 0, 0, 64, 0, 0, 0, 0, 0, 64, 0,
+    2, 0, 1, 0, 0, 0, 0, 0, 0, 0, 0, 0, 0, 0, 0, 0, 0, 0, 0, 0, 0, 0, 0, 0, 0, 0, 0, 0, 0, 0, 0, 0,
+    0, 0, 0, 0, 0, 0, 0, 0, 0, 0, 0, 0, 0, 0, 0, 0, 0, 0, 0, 0, 0, 0, 0, 0, 0, 0, 0, 0, 0, 0, 0, 0,
+    0, 0, 0, 0, 0, 0, 0, 0, 0, 0, 0, 0, 0, 0, 0, 0, 3, 0, 0, 0, 0, 0, 0, 0, 0, 0, 0, 0, 0, 0, 0, 0,
+    0, 0, 0, 0, 64, 0, 0, 0, 0, 0, 0, 0, 1, 0, 0, 0, 0, 0, 0, 0, 0, 0, 0, 0, 0, 0, 0, 0, 1, 0, 0,
+    0, 0, 0, 0, 0, 0, 0, 0, 0, 0, 0, 0, 0,
+];
+
+/// A unit's range has sixteen bytes at least.
+#[test]
+fn memory_is_enough_for_the_unit_of_nothing(rt: HostRuntime) -> Result<(), Fail> {
+    let alloc = rt.alloc();
+    let unit = unit_of(alloc, NOTHING.as_slice())?;
+    assert_eq!(rt; unit.share(alloc)?.count(), 0);
+    assert!(rt; unit.stands_alone(alloc, &[])?);
+    let Ok((groups, image)) = finished(alloc, &unit, &[], &[], &[])? else {
+        return Err(Fail::from("refused"));
+    };
+    assert!(rt; groups.is_empty());
+    assert_eq!(rt; image.as_slice(), [0; 16].as_slice());
+    Ok(())
+}
+
+/// The image is made, and the groups, whichever of the names are live.
+#[test]
+fn memory_is_enough_for_each_choice_of_names(rt: HostRuntime) -> Result<(), Fail> {
+    let alloc = rt.alloc();
+    let unit = unit_of(alloc, TWO.as_slice())?;
+    let bound = [Some((InstId(2), 0x1000_0040))];
+    assert!(rt; finished(alloc, &unit, &[true, false], &bound, &[InstId(0)])?.is_ok());
+    assert!(rt; !unit.stands_alone(alloc, &[true, false])?);
+    Ok(())
+}
+
+/// An alias depends on nothing where its target is bound to nothing.
+#[test]
+fn memory_is_enough_for_an_alias(rt: HostRuntime) -> Result<(), Fail> {
+    let alloc = rt.alloc();
+    let unit = ObjectUnit::of_alias(UnitName::Alias(0), NameId(5), DylibId(1), NameId(6));
+    assert_eq!(rt; unit.share(alloc)?.count(), 1);
+    assert!(rt; !unit.stands_alone(alloc, &[true])?);
+    let Ok((groups, bytes)) = finished(alloc, &unit, &[true], &[None], &[InstId(1)])? else {
+        return Err(Fail::from("refused"));
+    };
+    assert_eq!(rt; groups.len(), 1);
+    assert!(rt; bytes.is_empty());
+    Ok(())
+}
