@@ -2,6 +2,7 @@
 
 ghost use Rattle.turn_lock.specs.Handles.{turn_id, IsReady};
 
+mod items;
 mod units;
 
 use execution_session::{Asked, Session, Told};
