@@ -291,3 +291,27 @@ fn refuses_relocations_of_deleted_bytes(rt: HostRuntime) -> Result<(), Fail> {
     assert_eq!(rt; graph.edges.as_slice().get(1).map(|e| e.offset), Some(12));
     Ok(())
 }
+
+/// An object of no section but the table of their names, as the format has it.
+const NOTHING: [u8; 200] = [
+    127, 69, 76, 70, 2, 1, 1, 0, 0, 0, 0, 0, 0, 0, 0, 0, 1, 0, 243, 0, 1, 0, 0, 0, 0, 0, 0, 0, 0,
+    0, 0, 0, 0, 0, 0, 0, 0, 0, 0, 0, 72, 0, 0, 0, 0, 0, 0, 0, 0, 0, 0, 0, 64, 0, 0, 0, 0, 0, 64, 0,
+    2, 0, 1, 0, 0, 0, 0, 0, 0, 0, 0, 0, 0, 0, 0, 0, 0, 0, 0, 0, 0, 0, 0, 0, 0, 0, 0, 0, 0, 0, 0, 0,
+    0, 0, 0, 0, 0, 0, 0, 0, 0, 0, 0, 0, 0, 0, 0, 0, 0, 0, 0, 0, 0, 0, 0, 0, 0, 0, 0, 0, 0, 0, 0, 0,
+    0, 0, 0, 0, 0, 0, 0, 0, 0, 0, 0, 0, 0, 0, 0, 0, 3, 0, 0, 0, 0, 0, 0, 0, 0, 0, 0, 0, 0, 0, 0, 0,
+    0, 0, 0, 0, 64, 0, 0, 0, 0, 0, 0, 0, 1, 0, 0, 0, 0, 0, 0, 0, 0, 0, 0, 0, 0, 0, 0, 0, 1, 0, 0,
+    0, 0, 0, 0, 0, 0, 0, 0, 0, 0, 0, 0, 0,
+];
+
+#[test]
+fn memory_is_enough_for_the_graph_of_nothing(rt: HostRuntime) -> Result<(), Fail> {
+    let alloc = rt.alloc();
+    let mut names = Names::new(alloc);
+    let graph = answer(alloc, &NOTHING, &[], &mut names)??;
+    assert!(rt; graph.blocks.as_slice().is_empty());
+    assert!(rt; graph.edges.as_slice().is_empty());
+    assert_eq!(rt; graph.symbols.as_slice().len(), 1);
+    assert_eq!(rt; graph.symbols.as_slice()[0].place, GPlace::Abs(0));
+    assert!(rt; names.is_empty());
+    Ok(())
+}

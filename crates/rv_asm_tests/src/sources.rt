@@ -1,6 +1,7 @@
 use elf_read::{ElfObject, Reloc, SymPlace};
 use elf_write::write_object;
 use rv_asm::assemble;
+use std::alloc::Global;
 use std::test::Fail;
 
 /// What an assembler makes of `examples/hello.s`.
@@ -153,5 +154,34 @@ fn padding_left_to_the_linker(rt: HostRuntime) -> Result<(), Fail> {
         },
     ];
     assert_eq!(rt; relocs_of(&object), relocs.as_slice());
+    Ok(())
+}
+
+/// How many sections and symbols the object of a text has.
+fn counts(alloc: Global, text: &str) -> Result<(usize, usize), Fail> {
+    let object = assemble(alloc, text.as_bytes())?;
+    Ok((
+        object.sections.as_slice().len(),
+        object.symbols.as_slice().len(),
+    ))
+}
+
+#[test]
+fn memory_is_enough_for_any_number_of_lines(rt: HostRuntime) -> Result<(), Fail> {
+    let alloc = rt.alloc();
+    assert_eq!(rt; counts(alloc, "")?, (0, 1));
+    assert_eq!(rt; counts(alloc, "# nothing")?, (0, 1));
+    assert_eq!(rt; counts(alloc, "nop")?, (1, 1));
+    assert_eq!(rt;
+        counts(alloc, "main: nop\n\nmain2: ret\n.data\n.byte 1\n")?,
+        (2, 3)
+    );
+    assert_eq!(rt;
+        counts(
+            alloc,
+            ".data\nx: .ascii \"\"\n.zero 0\n.byte 1\n.word 1, 2, 3\n"
+        )?,
+        (1, 2)
+    );
     Ok(())
 }
