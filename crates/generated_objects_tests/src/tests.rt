@@ -81,3 +81,17 @@ fn the_graph_is_that_of_the_object_read(rt: HostRuntime) -> Result<(), Fail> {
     assert_eq!(rt; names.len(), 12);
     Ok(())
 }
+
+/// The last ring of each number of functions has one of seven lengths.
+#[test]
+fn memory_is_enough_for_any_number_of_functions(rt: HostRuntime) -> Result<(), Fail> {
+    for n in 1..9 {
+        for k in 0..n {
+            let object = object_of(rt.alloc(), n, k)?;
+            assert_eq!(rt; object.sections.as_slice().len(), 1);
+            let graph = graph_of_function(rt.alloc(), n, k)?;
+            assert_eq!(rt; graph.blocks.as_slice().len(), 1);
+        }
+    }
+    Ok(())
+}

@@ -157,3 +157,12 @@ fn one_attached_after_all_are_spent_is_offered(rt: HostRuntime) {
     assert_eq!(rt; generators.offered(MAIN, F, Scope::All), Some(second));
     offers_as_the_session::<One>();
 }
+
+#[test]
+fn memory_is_enough_for_the_room_of_any_number_of_names(rt: HostRuntime) {
+    let mut generators = Generators::<One>::new(rt.alloc());
+    for count in [0, 1, 2, 65_537] {
+        assert!(rt; generators.room(count).is_ok());
+    }
+    assert_eq!(rt; generators.len(), 0);
+}

@@ -4,7 +4,7 @@ use orc_ids::{Bytes, End, Outcome, QueryId};
 use orc_io::{
     FILE_LIMIT, Failed, FileError, Files, FolderFiles, Gate, MemFiles, MemSink, MemSource, Note,
     Notify, OpenGate, ReadError, SCRIPT_LIMIT, Sink, Source, StdSink, StdSource, SureFiles,
-    SureSink, SureSource, read_source, write_all,
+    SureSink, SureSource, read_expected, read_source, write_all,
 };
 use std::fs;
 use std::test::Fail;
@@ -168,5 +168,50 @@ fn real_files_and_streams(rt: HostRuntime) -> Result<(), Fail> {
         write_all(&mut StdSink::new(rt.stderr()), b"to standard error\n"),
         Ok(())
     );
+    Ok(())
+}
+
+/// What a source gives that holds so many bytes, read by a limit of two and, where one is said, by that
+/// number of bytes that are expected.
+fn read_some(rt: &HostRuntime, count: usize, expected: Option<usize>) -> Result<usize, Fail> {
+    let mut source = SureSource::new(bytes_of(rt, &b"ab"[..count.min(2)])?);
+    let read = match expected {
+        None => read_source(rt.alloc(), &mut source, 2),
+        Some(expected) => read_expected(rt.alloc(), &mut source, 2, expected),
+    };
+    match read {
+        Ok(bytes) => Ok(bytes.len()),
+        Err(_) => Err(Fail::from("not read")),
+    }
+}
+
+#[test]
+fn memory_is_enough_for_any_number_of_bytes(rt: HostRuntime) -> Result<(), Fail> {
+    for count in 0..3 {
+        assert_eq!(rt; read_some(&rt, count, None)?, count);
+        for expected in 0..4 {
+            assert_eq!(rt; read_some(&rt, count, Some(expected))?, count);
+        }
+    }
+    Ok(())
+}
+
+#[test]
+fn memory_is_enough_for_any_number_of_files_and_failures(rt: HostRuntime) -> Result<(), Fail> {
+    let alloc = rt.alloc();
+    let mut files = MemFiles::new(alloc, Vec::new(alloc));
+    for (name, text) in [
+        ("", b"".as_slice()),
+        ("a", b"a".as_slice()),
+        ("b.o", b"several".as_slice()),
+    ] {
+        files.put(alloc, name, bytes_of(&rt, text)?)?;
+        assert_eq!(rt; read_through(&rt, &mut files, name)?.as_slice(), text);
+    }
+    for failing in [vec![in alloc; 1]?, vec![in alloc; 1, 2]?] {
+        let mut sink = MemSink::new(alloc, failing, 0)?;
+        assert_eq!(rt; sink.write(b""), Ok(0));
+        assert!(rt; sink.bytes().is_empty());
+    }
     Ok(())
 }

@@ -58,3 +58,29 @@ fn no_more_trackers_than_the_limit(rt: HostRuntime) {
     }
     assert!(rt; matches!(trackers.make(DylibId(0)), Err(TrackError::TooMany)));
 }
+
+#[test]
+fn memory_is_enough_for_trackers_of_nothing(rt: HostRuntime) {
+    let mut trackers = Trackers::new(rt.alloc());
+    assert!(rt; matches!(trackers.make(DylibId(0)), Ok(TrackId(0))));
+    assert!(rt; matches!(trackers.make(DylibId(0)), Ok(TrackId(1))));
+    assert!(rt; matches!(trackers.make(DylibId(0)), Ok(TrackId(2))));
+    trackers.merge(TrackId(0), TrackId(1)).expect(&rt, "memory");
+    trackers
+        .add_generator(TrackId(1), GenId(0))
+        .expect(&rt, "memory");
+    trackers.merge(TrackId(2), TrackId(1)).expect(&rt, "memory");
+    assert!(rt; matches!(trackers.owned(TrackId(1)), Some(owned) if owned.generators.len() == 1));
+}
+
+#[test]
+fn memory_is_enough_for_a_tracker_that_has_nothing_yet(rt: HostRuntime) {
+    let mut trackers = Trackers::new(rt.alloc());
+    assert!(rt; matches!(trackers.make(DylibId(0)), Ok(TrackId(0))));
+    assert!(rt; matches!(trackers.make(DylibId(0)), Ok(TrackId(1))));
+    trackers
+        .add_generator(TrackId(0), GenId(0))
+        .expect(&rt, "memory");
+    trackers.merge(TrackId(0), TrackId(1)).expect(&rt, "memory");
+    assert!(rt; matches!(trackers.owned(TrackId(1)), Some(owned) if owned.generators.len() == 1));
+}
