@@ -84,22 +84,20 @@ def main():
         refusals = Refusals(orc, folder)
         for words, text in CALLS:
             ends = Counter()
-            ample, _ = refusals.call(words, text)
-            at, made = 0, 1
-            while at < made:
+            ample, made = refusals.call(words, text)
+            for at in range(made):
                 for last in (at, ALL):
-                    told, made = refusals.call(words, text, REFUSED_FROM=at, REFUSED_TO=last)
+                    told, _ = refusals.call(words, text, REFUSED_FROM=at, REFUSED_TO=last)
                     kind = "no memory" if wants_memory(words, told) else "as with ample memory" if summary(words, told) == summary(words, ample) else "otherwise"
                     ends[kind] += 1
                     if kind == "otherwise":
                         wrong += 1
                         print(f"{words}, request {at}{'' if last == at else ' and all after it'}: {told}")
-                at += 1
             told, _ = refusals.call(words, text, REFUSED_THREADS=1)
             if summary(words, told) != summary(words, ample):
                 wrong += 1
                 print(f"{words}, without threads: {told}")
-            print(f"{' '.join(words) or 'no words'}: {at} requests; {dict(ends)}", flush=True)
+            print(f"{' '.join(words) or 'no words'}: {made} requests; {dict(ends)}", flush=True)
     return 1 if wrong else 0
 
 
