@@ -1,7 +1,7 @@
 //! The emissions of a run, and what is told and hit.
 
 ghost use Rattle.std.specs.Prelude.{◌≡◌, ◌<◌, ◌≤◌, ◌∷◌, [], ℕ, IfOk, OnOk};
-ghost use Rattle.dep_groups.specs.Frontier.{Absent, entry_at};
+ghost use Rattle.dep_groups.specs.Frontier.{Absent, AreAbsent, AreApart, AreEmitted, entry_at};
 ghost use Rattle.frontier_lab.specs.Entries.{OthersStay};
 
 use crate::shapes::{Shape, deps_of};
@@ -51,6 +51,19 @@ fn group_of(alloc: Global, shape: Shape, member: InstId, count: u32) -> Result<G
     })
 }
 
+/// Emits groups; once more where memory was wanting, since that left all as it was.
+fn emit(frontier: &mut Frontier, groups: &[Group]) -> Result<(), AllocError>
+    requires apart { AreApart groups.now }
+    requires absent { AreAbsent frontier.old.entries groups.now }
+    ensures emitted { OnOk result (AreEmitted groups.now frontier.old.entries frontier.new.entries) }
+    ensures places { frontier.old.places ≤ frontier.new.places }
+{
+    match frontier.emit(groups) {
+        Ok(()) => Ok(()),
+        Err(AllocError) => frontier.emit(groups),
+    }
+}
+
 /// Emits one instance; how many were told.
 fn emit_one(
     alloc: Global,
@@ -64,7 +77,7 @@ fn emit_one(
     ensures places { frontier.old.places ≤ frontier.new.places }
 {
     let group = group_of(alloc, shape, member, count)?;
-    frontier.emit(&[group])?;
+    emit(frontier, &[group])?;
     Ok(frontier.told().len())
 }
 

@@ -4,7 +4,7 @@
 //! depends on in the shape of that name (`shapes`): from the first on where ORDER is `up`, from the last on where it is
 //! `down`. It prints how many were told that they are ready, and how many are ready at the end. `frontier_lab SHAPE fail N`
 //! emits all but the last, lets that fail, and prints how many were told and how many were hit. Run it by `time`, at N and
-//! at 2 N.
+//! at 2 N. An emission that wants memory and doesn't get it is made once more.
 #![tactic(auto)]
 
 mod emissions;

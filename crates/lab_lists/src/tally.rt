@@ -13,6 +13,8 @@ pub enum Outcome {
     Same,
     /// It was refused, as by the lists.
     Refused,
+    /// It wanted memory and didn't get it.
+    NoMemory,
     /// It was answered otherwise.
     Differs,
     /// It wasn't made, since its condition doesn't hold.
@@ -39,6 +41,7 @@ pub struct Tally {
     pub calls: u64,
     pub refused: u64,
     pub passed_over: u64,
+    pub no_memory: u64,
     pub differ: u64,
 }
 
@@ -52,6 +55,7 @@ impl Tally {
             calls: 0,
             refused: 0,
             passed_over: 0,
+            no_memory: 0,
             differ: 0,
         }
     }
@@ -72,6 +76,7 @@ impl Tally {
             Outcome::Refused => self.refused = self.refused.wrapping_add(1),
             Outcome::Differs => self.differ = self.differ.wrapping_add(1),
             Outcome::PassedOver => self.passed_over = self.passed_over.wrapping_add(1),
+            Outcome::NoMemory => self.no_memory = self.no_memory.wrapping_add(1),
         }
     }
 
@@ -85,8 +90,14 @@ impl Tally {
     /// Writes the line of the part.
     pub fn print(&self, rt: &impl Print, part: &str) -> io::Result<()> {
         println!(rt;
-            "{} {} lists: {} calls answered, {} refused, {} passed over, {} differ",
-            part, self.lists, self.calls, self.refused, self.passed_over, self.differ
+            "{} {} lists: {} calls answered, {} refused, {} passed over, {} without memory, {} differ",
+            part,
+            self.lists,
+            self.calls,
+            self.refused,
+            self.passed_over,
+            self.no_memory,
+            self.differ
         )
     }
 }

@@ -1,9 +1,10 @@
 //! A laboratory for the queries of a session: random lists of lookups beside plain lists.
 //!
 //! `lookup_lab SEED COUNT` makes COUNT lists of calls of a query book (`queries`), over instances that come to their
-//! stages one by one (`stages`). After each call all that can be asked of the book is compared with a plain list,
-//! whose queries are all looked at. It prints how many calls were answered as by the list, how many were refused as by
-//! it, how many weren't made since their conditions don't hold, and after how many something differed.
+//! stages one by one (`stages`). After each call all that can be asked of the book is compared with a plain list, whose
+//! queries are all looked at. It prints how many calls were answered as by the list, how many were refused as by it,
+//! how many weren't made since their conditions don't hold, how many wanted memory and didn't get it, and after how
+//! many something differed.
 #![tactic(auto)]
 
 mod queries;

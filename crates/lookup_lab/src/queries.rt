@@ -148,6 +148,11 @@ impl PlainBook {
         Ok(query)
     }
 
+    /// The last query wasn't lodged.
+    fn take_back(&mut self) {
+        self.queries.pop();
+    }
+
     /// The end of the query of this number, if it is open and its end is decided.
     fn end_of(
         &self,
@@ -372,7 +377,10 @@ fn ask(
     // for its law
     current_is_told::<Note>();
     let query = plain.ask(alloc, random)?;
-    lodge(book, stages, alloc, query)?;
+    if lodge(book, stages, alloc, query).is_err() {
+        plain.take_back();
+        return Ok(Outcome::NoMemory);
+    }
     settle_both(book, stages, alloc, &[], plain)
 }
 

@@ -213,7 +213,9 @@ impl Pair {
             return Ok(Outcome::PassedOver);
         }
         let d = DylibId(self.dylibs.len() as u32);
-        self.dylibs.make(NameId(name))?;
+        if self.dylibs.make(NameId(name)).is_err() {
+            return Ok(Outcome::NoMemory);
+        }
         self.plain.names.push(name)?;
         let order = vec![in alloc; itself(d)]?;
         self.plain.orders.push(order)?;
@@ -229,7 +231,9 @@ impl Pair {
         if !self.dylibs.has(d) {
             return Ok(Outcome::PassedOver);
         }
-        self.dylibs.set_order(d, &[item])?;
+        if self.dylibs.set_order(d, &[item]).is_err() {
+            return Ok(Outcome::NoMemory);
+        }
         let order = vec![in alloc; itself(d), item]?;
         if let Some(old) = self.plain.orders.get_mut(d.0 as usize) {
             *old = order;
@@ -253,6 +257,9 @@ impl Pair {
         }
         let first = InstId(count as u32);
         let answer = self.dylibs.define(d, &offers, first, &self.plain.rows);
+        if matches!(answer, Err(DefineError::NoMemory)) {
+            return Ok(Outcome::NoMemory);
+        }
         let expected = self.plain.define(alloc, d.0, &offers)?;
         Ok(outcome_of(&answer, &expected))
     }
@@ -384,7 +391,8 @@ pub fn play(alloc: Global, random: &mut Random, tally: &mut Tally) -> Result<(),
         dylibs: Dylibs::new(alloc),
         plain: PlainDylibs::new(alloc),
     };
-    pair.make(alloc, 0)?;
+    let outcome = pair.make(alloc, 0)?;
+    tally.judge(outcome, pair.is_same());
     for _ in 0..60 {
         search(random, &mut pair);
         let outcome = make_call(alloc, random, &mut pair)?;

@@ -1,10 +1,10 @@
 //! A laboratory for the names of dylibs: random lists of calls beside plain lists, and what definitions cost, in
 //! proportion.
 //!
-//! `names_lab SEED COUNT` makes COUNT lists of calls of dylibs (`dylibs`). After each call all that can be asked of them
-//! is compared with plain lists, which are gone through from the first. It prints how many calls were answered as by
-//! the lists, how many were refused as by them, how many weren't made since their conditions don't hold, and after how
-//! many something differed.
+//! `names_lab SEED COUNT` makes COUNT lists of calls of dylibs (`dylibs`). After each call all that can be asked of
+//! them is compared with plain lists, which are gone through from the first. It prints how many calls were answered as
+//! by the lists, how many were refused as by them, how many weren't made since their conditions don't hold, how many
+//! wanted memory and didn't get it, and after how many something differed.
 //!
 //! `names_lab names N` defines N names four times, drops half of them, and prints what became of them (`names`). Run it
 //! by `time`, at N and at 2 N.

@@ -76,9 +76,11 @@ impl Pair {
             return Ok(Outcome::PassedOver);
         }
         let number = self.plain.len();
-        self.plain
-            .push(PlainGenerator::new(d.0, offers_of(alloc, &unit)?))?;
-        self.generators.room(unit.count())?;
+        let offers = offers_of(alloc, &unit)?;
+        if self.generators.room(unit.count()).is_err() {
+            return Ok(Outcome::NoMemory);
+        }
+        self.plain.push(PlainGenerator::new(d.0, offers))?;
         let g = self.generators.attach(d, unit);
         Ok(Outcome::of(g.0 as usize == number))
     }

@@ -3,7 +3,8 @@
 //! `orders_lab SEED COUNT` makes COUNT lists of calls of generators (`generators`), and as many of searches in random
 //! orders (`orders`). After each call all that can be asked of the part is compared with plain lists, which are gone
 //! through from the first. For each part it prints how many calls were answered as by the lists, how many were refused
-//! as by them, how many weren't made since their conditions don't hold, and after how many something differed.
+//! as by them, how many weren't made since their conditions don't hold, how many wanted memory and didn't get it, and
+//! after how many something differed.
 #![tactic(auto)]
 
 mod generators;

@@ -251,6 +251,7 @@ impl PlainSession {
             (Ok(matched), None) => {
                 Outcome::of(self.are_matches(order, wanted, matched.as_slice()))
             }
+            (Err(MatchError::NoMemory), _) => Outcome::NoMemory,
             (Err(e), Some(refusal)) if *e == *refusal => Outcome::Refused,
             _ => Outcome::Differs,
         }

@@ -3,8 +3,8 @@
 //!
 //! `trackers_lab SEED COUNT` makes COUNT lists of calls of trackers (`trackers`). After each call all that can be asked
 //! of them is compared with plain lists, which are gone through from the first. It prints how many calls were answered
-//! as by the lists, how many were refused as by them, how many weren't made since their conditions don't hold, and
-//! after how many something differed.
+//! as by the lists, how many were refused as by them, how many weren't made since their conditions don't hold, how many
+//! wanted memory and didn't get it, and after how many something differed.
 //!
 //! `trackers_lab merges N` merges N trackers with a unit and a generator each, and prints what was done (`merges`). Run
 //! it by `time`, at N and at 2 N.

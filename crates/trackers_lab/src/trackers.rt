@@ -150,7 +150,7 @@ impl Pair {
                 Ok(Outcome::of(t.0 as usize == number))
             }
             Err(TrackError::TooMany) => Ok(Outcome::Differs),
-            Err(TrackError::NoMemory) => Err(AllocError),
+            Err(TrackError::NoMemory) => Ok(Outcome::NoMemory),
         }
     }
 
@@ -158,7 +158,9 @@ impl Pair {
         if self.trackers.dylib(t).is_none() {
             return Ok(Outcome::PassedOver);
         }
-        self.trackers.room(t)?;
+        if self.trackers.room(t).is_err() {
+            return Ok(Outcome::NoMemory);
+        }
         self.trackers.add_unit(t, u);
         self.plain.add_unit(t, u)?;
         Ok(Outcome::Same)
@@ -170,7 +172,9 @@ impl Pair {
         if self.trackers.dylib(t).is_none() {
             return Ok(Outcome::PassedOver);
         }
-        self.trackers.add_generator(t, g)?;
+        if self.trackers.add_generator(t, g).is_err() {
+            return Ok(Outcome::NoMemory);
+        }
         self.plain.add_generator(t, g)?;
         Ok(Outcome::Same)
     }
@@ -179,7 +183,9 @@ impl Pair {
         if self.trackers.dylib(from).is_none() || self.trackers.dylib(to).is_none() {
             return Ok(Outcome::PassedOver);
         }
-        self.trackers.merge(from, to)?;
+        if self.trackers.merge(from, to).is_err() {
+            return Ok(Outcome::NoMemory);
+        }
         self.plain.merge(alloc, from, to)?;
         Ok(Outcome::Same)
     }

@@ -3,7 +3,7 @@
 //! `units_lab SEED COUNT` makes COUNT lists of calls of units and their jobs (`units`). After each call all that can be
 //! asked of them is compared with plain lists, which are gone through from the first. It prints how many calls were
 //! answered as by the lists, how many were refused as by them, how many weren't made since their conditions don't hold,
-//! and after how many something differed.
+//! how many wanted memory and didn't get it, and after how many something differed.
 //!
 //! `units_lab jobs N` lists and takes the jobs of N units, and prints what was done (`jobs`). Run it by `time`, at N and
 //! at 2 N.

@@ -344,7 +344,9 @@ impl Pair {
             return Ok(Outcome::PassedOver);
         }
         let live = Items::from_vec(vec![in alloc; true, true]?);
-        self.units.room()?;
+        if self.units.room().is_err() {
+            return Ok(Outcome::NoMemory);
+        }
         let u = self.units.add(unit, DylibId(dylib), live);
         self.plain.units.push(PlainUnit::new(alloc, unit, dylib)?)?;
         Ok(Outcome::of(u.0 as usize == number))
