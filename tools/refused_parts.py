@@ -21,6 +21,7 @@ from refused_memory import ALL, Refusals
 
 LISTS = ("names_lab", "orders_lab", "trackers_lab", "units_lab", "lookup_lab")
 EMISSIONS = [("random", "up"), ("random", "down"), ("rings", "down"), ("tree", "fail")]
+NO_MEMORY = b"Error: Kind(OutOfMemory)\n"
 LINE = re.compile(r"\w+ (\d+) lists: (\d+) calls answered, (\d+) refused, (\d+) passed over, (\d+) without memory, 0 differ")
 
 
@@ -60,17 +61,15 @@ def kind_of(told, ample):
 def refuse_each(refusals, words):
     """How many runs ended how, and how many requests there are."""
     ends = Counter()
-    ample, _ = refusals.call(words, "")
-    at, made = 0, 1
-    while at < made:
+    ample, made = refusals.call(words, "")
+    for at in range(made):
         for last in (at, ALL):
-            told, made = refusals.call(words, "", REFUSED_FROM=at, REFUSED_TO=last)
+            told, _ = refusals.call(words, "", REFUSED_FROM=at, REFUSED_TO=last)
             kind = kind_of(told, ample)
             ends[kind] += 1
             if kind == "otherwise":
                 print(f"{words}, request {at}{'' if last == at else ' and all after it'}: {told}")
-        at += 1
-    return at, ends
+    return made, ends
 
 
 def main():

@@ -1,7 +1,8 @@
 //! Dylibs: random definitions, lookups and removals in a few of them, beside a plain list of what is present.
 
 use jit_dylib::{DefineError, Defined, Dylibs};
-use lab_lists::{NAMES, Outcome, Random, Tally, any_unit, offers_of};
+use lab_lists::{Outcome, Random, Tally};
+use lab_units::{NAMES, any_unit, offers_of};
 use orc_ids::{DylibId, InstId, NameId, OrderItem, Scope, SymFlags, UnitId};
 use session_check::KnownUnit;
 use session_model::{InstRow, Phase, Row, UnitKind, Verdict};

@@ -1,7 +1,8 @@
 //! Generators: random units that are attached, asked for and spent, beside a plain list.
 
 use generators::{Generator, Generators};
-use lab_lists::{NAMES, Outcome, Random, Tally, any_unit, offers_of};
+use lab_lists::{Outcome, Random, Tally};
+use lab_units::{NAMES, any_unit, offers_of};
 use orc_ids::{DylibId, GENERATOR_LIMIT, GenId, NameId, Scope, SymFlags};
 use session_check::KnownUnit;
 use session_model::UnitKind;

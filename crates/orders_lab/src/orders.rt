@@ -6,7 +6,8 @@ ghost use Rattle.orders_lab.specs.Sight.{is_named};
 
 use crate::generators::{PlainGenerator, first_offer};
 use generators::{Generators, offers_as_the_session};
-use lab_lists::{NAMES, Outcome, Random, Tally, any_flags, any_unit, offers_of};
+use lab_lists::{Outcome, Random, Tally};
+use lab_units::{NAMES, any_flags, any_unit, offers_of};
 use link_order::{MatchError, match_all};
 use orc_ids::{
     DylibId, GENERATOR_LIMIT, GenId, InstId, NameId, OrderItem, Scope, SymFlags, UnitId, Wanted,

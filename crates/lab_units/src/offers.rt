@@ -2,7 +2,7 @@
 
 ghost use Rattle.std.specs.Prelude.{◌≡◌, IfOk};
 
-use crate::random::Random;
+use lab_lists::Random;
 use orc_ids::{NameId, SymFlags, UnitName};
 use session_check::KnownUnit;
 use session_model::UnitKind;
