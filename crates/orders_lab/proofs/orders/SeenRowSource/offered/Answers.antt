@@ -1,4 +1,4 @@
-use Rattle.std.proofs.Common.{◌≡◌, ap, sym, refl, ◌∙◌, List, [], ◌∷◌, map}
+use Rattle.std.proofs.Common.{ap, sym, refl, ◌∙◌, List, [], ◌∷◌, map}
 use Rattle.generators.specs.Laws.{AreRowsOf}
 use Rattle.generators.specs.Rows.{gen_row}
 use Rattle.generators.specs.declared.generator.Generator.{Generator}
