@@ -1,5 +1,5 @@
 -- One name is offered once.
-use Rattle.std.proofs.Common.{ℕ, zero, suc, [], ◌∷◌, refl}
+use Rattle.std.proofs.Common.{zero, suc, [], ◌∷◌, refl}
 use Rattle.orc_ids.specs.declared.flags.SymFlags.{SymFlags}
 use Rattle.orc_ids.specs.declared.ids.NameId.{NameId}
 use Rattle.jit_dylib.specs.Rows.{NamesDiffer}
