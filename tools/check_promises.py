@@ -1,6 +1,7 @@
 #!/usr/bin/env python3
 """Looks whether what the documents name is there: each relative link of README.md and docs/*.md, and in their tables of
-promises, laws, crates and terms each name in backticks. Prints what isn't there, and exits with 1 where something isn't.
+promises, laws, crates and terms each name in backticks. And whether docs/PROMISES.md links each wrong body. Prints what isn't
+there, and exits with 1 where something isn't.
 
 A name that is a link is looked for in the file that it leads to. A name after the link of a function is a clause of its
 contract, and one after the link of a definition a field of it. Any other name may stand anywhere."""
@@ -137,6 +138,12 @@ def check_sections(path, known, below, missing):
     missing += [f"a section of {name}" for name in wanted if name not in sections]
 
 
+def check_wrong_bodies(text, missing):
+    """Each wrong body stands in a row of PROMISES.md."""
+    edits = (path.relative_to(TOP) for path in sorted((TOP / "crates").glob("*/must-fail/*.edit")))
+    missing += [f"a row of {edit}" for edit in edits if f"(../{edit})" not in text]
+
+
 def main():
     known, below = crates()
     names = everything(known)
@@ -148,6 +155,7 @@ def main():
         check_links(path, text, missing)
         check_tables(path, text, known, names, functions, missing)
         if path.name == "PROMISES.md":
+            check_wrong_bodies(text, missing)
             check_sections(path, known, below, missing)
         for what in missing:
             print(f"{path.relative_to(TOP)}: {what} isn't there")
