@@ -1,13 +1,13 @@
 //! A laboratory for what a lookup finds: random lists of calls of generators and of searches, beside plain lists.
 //!
-//! `orders_lab SEED COUNT` makes COUNT lists of calls of generators (`generators`), and as many of searches in random
+//! `orders_lab SEED COUNT` makes COUNT lists of calls of generators (`attached`), and as many of searches in random
 //! orders (`orders`). After each call all that can be asked of the part is compared with plain lists, which are gone
 //! through from the first. For each part it prints how many calls were answered as by the lists, how many were refused
 //! as by them, how many weren't made since their conditions don't hold, how many wanted memory and didn't get it, and
 //! after how many something differed.
 #![tactic(auto)]
 
-mod generators;
+mod attached;
 mod orders;
 
 use lab_lists::{Random, Tally};
@@ -21,7 +21,7 @@ fn attach(rt: &impl Print, alloc: Global, seed: u32, count: u32) -> io::Result<(
     let mut tally = Tally::new();
     for _ in 0..count {
         tally.begin();
-        generators::play(alloc, &mut random, &mut tally)?;
+        attached::play(alloc, &mut random, &mut tally)?;
     }
     tally.print(rt, "generators")
 }

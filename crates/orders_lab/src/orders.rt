@@ -4,7 +4,7 @@
 ghost use Rattle.std.specs.Prelude.{◌≡◌};
 ghost use Rattle.orders_lab.specs.Sight.{is_named};
 
-use crate::generators::{PlainGenerator, first_offer};
+use crate::attached::{PlainGenerator, first_offer};
 use generators::{Generators, offers_as_the_session};
 use lab_lists::{Outcome, Random, Tally};
 use lab_units::{NAMES, any_flags, any_unit, offers_of};
