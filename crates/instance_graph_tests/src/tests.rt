@@ -170,19 +170,3 @@ fn a_failed_unit_is_told(rt: HostRuntime) -> Result<(), Fail> {
     assert!(rt; are_told(&graph, &[0]));
     Ok(())
 }
-
-#[test]
-fn memory_is_enough_for_the_room_of_any_number_of_names(rt: HostRuntime) -> Result<(), Fail> {
-    let mut graph = InstanceGraph::new(rt.alloc());
-    graph.room(65_537)?;
-    graph.room(2)?;
-    graph.room(1)?;
-    graph.room(0)?;
-    graph.define(DylibId(0), &[], &[]);
-    assert!(rt; graph.own(UnitId(0))?.is_empty());
-    graph.room(2)?;
-    let names = [(NameId(0), FLAGS), (NameId(1), FLAGS)];
-    graph.define(DylibId(0), &names, &[true, true]);
-    assert_eq!(rt; graph.own(UnitId(1))?.len(), 2);
-    Ok(())
-}
