@@ -186,34 +186,3 @@ fn a_line_may_have_more_symbols_than_an_object(rt: HostRuntime) -> Result<(), Fa
     );
     Ok(())
 }
-
-/// How many calls of the set-up, how many clients and how many unused notes a script's plan has.
-fn counts(
-    alloc: Global,
-    text: &str,
-    notes: Vec<Tagged>,
-    count: u32,
-) -> Result<(usize, usize, usize), Fail>
-    requires unheard { All (λ n. n.outcome ≡ None) notes.items }
-    requires count { length notes.items ≡ count }
-{
-    let script = read_script(alloc, text.as_bytes(), count, NameHasher::Fixed)?;
-    if script.files.len() > 0 {
-        return Err(Fail::from("files"));
-    }
-    let Planned { plan, unused } = plan_of(alloc, &script, &[], notes)?;
-    Ok((plan.set_up.len(), plan.clients.len(), unused.len()))
-}
-
-#[test]
-fn memory_is_enough_for_a_plan_of_any_number_of_calls(rt: HostRuntime) -> Result<(), Fail> {
-    let alloc = rt.alloc();
-    assert_eq!(rt; counts(alloc, "", Vec::new(alloc), 0)?, (0, 0, 0));
-    assert_eq!(rt; counts(alloc, "", three_notes(alloc)?, 3)?, (0, 0, 3));
-    assert_eq!(rt; counts(alloc, "dylib a\n", Vec::new(alloc), 0)?, (1, 0, 0));
-    assert_eq!(rt;
-        counts(alloc, "client\nclient\n", Vec::new(alloc), 0)?,
-        (0, 2, 0)
-    );
-    Ok(())
-}
