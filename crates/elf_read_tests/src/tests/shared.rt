@@ -51,7 +51,7 @@ impl FileMaker {
         Ok(())
     }
 
-    /// The file, whose section 1 has the sections' names.
+    /// The file, whose first section has the names of the sections.
     fn file(&self, alloc: Global) -> Result<Vec<u8>, AllocError> {
         let table = (self.contents.len() as u64).wrapping_add(64);
         let mut file = Vec::new(alloc);
