@@ -6,17 +6,17 @@ use Rattle.code_memory.specs.Mapped.{AreSegments}
 use Rattle.code_memory.specs.declared.image.Segment.{Segment}
 use Rattle.exec_run.specs.declared.ranges.Region.{Region}
 use Rattle.exec_run.specs.Regions.{bytes_of, shown, all_shown, uncopied, all_uncopied, AreCopied, HasCopy, IsIn, IsPut, IsSet, with_number}
-use Rattle.exec_run.proofs.Regions.{Rise, end_of, some_item, item_at, inside}
+use Rattle.exec_run.proofs.Regions.{Rise, end_of, bounds, some_item, item_at, inside}
 use Rattle.exec_run.proofs.Stretches.{stretch, stretch_more, stretch_new, stretch_length, IsWritten, byte_written, number_written}
 use Rattle.exec_run.proofs.Writes.{get-set_same, rise_set, set_itself, number_length}
 
 -- what is shown of a range, by its number
-pub shown_get : (pool : List ℕ) (rs : List Region) (k : ℕ) (r : Region) → slice_get rs k ≡ Some r → slice_get (all_shown pool rs) k ≡ Some (shown pool r)
+shown_get : (pool : List ℕ) (rs : List Region) (k : ℕ) (r : Region) → slice_get rs k ≡ Some r → slice_get (all_shown pool rs) k ≡ Some (shown pool r)
 shown_get pool [] k r there = absurd cc
 shown_get pool (x ∷ rs) zero r there = let e : x ≡ r = cc in ap (λ y. Some (shown pool y)) e
 shown_get pool (x ∷ rs) (suc k) r there = shown_get pool rs k r there
 
-pub shown_length : (pool : List ℕ) (rs : List Region) → length (all_shown pool rs) ≡ length rs
+shown_length : (pool : List ℕ) (rs : List Region) → length (all_shown pool rs) ≡ length rs
 shown_length pool [] = refl
 shown_length pool (x ∷ rs) = omega (arith, shown_length pool rs)
 
@@ -47,7 +47,7 @@ bytes_long : (pool : List ℕ) (c : Option ℕ) (bytes : List ℕ) → ((place :
 bytes_long pool None bytes within = refl
 bytes_long pool (Some place) bytes within = stretch_length pool place (length bytes) (within place refl)
 
-pub shown_long : (rs : List Region) (pool : List ℕ) (capacity k : ℕ) (r : Region) → AreCopied rs pool capacity → slice_get rs k ≡ Some r → length (bytes_of pool r.copy r.bytes.now) ≡ length r.bytes.now
+shown_long : (rs : List Region) (pool : List ℕ) (capacity k : ℕ) (r : Region) → AreCopied rs pool capacity → slice_get rs k ≡ Some r → length (bytes_of pool r.copy r.bytes.now) ≡ length r.bytes.now
 shown_long rs pool capacity k r copied there = bytes_long pool r.copy r.bytes.now (λ place is. copied.within k place r there is)
 
 bytes_kept : (old new : List ℕ) (c : Option ℕ) (bytes : List ℕ) → ((place : ℕ) → c ≡ Some place → stretch new place (length bytes) ≡ stretch old place (length bytes)) → bytes_of new c bytes ≡ bytes_of old c bytes
@@ -55,18 +55,19 @@ bytes_kept old new None bytes same = refl
 bytes_kept old new (Some place) bytes same = same place refl
 
 -- a copy that is written
-pub written_shown : (rs : List Region) (old new : List ℕ) (capacity k place : ℕ) (r : Region) (bytes : List ℕ) → AreCopied rs old capacity → slice_get rs k ≡ Some r → r.copy ≡ Some place → IsWritten old new place (length r.bytes.now) bytes → all_shown new rs ≡ set (all_shown old rs) k (record { base = r.base; bytes = bytes })
+written_shown : (rs : List Region) (old new : List ℕ) (capacity k place : ℕ) (r : Region) (bytes : List ℕ) → AreCopied rs old capacity → slice_get rs k ≡ Some r → r.copy ≡ Some place → IsWritten old new place (length r.bytes.now) bytes → all_shown new rs ≡ set (all_shown old rs) k (record { base = r.base; bytes = bytes })
 written_shown rs old new capacity k place r bytes copied there is written =
     shown_changed old new rs k r (record { base = r.base; bytes = bytes }) there
     (ap (λ bs. record { base = r.base; bytes = bs }) (copy_is new r.copy place r.bytes.now is ∙ written.here))
     (λ j x apart here. ap (λ bs. record { base = x.base; bytes = bs })
     (bytes_kept old new x.copy x.bytes.now (λ q named. written.elsewhere q (length x.bytes.now) (copied.apart k j place q r x (λ e. apart (sym e)) there here is named))))
 
-pub written_copied : (rs : List Region) (old new : List ℕ) (capacity k place : ℕ) (r : Region) (bytes : List ℕ) → AreCopied rs old capacity → slice_get rs k ≡ Some r → r.copy ≡ Some place → IsWritten old new place (length r.bytes.now) bytes → length bytes ≡ length r.bytes.now → AreCopied rs new capacity
+written_copied : (rs : List Region) (old new : List ℕ) (capacity k place : ℕ) (r : Region) (bytes : List ℕ) → AreCopied rs old capacity → slice_get rs k ≡ Some r → r.copy ≡ Some place → IsWritten old new place (length r.bytes.now) bytes → length bytes ≡ length r.bytes.now → AreCopied rs new capacity
 written_copied rs old new capacity k place r bytes copied there is written long = record {
   within = λ j q x here named. let within = copied.within j q x here named in omega (arith, written.long);
   apart = copied.apart;
   room = omega (arith, written.long, copied.room);
+  small = omega (arith, written.long, copied.small);
   segments = subst AreSegments (sym (written_shown rs old new capacity k place r bytes copied there is written))
       (rise_set CODE_START (all_shown old rs) CODE_END k (shown old r) (record { base = r.base; bytes = bytes }) copied.segments (shown_get old rs k r there) refl (long ∙ sym (shown_long rs old capacity k r copied there)));
 }
@@ -154,11 +155,36 @@ pub uncopied_none : (rs : List Region) → rs ≡ [] → 0 ≡ all_uncopied rs
 unfolding all_uncopied
 uncopied_none rs empty = sym (ap all_uncopied empty)
 
+-- the bytes of all ranges are below the end of code memory
+sizes : List Segment → ℕ
+sizes [] = 0
+sizes (s ∷ ss) = length s.bytes + sizes ss
+
+sizes_fresh : (rs : List Region) → ((k : ℕ) (r : Region) → slice_get rs k ≡ Some r → r.copy ≡ None) → all_uncopied rs ≡ sizes (all_shown [] rs)
+unfolding all_uncopied sizes
+sizes_fresh [] none = refl
+sizes_fresh (r ∷ rs) none =
+    let here = none 0 r refl in
+    let first : uncopied r.copy (length r.bytes.now) ≡ length r.bytes.now = ap (λ c. uncopied c (length r.bytes.now)) here in
+    let second : length (bytes_of [] r.copy r.bytes.now) ≡ length r.bytes.now = ap (λ c. length (bytes_of [] c r.bytes.now)) here in
+    omega (arith, first, second, sizes_fresh rs (λ k x there. none (suc k) x there))
+
+sizes_all : (low : ℕ) (ss : List Segment) (high : ℕ) → Rise low ss high → low + sizes ss ≤ high
+unfolding sizes
+sizes_all low [] high rise = omega (arith, rise)
+sizes_all low (s ∷ ss) high rise = omega (arith, rise.0, sizes_all (end_of s) ss high rise.2)
+
+fresh_small : (rs : List Region) (ss : List Segment) → AreFresh rs ss → AreSegments ss → all_uncopied rs ≤ CODE_END
+fresh_small rs ss fresh segments =
+    let size : all_uncopied rs ≡ sizes ss = sizes_fresh rs fresh.none ∙ ap sizes fresh.same in
+    omega (arith, size, sizes_all CODE_START ss CODE_END segments)
+
 pub fresh_copied : (rs : List Region) (ss : List Segment) (pool : List ℕ) (capacity : ℕ) → AreFresh rs ss → AreSegments ss → pool ≡ [] → all_uncopied rs ≤ capacity → AreCopied rs pool capacity
 fresh_copied rs ss pool capacity fresh segments empty room = record {
   within = λ k place r there is. let e : None ≡ Some place = sym (fresh.none k r there) ∙ is in absurd cc;
   apart = λ j k p q r s apart here there is also. let e : None ≡ Some p = sym (fresh.none j r here) ∙ is in absurd cc;
   room = omega (arith, ap length empty);
+  small = omega (arith, ap length empty, fresh_small rs ss fresh segments);
   segments = subst AreSegments (sym (ap (λ bs. all_shown bs rs) empty ∙ fresh.same)) segments;
 }
 
@@ -202,33 +228,14 @@ unfolding all_uncopied
 uncopied_push [] r none = omega (arith, ap (λ c. uncopied c (length r.bytes.now)) none)
 uncopied_push (x ∷ rs) r none = omega (arith, uncopied_push rs r none)
 
--- the bytes of all ranges are below the end of code memory
-sizes : List Segment → ℕ
-sizes [] = 0
-sizes (s ∷ ss) = length s.bytes + sizes ss
-
-sizes_fresh : (rs : List Region) → ((k : ℕ) (r : Region) → slice_get rs k ≡ Some r → r.copy ≡ None) → all_uncopied rs ≡ sizes (all_shown [] rs)
-unfolding all_uncopied sizes
-sizes_fresh [] none = refl
-sizes_fresh (r ∷ rs) none =
-    let here = none 0 r refl in
-    let first : uncopied r.copy (length r.bytes.now) ≡ length r.bytes.now = ap (λ c. uncopied c (length r.bytes.now)) here in
-    let second : length (bytes_of [] r.copy r.bytes.now) ≡ length r.bytes.now = ap (λ c. length (bytes_of [] c r.bytes.now)) here in
-    omega (arith, first, second, sizes_fresh rs (λ k x there. none (suc k) x there))
-
-sizes_below : (low : ℕ) (ss : List Segment) (high k : ℕ) (s : Segment) → Rise low ss high → slice_get ss k ≡ Some s → (low + sizes (take k ss) ≤ s.base) × (end_of s ≤ high)
+sizes_below : (low : ℕ) (ss : List Segment) (high k : ℕ) (s : Segment) → Rise low ss high → slice_get ss k ≡ Some s → low + sizes (take k ss) ≤ s.base
 unfolding sizes
 sizes_below low [] high k s rise there = absurd cc
 sizes_below low (t ∷ ss) high zero s rise there =
     let same : t ≡ s = cc in
-    subst (λ (x : Segment). (low + 0 ≤ x.base) × (end_of x ≤ high)) same (omega (arith, rise.0), least (end_of t) ss high rise.2)
-  where
-    least : (low : ℕ) (ss : List Segment) (high : ℕ) → Rise low ss high → low ≤ high
-    least low [] high rise = rise
-    least low (s ∷ ss) high rise = omega (arith, rise.0, rise.1, least (end_of s) ss high rise.2)
+    subst (λ (x : Segment). low + 0 ≤ x.base) same (omega (arith, rise.0))
 sizes_below low (t ∷ ss) high (suc k) s rise there =
-    let rest = sizes_below (end_of t) ss high k s rise.2 there in
-    (omega (arith, rise.0, rest.0), rest.1)
+    omega (arith, rise.0, sizes_below (end_of t) ss high k s rise.2 there)
 
 pub fresh_below : (rs : List Region) (ss : List Segment) (k : ℕ) (bytes : List ℕ) → AreFresh rs (take k ss) → AreSegments ss → k < length ss → option_map (λ (s : Segment). s.bytes) (slice_get ss k) ≡ Some bytes → all_uncopied rs + length bytes ≤ CODE_END
 fresh_below rs ss k bytes fresh segments less bs =
@@ -236,8 +243,9 @@ fresh_below rs ss k bytes fresh segments less bs =
     let e : Some s.0.bytes ≡ Some bytes = sym (ap (option_map (λ (s : Segment). s.bytes)) s.1) ∙ bs in
     let same : s.0.bytes ≡ bytes = cc in
     let below = sizes_below CODE_START ss CODE_END k s.0 segments s.1 in
+    let within = bounds CODE_START ss CODE_END k s.0 segments s.1 in
     let size : all_uncopied rs ≡ sizes (take k ss) = sizes_fresh rs fresh.none ∙ ap sizes fresh.same in
-    omega (arith, below.0, below.1, size, ap length same)
+    omega (arith, below, within.2, size, ap length same)
 
 -- a copy more
 abbrev pub with_copy : Region → ℕ → Region
@@ -266,7 +274,7 @@ added_shown rs pool more capacity copied =
     shown_same pool (pool ++ more) rs (λ j x here. ap (λ bs. record { base = x.base; bytes = bs })
     (bytes_kept pool (pool ++ more) x.copy x.bytes.now (λ q named. stretch_more pool more q (length x.bytes.now) (copied.within j q x here named))))
 
-pub copied_shown : (rs : List Region) (pool : List ℕ) (capacity k : ℕ) (r : Region) → AreCopied rs pool capacity → slice_get rs k ≡ Some r → r.copy ≡ None → all_shown (pool ++ r.bytes.now) (set rs k (with_copy r (length pool))) ≡ all_shown pool rs
+copied_shown : (rs : List Region) (pool : List ℕ) (capacity k : ℕ) (r : Region) → AreCopied rs pool capacity → slice_get rs k ≡ Some r → r.copy ≡ None → all_shown (pool ++ r.bytes.now) (set rs k (with_copy r (length pool))) ≡ all_shown pool rs
 copied_shown rs pool capacity k r copied there none =
     shown_replaced (pool ++ r.bytes.now) rs k (with_copy r (length pool))
     ∙ ap (λ ss. set ss k (shown (pool ++ r.bytes.now) (with_copy r (length pool)))) (added_shown rs pool r.bytes.now capacity copied)
@@ -295,7 +303,7 @@ copy_of rs pool capacity k r j place x copied there is = record {
       (put_get rs j k (with_copy r (length pool)) x there);
 }
 
-pub copied_copied : (rs : List Region) (pool : List ℕ) (capacity more k : ℕ) (r : Region) → AreCopied rs pool capacity → slice_get rs k ≡ Some r → r.copy ≡ None → capacity ≤ more → AreCopied (set rs k (with_copy r (length pool))) (pool ++ r.bytes.now) more
+copied_copied : (rs : List Region) (pool : List ℕ) (capacity more k : ℕ) (r : Region) → AreCopied rs pool capacity → slice_get rs k ≡ Some r → r.copy ≡ None → capacity ≤ more → AreCopied (set rs k (with_copy r (length pool))) (pool ++ r.bytes.now) more
 copied_copied rs pool capacity more k r copied there none grown =
     let long = length-append pool r.bytes.now in
     record {
@@ -314,6 +322,7 @@ copied_copied rs pool capacity more k r copied there none grown =
           (copy_of rs pool capacity k r j q y copied second also).sort)
           (copy_of rs pool capacity k r i p x copied first is).sort;
       room = omega (arith, copied.room, uncopied_less rs k (length pool) r there none);
+      small = omega (arith, copied.small, uncopied_less rs k (length pool) r there none);
       segments = subst AreSegments (sym (copied_shown rs pool capacity k r copied there none)) copied.segments;
     }
 

@@ -29,11 +29,11 @@ zeros-join (suc r) m bytes =
     ap (λ xs. 0 ∷ xs) (zeros-join r m bytes) ∙ ap (λ k. replicate k 0 ++ bytes) (let e : suc (r + m) ≡ suc r + m = omega arith in e)
 
 -- what isn't kept is zero, and what is kept stands at the end
-pub filled_low : (n : ℕ) (bytes : List ℕ) (i : ℕ) → i + length bytes < n → slice_get (filled n bytes) i ≡ Some 0
+filled_low : (n : ℕ) (bytes : List ℕ) (i : ℕ) → i + length bytes < n → slice_get (filled n bytes) i ≡ Some 0
 unfolding filled
 filled_low n bytes i less = get-zeros (n - length bytes) bytes i (omega arith)
 
-pub filled_high : (n : ℕ) (bytes : List ℕ) (place i : ℕ) → place + length bytes ≡ n → slice_get (filled n bytes) (place + i) ≡ slice_get bytes i
+filled_high : (n : ℕ) (bytes : List ℕ) (place i : ℕ) → place + length bytes ≡ n → slice_get (filled n bytes) (place + i) ≡ slice_get bytes i
 unfolding filled
 filled_high n bytes place i is =
     ap (λ m. slice_get (replicate m 0 ++ bytes) (place + i)) (let e : n - length bytes ≡ place = omega arith in e) ∙ get-after place bytes i
@@ -70,14 +70,14 @@ resized bytes new ok n m len done less long is e =
     ∙ ap (λ k. bytes ++ replicate k 0) (let f : n - len ≡ m = omega (arith, long, is) in f)
 
 -- a byte written where bytes are kept, and several
-pub filled_set : (n : ℕ) (bytes : List ℕ) (place i b : ℕ) → place + length bytes ≡ n → filled n (set bytes i b) ≡ set (filled n bytes) (place + i) b
+filled_set : (n : ℕ) (bytes : List ℕ) (place i b : ℕ) → place + length bytes ≡ n → filled n (set bytes i b) ≡ set (filled n bytes) (place + i) b
 unfolding filled
 filled_set n bytes place i b is =
     ap (λ m. replicate m 0 ++ set bytes i b) (let e : n - length (set bytes i b) ≡ place = omega (arith, length-set bytes i b) in e)
     ∙ sym (set-after place bytes i b)
     ∙ ap (λ m. set (replicate m 0 ++ bytes) (place + i) b) (let e : place ≡ n - length bytes = omega arith in e)
 
-pub filled_number : (n : ℕ) (bytes : List ℕ) (place i width value : ℕ) → place + length bytes ≡ n → filled n (with_number bytes i width value) ≡ with_number (filled n bytes) (place + i) width value
+filled_number : (n : ℕ) (bytes : List ℕ) (place i width value : ℕ) → place + length bytes ≡ n → filled n (with_number bytes i width value) ≡ with_number (filled n bytes) (place + i) width value
 unfolding with_number
 filled_number n bytes place i zero value is = refl
 filled_number n bytes place i (suc width) value is =

@@ -30,7 +30,7 @@ take_set [] (suc n) i b = refl
 take_set (x ∷ pool) (suc n) zero b = refl
 take_set (x ∷ pool) (suc n) (suc i) b = ap (λ xs. x ∷ xs) (take_set pool n i b)
 
-pub stretch_set : (pool : List ℕ) (place n i b : ℕ) → stretch (set pool (place + i) b) place n ≡ set (stretch pool place n) i b
+stretch_set : (pool : List ℕ) (place n i b : ℕ) → stretch (set pool (place + i) b) place n ≡ set (stretch pool place n) i b
 stretch_set pool zero n i b = ap (λ k. take n (set pool k b)) (let e : zero + i ≡ i = omega arith in e) ∙ take_set pool n i b
 stretch_set [] (suc place) zero i b = refl
 stretch_set [] (suc place) (suc n) i b = refl

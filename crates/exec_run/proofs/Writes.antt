@@ -10,7 +10,7 @@ use Rattle.exec_run.specs.declared.host.TheConstants.{STACK_END}
 use Rattle.exec_run.specs.Regions.{AreRegions, IsPut, IsSet, with_number}
 use Rattle.exec_run.proofs.Regions.{Rise, end_of, in_range, before_first, after_first}
 
-pub set_there : (ss : List Segment) (k : ℕ) (s t : Segment) → slice_get ss k ≡ Some s → slice_get (set ss k t) k ≡ Some t
+set_there : (ss : List Segment) (k : ℕ) (s t : Segment) → slice_get ss k ≡ Some s → slice_get (set ss k t) k ≡ Some t
 set_there [] k s t there = absurd cc
 set_there (u ∷ ss) zero s t there = refl
 set_there (u ∷ ss) (suc k) s t there = set_there ss k s t there
@@ -59,7 +59,7 @@ get-set_same [] place b less = absurd (omega arith)
 get-set_same (x ∷ bytes) zero b less = refl
 get-set_same (x ∷ bytes) (suc place) b less = get-set_same bytes place b (omega arith)
 
-pub get-set_other : {X : Type 0} (bytes : List X) (place i : ℕ) (b : X) → i ≢ place → slice_get (set bytes place b) i ≡ slice_get bytes i
+get-set_other : (bytes : List ℕ) (place i b : ℕ) → i ≢ place → slice_get (set bytes place b) i ≡ slice_get bytes i
 get-set_other [] place i b apart = refl
 get-set_other (x ∷ bytes) zero zero b apart = absurd (apart refl)
 get-set_other (x ∷ bytes) zero (suc i) b apart = refl

@@ -1,5 +1,6 @@
 -- The memory of a run: the ranges of an image, with copies of those that were written, and the stack.
 use Rattle.std.specs.Prelude.{◌≡◌, ◌≢◌, ◌⊎◌, ℕ, zero, suc, Option, Some, None, ◌+◌, ◌-◌, ◌*◌, ◌/◌, ◌%◌, ◌^◌, ◌≤◌, ◌<◌, List, [], ◌∷◌, ◌++◌, length, map, take, drop, replicate, slice_get, slice_set}
+use Rattle.orc_ids.specs.declared.limits.TheConstants.{CODE_END}
 use Rattle.code_memory.specs.Apart.{AreApart}
 use Rattle.code_memory.specs.Mapped.{byte_at, AreSegments}
 use Rattle.code_memory.specs.declared.image.Segment.{Segment}
@@ -38,6 +39,7 @@ pub record AreCopied (rs : List Region) (pool : List ℕ) (capacity : ℕ) : Typ
   pub within : (k place : ℕ) (r : Region) → slice_get rs k ≡ Some r → r.copy ≡ Some place → place + length r.bytes.now ≤ length pool
   pub apart : (j k p q : ℕ) (r s : Region) → j ≢ k → slice_get rs j ≡ Some r → slice_get rs k ≡ Some s → r.copy ≡ Some p → s.copy ≡ Some q → AreApartFrom p (length r.bytes.now) q (length s.bytes.now)
   pub room : length pool + all_uncopied rs ≤ capacity
+  pub small : length pool + all_uncopied rs ≤ CODE_END
   pub segments : AreSegments (all_shown pool rs)
 
 -- range k has its copy from a place on

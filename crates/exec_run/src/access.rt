@@ -18,6 +18,15 @@ pub(crate) fn load(memory: &RunMemory<'_>, at: u64, width: u8) -> Option<u64>
     if usize::from(width) <= rest.len() {
         return Some(number(rest, width));
     }
+    load_apart(memory, at, width)
+}
+
+/// A load that leaves the range that it begins in.
+#[inline(never)]
+fn load_apart(memory: &RunMemory<'_>, at: u64, width: u8) -> Option<u64>
+    requires { width ≤ 8 }
+    ensures { result ≡ read (byte_at memory.now) at width }
+{
     let bytes = gather(memory, at, width)?;
     Some(number(bytes.as_slice(), 8))
 }
@@ -31,6 +40,14 @@ pub(crate) fn fetch(memory: &RunMemory<'_>, at: u64) -> Option<u32>
     if rest.len() >= 4 {
         return Some(word(rest));
     }
+    fetch_apart(memory, at)
+}
+
+/// A fetch that leaves the range that it begins in.
+#[inline(never)]
+fn fetch_apart(memory: &RunMemory<'_>, at: u64) -> Option<u32>
+    ensures { result ≡ read (byte_at memory.now) at 4 }
+{
     let bytes = gather(memory, at, 4)?;
     Some(word(bytes.as_slice()))
 }
@@ -71,6 +88,7 @@ pub(crate) fn store(memory: &mut RunMemory<'_>, at: u64, width: u8, value: u64) 
 }
 
 /// A store that leaves the range that it begins in or is the first there, byte by byte.
+#[inline(never)]
 fn store_apart(memory: &mut RunMemory<'_>, at: u64, width: u8, value: u64) -> bool
     requires { width ≤ 8 }
     ensures mapped { IsTrue result ↔ IsSome (read (byte_at memory.old) at width) }

@@ -14,7 +14,7 @@ use std::marker::Model;
 pub(crate) struct Region<'a> {
     base: u64,
     bytes: &'a [u8],
-    copy: Option<usize>,
+    copy: Option<u32>,
 }
 
 /// The ranges of an image, of which those that were written have copies in a pool. The pool has room
@@ -87,7 +87,7 @@ impl<'a> Ranges<'a> {
     {
         let region = &self.regions[k];
         match region.copy {
-            Some(place) => &self.pool[place..place + region.bytes.len()],
+            Some(place) => &self.pool[place as usize..place as usize + region.bytes.len()],
             None => region.bytes,
         }
     }
@@ -108,7 +108,7 @@ impl<'a> Ranges<'a> {
         if region.bytes.len() - from < usize::from(width) {
             return false;
         }
-        put(&mut self.pool, place + from, width, value);
+        put(&mut self.pool, place as usize + from, width, value);
         true
     }
 
@@ -124,7 +124,7 @@ impl<'a> Ranges<'a> {
     }
 }
 
-/// The place of the copy of range k, which is made if there is none yet.
+/// The place of the copy of range k, which is made if there is none yet; takes no memory.
 fn copied(regions: &mut Vec<Region<'_>>, pool: &mut Vec<u8>, k: usize) -> usize
     requires copied { AreCopied regions.old.items pool.old.items (vec_capacity pool.old) }
     requires there { k < length regions.old.items }
@@ -134,10 +134,10 @@ fn copied(regions: &mut Vec<Region<'_>>, pool: &mut Vec<u8>, k: usize) -> usize
 {
     let Region { bytes, copy, .. } = regions[k];
     if let Some(place) = copy {
-        return place;
+        return place as usize;
     }
     let place = pool.len();
     let _ = pool.extend_from_slice(bytes);
-    regions[k].copy = Some(place);
+    regions[k].copy = Some(place as u32);
     place
 }

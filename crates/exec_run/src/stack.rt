@@ -107,7 +107,8 @@ fn zeros(count: u64) -> &'static [u8]
     &ZEROS[..count.min(8) as usize]
 }
 
-/// Lengthens the bytes at the end of a stack to `count` at least, with zero bytes before them.
+/// Lengthens the bytes at the end of a stack to `count` at least, with zero bytes before them; takes
+/// no memory.
 fn reach(bytes: &mut Vec<u8>, count: usize)
     requires within { count ≤ STACK_SIZE }
     requires room { HasRoom bytes.old.items (vec_capacity bytes.old) }
