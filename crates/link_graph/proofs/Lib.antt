@@ -4,6 +4,7 @@ pub mod ReadFacts
 pub mod TrimmedFacts
 pub mod GraphFacts
 pub mod NameNumbers
+pub mod LaterNames
 pub mod Whole
 pub mod Powers
 pub mod Labels

@@ -1,11 +1,11 @@
 -- The number of a name, and which names have one.
-use Rattle.std.proofs.Common.{◌≡◌, false, ℕ, zero, suc, ◌+◌, ◌<◌, List, [], ◌∷◌, length, get_or, Option, Some, None, refl, sym, ap, subst, ◌∙◌, inl, inr, arith}
-use Rattle.std.specs.Prelude.{slice_get, Contains, Result, Ok, Err, OnOk, OnErr, IsTrue, IsSome, IfSome, ◌↔◌, ◌⊎◌, ◌++◌}
+use Rattle.std.proofs.Common.{◌≡◌, true, false, ℕ, zero, suc, ◌+◌, ◌<◌, List, [], ◌∷◌, length, get_or, Some, refl, sym, ap, subst, ◌∙◌, inl, inr, arith}
+use Rattle.std.specs.Prelude.{slice_get, Contains, IsTrue, ◌⊎◌, ◌++◌}
 use Rattle.std.specs.List.{position_from}
 use Rattle.std.specs.Str.{bytes_eq}
 use Rattle.std.specs.Cmp.Lexicographic.{nat_list_eq_equiv, same_text}
 use Rattle.std.proofs.lemmas.Bool.{cases_Bool, cases_lt}
-use Rattle.std.proofs.lemmas.List.Elements.{Contains-push_cases, Contains-get_or}
+use Rattle.std.proofs.lemmas.List.Elements.{Contains-push_cases}
 use Rattle.std.proofs.lemmas.Option.{none-some, same_Some, slice_get_within, slice_get-get_or}
 use Rattle.elf_read.specs.declared.object.Symbol.{Symbol}
 use Rattle.orc_ids.specs.declared.ids.NameId.{NameId}
@@ -28,12 +28,12 @@ position-found names text n is = position_there text 0 n names is.there is.only 
     zero_less : 0 + n ≡ n
     zero_less = omega arith
 
-pub position-missing : (names : List (List ℕ)) (text : List ℕ) (i : ℕ) → (Contains names text → ⊥) → position_from (bytes_eq text) i names ≡ None
-position-missing [] text i h = refl
-position-missing (x ∷ xs) text i h = elim (cases_Bool (bytes_eq text x)) [
-  | inl t ↦ absurd (h (0, omega arith, sym (same_text text x (sym t))))
-  | inr f ↦ rw f (position-missing xs text (i + 1) (λ c. h (suc c.0, omega (arith, c.1), c.2)))
-]
+-- what a table answers to a text that has this number
+pub number_there : (names : List (List ℕ)) (text : List ℕ) (name : NameId) → IsNumberOf names text name.0 → name_number names text ≡ Some name
+number_there names text name is = rw (position-found names text name.0 is) refl
+
+pub text_there : (names : List (List ℕ)) (text : List ℕ) (number : ℕ) → IsNumberOf names text number → Contains names text
+text_there names text number is = (number, is.given, same_Some (get_or names number text) text (sym (slice_get-get_or names number text is.given) ∙ is.there))
 
 -- what a table has, it keeps
 pub kept : (old new : List (List ℕ)) (text : List ℕ) → KeepsNumbers old new → Contains old text → Contains new text
@@ -45,11 +45,6 @@ kept old new text keeps c =
 
 pub keeps_all : (a b c : List (List ℕ)) → KeepsNumbers a b → KeepsNumbers b c → KeepsNumbers a c
 keeps_all a b c first second number text there = second number text (first number text there)
-
--- what a table answers to a text
-pub number_is : (names : List (List ℕ)) (text : List ℕ) (found : Option NameId) → (IsSome found ↔ Contains names text) → IfSome found (λ name. IsNumberOf names text name.0) → found ≡ name_number names text
-number_is names text None known number = rw (position-missing names text 0 (λ c. let some = known.1 c in absurd cc)) refl
-number_is names text (Some name) known number = rw (position-found names text name.0 number) refl
 
 -- each of the first symbols that isn't local has its name in the table
 abbrev pub AreFirstNamed : List (List ℕ) → List Symbol → ℕ → Type 0
@@ -99,10 +94,19 @@ adds_one old new text known added other c = elim (known_or_not old text) [
 pub adds_none : (old new : List (List ℕ)) (symbols : List Symbol) → new ≡ old → AddsNamesOf symbols old new
 adds_none old new symbols same text c = inl (subst (λ (ns : List (List ℕ)). Contains ns text) same c)
 
+-- one text more, at most: the name of a symbol that isn't local
+abbrev pub AddsNameOf : Symbol → List (List ℕ) → List (List ℕ) → Type 0
+AddsNameOf s old new = (text : List ℕ) → Contains new text → Contains old text ⊎ (IsTrue (is_global s) × (s.name ≡ text))
+
+pub adds_own : (old new : List (List ℕ)) (s : Symbol) → is_global s ≡ true → ((text : List ℕ) → Contains new text → Contains old text ⊎ (s.name ≡ text)) → AddsNameOf s old new
+adds_own old new s is one text c = elim (one text c) [
+  | inl earlier ↦ inl earlier
+  | inr same ↦ inr (is, same)
+]
+
 -- one more symbol's name
-pub adds_name_of : (old mid new : List (List ℕ)) (symbols : List Symbol) (i : ℕ) (s : Symbol) → AddsNamesOf symbols old mid → i < length symbols → s ≡ get_or symbols i s → IsTrue (is_global s) →
-    ((other : List ℕ) → Contains new other → Contains mid other ⊎ (s.name ≡ other)) → AddsNamesOf symbols old new
-adds_name_of old mid new symbols i s before within is global one text c = elim (one text c) [
+pub adds_name_of : (old mid new : List (List ℕ)) (symbols : List Symbol) (i : ℕ) (s : Symbol) → AddsNamesOf symbols old mid → i < length symbols → s ≡ get_or symbols i s → AddsNameOf s mid new → AddsNamesOf symbols old new
+adds_name_of old mid new symbols i s before within is one text c = elim (one text c) [
   | inl earlier ↦ before text earlier
-  | inr same ↦ inr (s, (i, within, sym is), global, same)
+  | inr own ↦ inr (s, (i, within, sym is), own.0, own.1)
 ]

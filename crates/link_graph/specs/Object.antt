@@ -84,9 +84,13 @@ graph_flags s = record {
 abbrev pub name_number : List (List ℕ) → List ℕ → Option NameId
 name_number names text = option_map (λ k. record { 0 = k }) (position_from (bytes_eq text) 0 names)
 
+-- the number of a symbol's name, where other units may see the symbol
+abbrev pub own_number : List (List ℕ) → Symbol → Option NameId
+own_number names s = if is_global s then name_number names s.name else None
+
 abbrev pub graph_symbol : List (List ℕ) → ℕ → Symbol → GSym
 graph_symbol names common s = record {
-  name = if is_global s then name_number names s.name else None;
+  name = own_number names s;
   place = graph_place common s s.place;
   flags = graph_flags s;
   global = is_global s;

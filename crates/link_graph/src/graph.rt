@@ -14,7 +14,7 @@ use crate::error::GraphError;
 use crate::limits::is_too_large;
 use crate::pairs::pairs_refused;
 use crate::relocs::{relocs_refused, symbols_refused};
-use crate::symbols::{all_places, all_symbols, intern_names};
+use crate::symbols::{all_places, all_symbols};
 use elf_read::ElfObject;
 use link_model::{Block, Edge, LinkGraph};
 use orc_ids::Items;
@@ -118,10 +118,8 @@ pub fn graph_of(alloc: Global, o: &ElfObject, names: &mut Names) -> Result<LinkG
         edges,
         cuts,
     } = checked_parts(alloc, o)?;
-    let symbols = o.symbols.as_slice();
-    intern_names(names, symbols)?;
     let first_common = o.sections.as_slice().len() as u32;
-    let symbols = all_symbols(alloc, names, symbols, first_common, &cuts)?;
+    let symbols = all_symbols(alloc, names, o.symbols.as_slice(), first_common, &cuts)?;
     Ok(LinkGraph {
         blocks: Items::from_vec(blocks),
         symbols: Items::from_vec(symbols),

@@ -1,7 +1,7 @@
-ghost use Rattle.std.specs.Prelude.{◌≡◌, ◌+◌, ◌<◌, ◌≤◌, ◌^◌, ◌⊎◌, [], List, ℕ, length, map, Contains, IfOk, IfErr, OnOk};
+ghost use Rattle.std.specs.Prelude.{◌≡◌, ◌+◌, ◌<◌, ◌≤◌, ◌^◌, ◌⊎◌, [], List, ℕ, Some, length, map, Contains, IfOk, IfErr, OnOk, IsTrue};
 ghost use Rattle.orc_names.specs.Numbers.{KeepsNumbers};
 ghost use Rattle.link_graph.specs.declared.error.GraphError.TheVariants.{NoMemory};
-ghost use Rattle.link_graph.specs.Object.{is_local, is_weak, is_function, is_exported, is_passed, is_global, graph_place, graph_flags, graph_symbol, graph_symbols, name_number};
+ghost use Rattle.link_graph.specs.Object.{is_local, is_weak, is_function, is_exported, is_passed, is_global, graph_place, graph_flags, graph_symbol, graph_symbols, name_number, own_number};
 ghost use Rattle.link_model.specs.Image.{at_or};
 ghost use Rattle.link_graph.specs.Padding.{moved, trimmed_symbol};
 ghost use Rattle.link_graph.specs.Parts.{graph_places};
@@ -76,46 +76,72 @@ fn flags_in_graph(s: &Symbol) -> SymFlags
     }
 }
 
-/// The number of a text that has one.
-fn number_of(names: &Names, text: &[u8]) -> Option<NameId>
-    ensures { result ≡ name_number names.now text.now }
+/// Interns one name.
+fn intern_name(names: &mut Names, text: &[u8]) -> Result<NameId, GraphError>
+    requires { length text.now ≤ 4096 }
+    ensures number { IfOk result (λ name. name_number names.new text.now ≡ Some name) }
+    ensures older { KeepsNumbers names.old names.new }
+    ensures named { OnOk result (Contains names.new text.now) }
+    ensures only { (other : List ℕ) → Contains names.new other → Contains names.old other ⊎ (text.now ≡ other) }
+    ensures err { IfErr result (λ why. why ≡ NoMemory) }
 {
-    names.find(text)
+    match names.intern(text) {
+        Ok(name) => Ok(name),
+        Err(_) => Err(GraphError::NoMemory),
+    }
 }
 
-fn symbol_in_graph(names: &Names, s: &Symbol, common: u32, cuts: &[Cuts]) -> GSym
-    ensures { result ≡ graph_symbol names.now common (trimmed_symbol cuts.now s.now) }
+/// The number of a symbol's name, which is interned where other units may see the symbol; of no other
+/// name.
+fn number_of(names: &mut Names, s: &Symbol) -> Result<Option<NameId>, GraphError>
+    requires { length s.now.name ≤ 4096 }
+    ensures number { IfOk result (λ number. number ≡ own_number names.new s.now) }
+    ensures older { KeepsNumbers names.old names.new }
+    ensures named { OnOk result (IsTrue (is_global s.now) → Contains names.new s.now.name) }
+    ensures only { (text : List ℕ) → Contains names.new text → Contains names.old text ⊎ (IsTrue (is_global s.now) × (s.now.name ≡ text)) }
+    ensures err { IfErr result (λ why. why ≡ NoMemory) }
 {
-    let global = seen_by_others(s);
-    let name = if global {
-        number_of(names, s.name.as_slice())
-    } else {
-        None
-    };
+    if !seen_by_others(s) {
+        return Ok(None);
+    }
+    let name = intern_name(names, s.name.as_slice())?;
+    Ok(Some(name))
+}
+
+/// The symbol whose name has this number.
+fn symbol_in_graph(name: Option<NameId>, s: &Symbol, common: u32, cuts: &[Cuts]) -> GSym
+    ensures { (names : List (List ℕ)) → name ≡ own_number names s.now → result ≡ graph_symbol names common (trimmed_symbol cuts.now s.now) }
+{
     GSym {
         name,
         place: place_in_graph(s, common, cuts),
         flags: flags_in_graph(s),
-        global,
+        global: seen_by_others(s),
     }
 }
 
-/// The symbols after deletion of a graph whose first common block has this number. The names are
-/// interned.
+/// The symbols after deletion of a graph whose first common block has this number. The names of those
+/// that other units may see are interned, each in one step with its symbol.
 pub(crate) fn all_symbols(
     alloc: Global,
-    names: &Names,
+    names: &mut Names,
     symbols: &[Symbol],
     first_common: u32,
     cuts: &[Cuts],
-) -> Result<Vec<GSym>, AllocError>
-    requires { first_common + length symbols.now < 2 ^ 32 }
-    ensures { IfOk result (λ made. made.items ≡ graph_symbols names.now first_common (map (trimmed_symbol cuts.now) symbols.now)) }
+) -> Result<Vec<GSym>, GraphError>
+    requires few { first_common + length symbols.now < 2 ^ 32 }
+    requires short { HasShortNames symbols.now }
+    ensures symbols { IfOk result (λ made. made.items ≡ graph_symbols names.new first_common (map (trimmed_symbol cuts.now) symbols.now)) }
+    ensures older { KeepsNumbers names.old names.new }
+    ensures named { OnOk result (AreNamed names.new symbols.now) }
+    ensures only { AddsNamesOf symbols.now names.old names.new }
+    ensures err { IfErr result (λ why. why ≡ NoMemory) }
 {
     let mut made = Vec::new(alloc);
     let mut common = first_common;
     for s in symbols {
-        made.push(symbol_in_graph(names, s, common, cuts))?;
+        let name = number_of(names, s)?;
+        made.push(symbol_in_graph(name, s, common, cuts))?;
         if in_common(s.place) {
             common += 1;
         }
@@ -142,34 +168,4 @@ pub(crate) fn all_places(
         }
     }
     Ok(places)
-}
-
-/// Interns one name.
-fn intern_name(names: &mut Names, text: &[u8]) -> Result<(), GraphError>
-    requires { length text.now ≤ 4096 }
-    ensures older { KeepsNumbers names.old names.new }
-    ensures named { OnOk result (Contains names.new text.now) }
-    ensures only { (other : List ℕ) → Contains names.new other → Contains names.old other ⊎ (text.now ≡ other) }
-    ensures err { IfErr result (λ why. why ≡ NoMemory) }
-{
-    match names.intern(text) {
-        Ok(_) => Ok(()),
-        Err(_) => Err(GraphError::NoMemory),
-    }
-}
-
-/// Interns the names of the symbols that other units may see.
-pub(crate) fn intern_names(names: &mut Names, symbols: &[Symbol]) -> Result<(), GraphError>
-    requires { HasShortNames symbols.now }
-    ensures older { KeepsNumbers names.old names.new }
-    ensures named { OnOk result (AreNamed names.new symbols.now) }
-    ensures only { AddsNamesOf symbols.now names.old names.new }
-    ensures err { IfErr result (λ why. why ≡ NoMemory) }
-{
-    for s in symbols {
-        if seen_by_others(s) {
-            intern_name(names, s.name.as_slice())?;
-        }
-    }
-    Ok(())
 }
