@@ -1,3 +1,4 @@
+pub mod Apart
 pub mod Builds
 pub mod Ends
 pub mod Firsts

@@ -1,5 +1,6 @@
 -- What is found once for all checks of a file.
-use Rattle.std.specs.Prelude.{◌≡◌, ◌≢◌, ℕ, ◌+◌, ◌*◌, ◌<◌, ◌≤◌, Bool, ◌&&◌, ◌||◌, nat_lt, nat_le, List, length, get_or, map, Option}
+use Rattle.std.specs.Prelude.{◌≡◌, ◌≢◌, ℕ, zero, suc, ◌+◌, ◌*◌, ◌<◌, ◌≤◌, Bool, ◌&&◌, ◌||◌, nat_lt, nat_le, List, length, get_or, map, count_by, Option, if◌then◌else◌}
+use Rattle.elf_read.specs.declared.spans.Span.{Span}
 use Rattle.elf_read.specs.Choice.{any_below}
 use Rattle.elf_read.specs.File.{File, section, contents}
 use Rattle.elf_read.specs.Sections.{symtab_of, symtab, rela_of, takes_bytes}
@@ -28,6 +29,27 @@ unfoldable pub is_owned : File → ℕ → ℕ → Bool
 is_owned f i place =
     (within 0 64 place || within f.table (64 * f.count) place)
     || any_below i (λ k. takes_bytes f k && within (section f k).offset (section f k).size place)
+
+-- whether a section takes a byte, as a number
+abbrev pub taken_by : File → ℕ → ℕ → ℕ
+taken_by f i place = if takes_bytes f i && within (section f i).offset (section f i).size place then 1 else 0
+
+-- how many take a byte: the header, the section table and the sections below i
+unfoldable pub takers : File → ℕ → ℕ → ℕ
+takers f zero place = (if within 0 64 place then 1 else 0) + (if within f.table (64 * f.count) place then 1 else 0)
+takers f (suc i) place = takers f i place + taken_by f i place
+
+-- how many of the spans have a byte
+abbrev pub spans_at : List Span → ℕ → ℕ
+spans_at spans place = count_by (λ (s : Span). within s.start s.size place) spans
+
+-- no byte is in two of the spans
+abbrev pub LieApart : List Span → Type 0
+LieApart spans = (place : ℕ) → spans_at spans place ≤ 1
+
+-- a byte is in two of them
+abbrev pub ShareByte : List Span → Type 0
+ShareByte spans = (place : ℕ) × (2 ≤ spans_at spans place)
 
 -- the first zero byte from a place on is at this place
 pub record IsEnd (bytes : List ℕ) (start place : ℕ) : Type 0 where

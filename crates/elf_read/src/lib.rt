@@ -21,6 +21,7 @@ mod overlaps;
 mod read;
 mod relocs;
 mod sections;
+mod spans;
 mod string_table;
 mod symbols;
 mod table;

@@ -1,14 +1,15 @@
-ghost use Rattle.std.specs.Prelude.{◌≡◌, ℕ, ◌+◌, ◌<◌, ◌≤◌, ◌||◌, false, length, slice_index_or, MatchBool, OnOk, replicate, None, IsTrue};
+ghost use Rattle.std.specs.Prelude.{◌≡◌, ℕ, ◌+◌, ◌<◌, ◌≤◌, ◌||◌, false, length, slice_index_or, MatchBool, OnOk, IfOk, replicate, None, IsTrue};
 ghost use Rattle.elf_read.specs.Choice.{Agrees, AgreesIfRoom, first_below};
 ghost use Rattle.elf_read.specs.File.{section, lies_in};
-ghost use Rattle.elf_read.specs.Index.{within, is_owned};
+ghost use Rattle.elf_read.specs.Index.{within, is_owned, spans_at, taken_by, takers};
 ghost use Rattle.elf_read.specs.Sections.{is_used, takes_bytes, section_refusal, overlap_refusal};
 
 use crate::error::ElfError;
 use crate::gabi::{HEADER_SIZE, SECTION_SIZE};
 use crate::sections::is_used_section;
+use crate::spans::{Span, lie_apart};
 use crate::table::Table;
-use std::alloc::Global;
+use std::alloc::{AllocError, Global};
 
 /// Whether no byte of a range is taken.
 fn is_free(taken: &[bool], start: usize, size: usize) -> bool
@@ -87,14 +88,68 @@ fn check_parts(taken: &mut [bool], table: &Table) -> Result<(), ElfError>
     check_each(taken, table)
 }
 
-/// The first section that takes a byte of the header, of the section table or of a section before it.
-///
-/// Each byte of the file is taken once, so the work is no more than the file is long.
-pub(crate) fn check_overlaps(alloc: Global, table: &Table) -> Result<(), ElfError>
+/// The same, by a look at each byte of the file that is taken.
+fn check_bytes(alloc: Global, table: &Table) -> Result<(), ElfError>
     requires { first_below table.now.count (section_refusal table.now) ≡ None }
     ensures { AgreesIfRoom result (first_below table.now.count (overlap_refusal table.now)) }
 {
     let mut taken = Vec::new(alloc);
     taken.resize(table.bytes().len(), false)?;
     check_parts(&mut taken, table)
+}
+
+/// The spans of the header and of the section table.
+fn opening_spans(alloc: Global, table: &Table) -> Result<Vec<Span>, AllocError>
+    ensures { IfOk result (λ spans. (k : ℕ) → spans_at spans.items k ≡ takers table.now 0 k) }
+{
+    let mut spans = Vec::new(alloc);
+    spans.push(Span {
+        start: 0,
+        size: HEADER_SIZE as u64,
+    })?;
+    spans.push(Span {
+        start: table.place() as u64,
+        size: SECTION_SIZE as u64 * table.count() as u64,
+    })?;
+    Ok(spans)
+}
+
+/// Adds the span of section i, if it takes bytes.
+fn add_section(spans: &mut Vec<Span>, table: &Table, i: u32) -> Result<(), AllocError>
+    ensures { OnOk result ((k : ℕ) → spans_at spans.new.items k ≡ spans_at spans.old.items k + taken_by table.now i k) }
+{
+    if !takes(table, i) {
+        return Ok(());
+    }
+    let section = table.section(i);
+    spans.push(Span {
+        start: section.offset,
+        size: section.size,
+    })?;
+    Ok(())
+}
+
+/// The spans of the header, of the section table and of the sections that take bytes.
+fn taken_spans(alloc: Global, table: &Table) -> Result<Vec<Span>, AllocError>
+    ensures { IfOk result (λ spans. (k : ℕ) → spans_at spans.items k ≡ takers table.now table.now.count k) }
+{
+    let mut spans = opening_spans(alloc, table)?;
+    for i in 0..table.count() {
+        add_section(&mut spans, table, i)?;
+    }
+    Ok(spans)
+}
+
+/// The first section that takes a byte of the header, of the section table or of a section before it.
+///
+/// Where all that is taken lies apart, this is found by a sort of the sections. Else each byte of the
+/// file is taken once, so the work is no more than the file is long.
+pub(crate) fn check_overlaps(alloc: Global, table: &Table) -> Result<(), ElfError>
+    requires { first_below table.now.count (section_refusal table.now) ≡ None }
+    ensures { AgreesIfRoom result (first_below table.now.count (overlap_refusal table.now)) }
+{
+    if lie_apart(taken_spans(alloc, table)?) {
+        return Ok(());
+    }
+    check_bytes(alloc, table)
 }

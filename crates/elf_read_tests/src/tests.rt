@@ -82,6 +82,35 @@ fn refuses_a_changed_byte(rt: HostRuntime) -> Result<(), Fail> {
 }
 
 #[test]
+fn reads_sections_in_falling_order(rt: HostRuntime) -> Result<(), Fail> {
+    let mut bytes = HELLO.to_vec(rt.alloc())?;
+    bytes[64..70].copy_from_slice(&HELLO[104..110]);
+    bytes[72..108].copy_from_slice(&HELLO[64..100]);
+    bytes[416] = 72;
+    bytes[480] = 64;
+    let object = read_object(rt.alloc(), &bytes)?;
+    let sections = object.sections.as_slice();
+    assert_eq!(rt; sections.len(), 2);
+    assert_eq!(rt; sections[0].bytes.as_slice(), &HELLO[64..100]);
+    assert_eq!(rt; sections[1].bytes.as_slice(), b"hello\n".as_slice());
+    Ok(())
+}
+
+#[test]
+fn refuses_a_section_that_takes_a_taken_byte(rt: HostRuntime) -> Result<(), Fail> {
+    // The last byte of the header, and the first of the section table.
+    assert_eq!(rt; changed(&rt, 416, 63)?, Some(ElfError::Overlap(1)));
+    assert_eq!(rt; changed(&rt, 744, 57)?, Some(ElfError::Overlap(6)));
+    assert_eq!(rt; changed(&rt, 744, 56)?, None);
+    // Section 2 over the last byte of section 1, and over the first of section 3.
+    assert_eq!(rt; changed(&rt, 480, 99)?, Some(ElfError::Overlap(2)));
+    assert_eq!(rt; changed(&rt, 480, 100)?, None);
+    assert_eq!(rt; changed(&rt, 480, 106)?, None);
+    assert_eq!(rt; changed(&rt, 480, 107)?, Some(ElfError::Overlap(3)));
+    Ok(())
+}
+
+#[test]
 fn numbers_its_errors(rt: HostRuntime) {
     assert_eq!(rt; ElfError::Short(0).number(), 1);
     assert_eq!(rt; ElfError::NoMemory.number(), 13);
