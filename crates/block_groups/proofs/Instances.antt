@@ -3,7 +3,7 @@ use Rattle.std.proofs.Common.{◌≡◌, ◌≢◌, ℕ, zero, suc, ◌+◌, ◌
 use Rattle.std.specs.Prelude.{zip}
 use Rattle.std.specs.List.{All, filter}
 use Rattle.std.proofs.lemmas.Bool.{eq-eqb, ne_eqb, cond_both}
-use Rattle.std.proofs.lemmas.List.{append-nil}
+use Rattle.std.proofs.lemmas.List.{append-nil, map-append}
 use Rattle.std.proofs.lemmas.List.Elements.{All-nil, All-cons, All-head, All-tail, filter-append}
 use Rattle.std.proofs.lemmas.Option.{same_Some}
 use Rattle.std.proofs.Math.Seq.{drop-cons}
@@ -66,10 +66,6 @@ places_fit g (s ∷ ss) (b ∷ bs) all =
 
 -- ---- the lists
 
-map_append : {X Y : Type 0} (f : X → Y) (xs ys : List X) → map f (xs ++ ys) ≡ map f xs ++ map f ys
-map_append f [] ys = refl
-map_append {X} {Y} f (x ∷ xs) ys = ap (λ (zs : List Y). f x ∷ zs) (map_append f xs ys)
-
 members_more : (test : GPlace → Bool) (places : List GPlace) (own : List InstId) (k : ℕ) (d : GPlace) (e : InstId) → k < length places → k < length own → members_at test (take (k + 1) places) (take (k + 1) own) ≡ cond (test (get_or places k d)) (members_at test (take k places) (take k own) ++ get_or own k e ∷ []) (members_at test (take k places) (take k own))
 members_more test places own k d e p q =
     let pass : GPlace × InstId → Bool = λ (x : GPlace × InstId). test x.0 in
@@ -78,7 +74,7 @@ members_more test places own k d e p q =
     let last : GPlace × InstId = (get_or places k d, get_or own k e) in
     ap (λ (xs : List (GPlace × InstId)). map instance (filter pass xs)) (zip_more places own k d e p q)
     ∙ ap (map instance) (filter-append pass pairs (last ∷ []))
-    ∙ map_append instance (filter pass pairs) (filter pass (last ∷ []))
+    ∙ map-append instance (filter pass pairs) (filter pass (last ∷ []))
     ∙ elim (test last.0) as (λ t. map instance (filter pass pairs) ++ map instance (cond t (last ∷ []) []) ≡ cond t (map instance (filter pass pairs) ++ last.1 ∷ []) (map instance (filter pass pairs))) [
       | true ↦ refl
       | false ↦ append-nil (map instance (filter pass pairs))

@@ -1,12 +1,14 @@
 -- The lists of blocks by the keys of their edges, and what an edge more changes.
-use Rattle.std.proofs.Common.{◌≡◌, ℕ, zero, suc, ◌+◌, ◌<◌, ◌≤◌, ◌==◌, cond, Bool, true, false, not, ◌&&◌, ◌||◌, List, [], ◌∷◌, ◌++◌, length, map, take, get_or, Option, Some, None, refl, sym, ap, subst, ◌∙◌, ◌⊎◌, inl, inr, arith}
+use Rattle.std.proofs.Common.{◌≡◌, ℕ, zero, suc, ◌+◌, ◌<◌, ◌==◌, cond, Bool, true, false, not, ◌&&◌, ◌||◌, List, [], ◌∷◌, ◌++◌, length, map, take, get_or, Option, Some, None, refl, sym, ap, subst, ◌∙◌, ◌⊎◌, inl, inr, arith}
 use Rattle.std.specs.Prelude.{Contains}
 use Rattle.std.specs.List.{All, filter, filter_map, list_any}
-use Rattle.std.proofs.lemmas.Bool.{cond_both, eq-eqb, eqb-true, false≢true, and_parts, or_left, or_right, or_cases}
-use Rattle.std.proofs.lemmas.List.{take_more, append-nil}
-use Rattle.std.proofs.lemmas.List.Elements.{All-nil, All-cons, All-head, All-tail, filter-append}
+use Rattle.std.proofs.lemmas.Bool.{eq-eqb, eqb-true, false≢true, and_parts, or_left, or_right, or_cases}
+use Rattle.std.proofs.lemmas.List.{take_more, append-nil, map-append}
+use Rattle.std.proofs.lemmas.List.Elements.{All-head, All-tail, filter-append}
 use Rattle.std.proofs.lemmas.Option.{same_Some}
-use Rattle.link_model.specs.Graph.{is_defined, is_offered, first_flag, other_flags, own_symbols, is_referred, numbers_where, external_symbols}
+use Rattle.list_laws.proofs.Each.{contains_later, contains_here}
+use Rattle.link_laws.proofs.Symbols.{length_own, numbers_below}
+use Rattle.link_model.specs.Graph.{own_symbols, is_referred, external_symbols}
 use Rattle.block_groups.specs.Groups.{block_of, is_own, leads_to, next_blocks, refers_to}
 use Rattle.link_model.specs.Image.{at_or, is_paired, place_of}
 use Rattle.link_model.specs.Sound.{PlaceFits, Sound}
@@ -17,11 +19,7 @@ use Rattle.link_model.specs.declared.graph.GSym.{GSym}
 use Rattle.link_model.specs.declared.graph.LinkGraph.{LinkGraph}
 use Rattle.block_groups.specs.Keys.{is_key, blocks_with, AreKeyed, target_of}
 use Rattle.block_groups.specs.Lists.{row, IsPushed}
-use Rattle.block_groups.proofs.Rows.{contains_here, contains_later, contains_cases, contains_none}
-
-map_append : {X Y : Type 0} (f : X → Y) (xs ys : List X) → map f (xs ++ ys) ≡ map f xs ++ map f ys
-map_append f [] ys = refl
-map_append {X} {Y} f (x ∷ xs) ys = ap (λ (zs : List Y). f x ∷ zs) (map_append f xs ys)
+use Rattle.block_groups.proofs.Rows.{contains_cases, contains_none}
 
 -- one edge more
 keyed_more : (key : Edge → Option ℕ) (edges : List Edge) (i k : ℕ) (d : Edge) → i < length edges → blocks_with key (take (i + 1) edges) k ≡ cond (is_key k (key (get_or edges i d))) (blocks_with key (take i edges) k ++ (get_or edges i d).block ∷ []) (blocks_with key (take i edges) k)
@@ -31,7 +29,7 @@ keyed_more key edges i k d lt =
     let block : Edge → ℕ = λ (x : Edge). x.block in
     ap (λ (es : List Edge). map block (filter test es)) (take_more edges i d lt)
     ∙ ap (map block) (filter-append test (take i edges) (e ∷ []))
-    ∙ map_append block (filter test (take i edges)) (filter test (e ∷ []))
+    ∙ map-append block (filter test (take i edges)) (filter test (e ∷ []))
     ∙ elim (test e) as (λ t. map block (filter test (take i edges)) ++ map block (cond t (e ∷ []) []) ≡ cond t (map block (filter test (take i edges)) ++ e.block ∷ []) (map block (filter test (take i edges)))) [
       | true ↦ refl
       | false ↦ append-nil (map block (filter test (take i edges)))
@@ -70,7 +68,7 @@ fits_at g [] s all = tt
 fits_at g (x ∷ ss) zero all = All-head (λ (y : GSym). PlaceFits g y.place) x ss all
 fits_at g (x ∷ ss) (suc s) all = fits_at g ss s (All-tail (λ (y : GSym). PlaceFits g y.place) x ss all)
 
-block_there : (g : LinkGraph) (p : GPlace) (b : ℕ) → PlaceFits g p → block_of p ≡ Some b → b < length g.blocks
+pub block_there : (g : LinkGraph) (p : GPlace) (b : ℕ) → PlaceFits g p → block_of p ≡ Some b → b < length g.blocks
 block_there g (In block offset) b fits e = subst (λ (x : ℕ). x < length g.blocks) (same_Some block b e) fits.0
 block_there g (Abs address) b fits e = absurd cc
 block_there g (External weak) b fits e = absurd cc
@@ -83,31 +81,10 @@ lead_there g live e b sound h = led (at_or false (own_symbols g.symbols live) e.
     led true h = block_there g (place_of g e.target) b (fits_at g g.symbols e.target sound.symbols) h
     led false h = absurd cc
 
--- the place of a symbol that is read
-pub place_at : (ss : List GSym) (k : ℕ) (d : GSym) → k < length ss → at_or (Abs 0) (map (λ (x : GSym). x.place) ss) k ≡ (get_or ss k d).place
-place_at [] k d within = absurd (omega arith)
-place_at (s ∷ ss) zero d within = refl
-place_at (s ∷ ss) (suc k) d within = place_at ss k d (omega arith)
-
 pub flag_at : (bs : List Bool) (k : ℕ) → get_or bs k false ≡ at_or false bs k
 flag_at [] k = refl
 flag_at (b ∷ bs) zero = refl
 flag_at (b ∷ bs) (suc k) = flag_at bs k
-
-pub length_own : (ss : List GSym) (live : List Bool) → length (own_symbols ss live) ≡ length ss
-length_own [] live = refl
-length_own (s ∷ ss) live =
-    cond_both (is_offered s) (first_flag live ∷ own_symbols ss (other_flags live)) (is_defined s.place ∷ own_symbols ss live) (λ (bs : List Bool). length bs ≡ suc (length ss))
-    (λ offered. ap suc (length_own ss (other_flags live)))
-    (λ other. ap suc (length_own ss live))
-
-numbers_below : (test : ℕ → Bool → Bool) (n k : ℕ) (bs : List Bool) → k + length bs ≤ n → All (λ s. s < n) (numbers_where test k bs)
-numbers_below test n k [] h = All-nil (λ (s : ℕ). s < n)
-numbers_below test n k (b ∷ bs) h =
-    let rest = numbers_below test n (k + 1) bs (omega (arith, h)) in
-    cond_both (test k b) (k ∷ numbers_where test (k + 1) bs) (numbers_where test (k + 1) bs) (λ (xs : List ℕ). All (λ s. s < n) xs)
-    (λ chosen. All-cons (λ (s : ℕ). s < n) k (numbers_where test (k + 1) bs) (omega (arith, h)) rest)
-    (λ passed. rest)
 
 pub externals_below : (g : LinkGraph) (live : List Bool) → All (λ s. s < length g.symbols) (external_symbols g live)
 externals_below g live = numbers_below (λ s own. not own && is_referred g.edges s) (length g.symbols) 0 (own_symbols g.symbols live) (omega (arith, length_own g.symbols live))

@@ -1,16 +1,17 @@
 -- What a search backwards finds: the blocks that need a symbol.
-use Rattle.std.proofs.Common.{◌≡◌, ℕ, zero, suc, ◌+◌, ◌<◌, ◌≤◌, ◌==◌, cond, Bool, true, false, List, [], ◌∷◌, ◌++◌, length, map, take, get_or, Option, Some, None, refl, sym, ap, subst, ◌∙◌, ◌⊎◌, inl, inr, arith}
+use Rattle.std.proofs.Common.{◌≡◌, ℕ, zero, suc, ◌+◌, ◌<◌, cond, Bool, true, false, List, [], ◌∷◌, ◌++◌, length, map, take, get_or, Option, Some, None, refl, sym, ap, subst, ◌∙◌, ◌⊎◌, inl, inr}
 use Rattle.std.specs.Prelude.{Contains, zip}
-use Rattle.std.specs.List.{All, filter, filter_map}
-use Rattle.std.proofs.lemmas.Bool.{ne_eqb, false≢true}
+use Rattle.std.specs.List.{filter_map}
+use Rattle.std.proofs.lemmas.Bool.{false≢true}
 use Rattle.std.proofs.lemmas.List.{append-nil}
-use Rattle.std.proofs.lemmas.List.Elements.{All-head, All-tail, filter_map-append}
+use Rattle.std.proofs.lemmas.List.Elements.{filter_map-append}
+use Rattle.link_laws.proofs.Symbols.{no_edges}
+use Rattle.list_laws.proofs.Bools.{bool_same}
 use Rattle.graph_walks.specs.Walks.{IsPath, Reaches, IsBounded}
 use Rattle.graph_walks.proofs.Paths.{reaches_self, reaches_next, reach_is_transitive, walks_suffice}
 use Rattle.orc_ids.specs.declared.ids.InstId.{InstId}
 use Rattle.block_groups.specs.Groups.{leads_to, next_blocks, refers_to, needs, needed}
 use Rattle.link_model.specs.Sound.{EdgeFits, Sound}
-use Rattle.link_model.specs.declared.graph.Edge.{Edge}
 use Rattle.link_model.specs.declared.graph.LinkGraph.{LinkGraph}
 use Rattle.block_groups.specs.Backwards.{is_seen, IsMore, IsSpread, IsClear, AreHandedOut}
 use Rattle.block_groups.specs.Keys.{AreKeyed, target_of, blocks_with}
@@ -36,19 +37,8 @@ turned g live lists a b (k ∷ ks) is e =
     reach_is_transitive (next_blocks g live) b k a (turned g live lists k b ks is e.1)
     (reaches_next (next_blocks g live) k a a (led_to g live lists k a is e.0) (reaches_self (next_blocks g live) a))
 
-no_edges : (es : List Edge) (n b : ℕ) → All (λ (e : Edge). e.block < n) es → n ≤ b → filter (λ (e : Edge). e.block == b) es ≡ []
-no_edges [] n b all h = refl
-no_edges (e ∷ es) n b all h =
-    let below = All-head (λ (x : Edge). x.block < n) e es all in
-    rw (ne_eqb e.block b (λ q. omega (arith, q, below, h))) (no_edges es n b (All-tail (λ (x : Edge). x.block < n) e es all) h)
-
-bounded : (g : LinkGraph) (live : List Bool) → Sound g → IsBounded (length g.blocks) (next_blocks g live)
+pub bounded : (g : LinkGraph) (live : List Bool) → Sound g → IsBounded (length g.blocks) (next_blocks g live)
 bounded g live sound = λ b h. ap (filter_map (leads_to g live)) (no_edges g.edges (length g.blocks) b (λ k d lt. (sound.edges k d lt).block) h)
-
-same_bool : (p q : Bool) → (p ≡ true → q ≡ true) → (q ≡ true → p ≡ true) → p ≡ q
-same_bool true q f h = sym (f refl)
-same_bool false true f h = h refl
-same_bool false false f h = refl
 
 -- a block that leads to one that was found was found
 back : (g : LinkGraph) (live : List Bool) (lists : List (List ℕ)) (s new : Search) (a b : ℕ) (path : List ℕ) → Leading g live lists → IsSpread lists s new → IsPath (next_blocks g live) a path b → is_seen new b ≡ true → is_seen new a ≡ true
@@ -59,7 +49,7 @@ back g live lists s new a b (k ∷ ks) is spread e h =
 pub needing_is : (g : LinkGraph) (live : List Bool) (leading referring : List (List ℕ)) (old s new : Search) (blocks : List ℕ) (symbol b : ℕ) → Sound g → Leading g live leading → AreKeyed target_of g.edges (length g.symbols) referring → blocks ≡ row referring symbol → IsClear old → IsMore old blocks s → IsSpread leading s new → is_seen new b ≡ needs g live symbol b
 needing_is g live leading referring old s new blocks symbol b sound is refer at clear more spread =
     let walks = walks_suffice (length g.blocks) (next_blocks g live) (refers_to g symbol) b (bounded g live sound) in
-    same_bool (is_seen new b) (needs g live symbol b)
+    bool_same (is_seen new b) (needs g live symbol b)
     (λ h.
     let cause = spread.caused b h in
     let by : Contains blocks cause.by = elim (more.only cause.by cause.before) [

@@ -1,22 +1,10 @@
 -- A list for each number: what is read of it, and what one element more changes.
-use Rattle.std.proofs.Common.{◌≡◌, ℕ, zero, suc, ◌+◌, ◌<◌, ◌≤◌, ◌==◌, cond, Bool, true, false, List, [], ◌∷◌, ◌++◌, length, map, take, get_or, set, refl, sym, ap, subst, ◌∙◌, ◌⊎◌, inl, inr, get_or-set_same, get_or-set_other, arith}
+use Rattle.std.proofs.Common.{◌≡◌, ℕ, zero, suc, ◌+◌, ◌<◌, ◌≤◌, true, false, List, [], ◌∷◌, ◌++◌, length, map, take, get_or, set, refl, ap, subst, ◌∙◌, ◌⊎◌, inl, inr, arith}
 use Rattle.std.specs.Prelude.{Contains, zip}
 use Rattle.std.proofs.lemmas.Bool.{cases_eq, eq-eqb, ne_eqb}
 use Rattle.std.proofs.lemmas.List.{map-set, length-set, length-map}
+use Rattle.list_laws.proofs.Lists.{get_or-set}
 use Rattle.block_groups.specs.Lists.{row, IsPushed}
-
--- one element changed
-pub changed : {X : Type 0} (xs : List X) (i s : ℕ) (x d : X) → i < length xs → get_or (set xs i x) s d ≡ cond (i == s) x (get_or xs s d)
-changed xs i s x d within = elim (cases_eq s i) [
-  | inl same ↦ ap (λ (k : ℕ). get_or (set xs i x) k d) same ∙ get_or-set_same xs i x d within ∙ sym (ap (λ (b : Bool). cond b x (get_or xs s d)) (eq-eqb i s (sym same)))
-  | inr other ↦ get_or-set_other xs i s x d other ∙ sym (ap (λ (b : Bool). cond b x (get_or xs s d)) (ne_eqb i s (λ q. other (sym q))))
-]
-
--- an element that is there, whatever stands for one that isn't
-pub get_or-any : {X : Type 0} (xs : List X) (k : ℕ) (d e : X) → k < length xs → get_or xs k d ≡ get_or xs k e
-get_or-any [] k d e lt = absurd (omega arith)
-get_or-any (x ∷ xs) zero d e lt = refl
-get_or-any (x ∷ xs) (suc k) d e lt = get_or-any xs k d e (omega arith)
 
 pub row_read : {X Y : Type 0} (f : X → List Y) (xs : List X) (k : ℕ) (x : X) → k < length xs → x ≡ get_or xs k x → f x ≡ row (map f xs) k
 row_read f [] k x lt is = absurd (omega arith)
@@ -28,7 +16,7 @@ pushed {X} {Y} f xs k x w y lt is e = record {
   whole = ap (λ (ls : List (List Y)). length ls) (map-set f xs k w) ∙ length-set (map f xs) k (f w);
   rows = λ j.
       ap (λ (ls : List (List Y)). row ls j) (map-set f xs k w)
-      ∙ changed (map f xs) k j (f w) [] (omega (arith, length-map xs f, lt))
+      ∙ get_or-set (map f xs) k j (f w) [] (omega (arith, length-map xs f, lt))
       ∙ elim (cases_eq k j) [
         | inl same ↦ rw (eq-eqb k j same) (e ∙ ap (λ (zs : List Y). zs ++ y ∷ []) (row_read f xs k x lt is ∙ ap (row (map f xs)) same))
         | inr other ↦ rw (ne_eqb k j other) refl
@@ -42,12 +30,6 @@ pushed_to {X} {Y} f xs old k x w y seen lt is e =
     subst (λ (ls : List (List Y)). IsPushed ls k y (map f (set xs k w))) seen (pushed f xs k x w y (omega (arith, lt, count, length-map xs f)) is e)
 
 -- ---- elements
-
-pub contains_here : {X : Type 0} (x : X) (xs : List X) → Contains (x ∷ xs) x
-contains_here x xs = (0, omega arith, refl)
-
-pub contains_later : {X : Type 0} (x y : X) (xs : List X) → Contains xs y → Contains (x ∷ xs) y
-contains_later x y xs (k, lt, is) = (suc k, omega (arith, lt), is)
 
 pub contains_cases : {X : Type 0} (x y : X) (xs : List X) → Contains (x ∷ xs) y → (x ≡ y) ⊎ Contains xs y
 contains_cases x y xs (zero, lt, is) = inl is

@@ -2,15 +2,16 @@
 use Rattle.std.proofs.Common.{◌≡◌, ℕ, zero, suc, ◌+◌, ◌-◌, ◌<◌, ◌≤◌, ◌==◌, cond, Bool, true, false, ◌&&◌, not, List, [], ◌∷◌, ◌++◌, length, get_or, set, refl, sym, ap, subst, ◌∙◌, ◌⊎◌, inl, inr, arith}
 use Rattle.std.specs.Prelude.{Contains}
 use Rattle.std.proofs.lemmas.Bool.{cases_eq, cases_lt, eq-eqb, ne_eqb, false≢true}
-use Rattle.std.proofs.lemmas.List.{length-set, get_or_append_left, get_or-append_right}
+use Rattle.std.proofs.lemmas.List.{length-set, get_or_append_left, get_or-append_right, get_or_default}
 use Rattle.std.proofs.lemmas.List.Elements.{Contains-push, Contains-append_left, Contains-append_right, Contains-append_cases}
+use Rattle.list_laws.proofs.Lists.{get_or-set}
 use Rattle.graph_walks.specs.Walks.{Reaches}
 use Rattle.graph_walks.proofs.Paths.{reaches_self, reaches_next, reach_is_transitive}
 use Rattle.orc_ids.specs.declared.ids.InstId.{InstId}
 use Rattle.block_groups.specs.Lists.{row, IsPushed}
 use Rattle.block_groups.specs.Backwards.{is_seen, unset, IsNoted, IsMore, IsCaused, IsSpread, IsClear, AreHandedOut}
 use Rattle.block_groups.specs.declared.backwards.Search.{Search}
-use Rattle.block_groups.proofs.Rows.{changed, get_or-any, contains_none, length_push}
+use Rattle.block_groups.proofs.Rows.{contains_none, length_push}
 
 unset_set : (flags : List Bool) (k : ℕ) → k < length flags → get_or flags k false ≡ false → unset (set flags k true) + 1 ≡ unset flags
 unset_set [] k lt e = absurd (omega arith)
@@ -47,7 +48,7 @@ pub found_within : (s : Search) (k x : ℕ) → IsNoted s → k < length s.found
 found_within s k x noted lt is = seen_within s x (ap (is_seen s) is ∙ noted.flagged k lt)
 
 pub read_found : (s : Search) (k x : ℕ) → k < length s.found.items → x ≡ get_or s.found.items k x → x ≡ get_or s.found.items k 0
-read_found s k x lt is = is ∙ get_or-any s.found.items k x 0 lt
+read_found s k x lt is = is ∙ get_or_default s.found.items k x 0 lt
 
 -- ---- one block more
 
@@ -59,7 +60,7 @@ pub record Came (old : Search) (block : ℕ) (new : Search) : Type 0 where
   pub found : new.found.items ≡ old.found.items ++ block ∷ []
 
 seen_is : (old new : Search) (block b : ℕ) → Came old block new → is_seen new b ≡ cond (block == b) true (is_seen old b)
-seen_is old new block b came = ap (λ (fs : List Bool). get_or fs b false) came.seen ∙ changed old.seen.items block b true false came.within
+seen_is old new block b came = ap (λ (fs : List Bool). get_or fs b false) came.seen ∙ get_or-set old.seen.items block b true false came.within
 
 cond_kept : (t b : Bool) → b ≡ true → cond t true b ≡ true
 cond_kept true b e = refl
@@ -208,7 +209,7 @@ spreads_all lists old s done all is = record {
   caused = is.caused;
   closed = λ a b h c.
       let at = is.noted.listed a h in
-      is.closed at.0 b (omega (arith, at.1, all)) at.1 (subst (λ (x : ℕ). Contains (row lists x) b) (sym (at.2) ∙ get_or-any s.found.items at.0 a 0 at.1) c);
+      is.closed at.0 b (omega (arith, at.1, all)) at.1 (subst (λ (x : ℕ). Contains (row lists x) b) (sym (at.2) ∙ get_or_default s.found.items at.0 a 0 at.1) c);
 }
 
 -- ---- instances handed out
@@ -237,7 +238,7 @@ hands_none old i lists = record {
 }
 
 pub read_handed : (old s : Search) (i : InstId) (lists now : List (List InstId)) (k x : ℕ) → Hands old i lists k s now → k < length old.found.items → x ≡ get_or s.found.items k x → x ≡ get_or old.found.items k 0
-read_handed old s i lists now k x h lt is = is ∙ ap (λ (xs : List ℕ). get_or xs k x) h.same ∙ get_or-any old.found.items k x 0 lt
+read_handed old s i lists now k x h lt is = is ∙ ap (λ (xs : List ℕ). get_or xs k x) h.same ∙ get_or_default old.found.items k x 0 lt
 
 pub hands_past : (old s : Search) (i : InstId) (lists now : List (List InstId)) (k block : ℕ) → block ≡ get_or old.found.items k 0 → is_seen s block ≡ false → Hands old i lists k s now → Hands old i lists (k + 1) s now
 hands_past old s i lists now k block at none h = record {
@@ -259,7 +260,7 @@ cond_none false b e = e
 -- the flag of a block is taken back, and it has the instance
 pub hands_next : (old s new : Search) (i : InstId) (lists now next : List (List InstId)) (k block : ℕ) → block < length s.seen.items → block ≡ get_or old.found.items k 0 → is_seen s block ≡ true → new.seen.items ≡ set s.seen.items block false → new.found.items ≡ s.found.items → IsPushed now block i next → Hands old i lists k s now → Hands old i lists (k + 1) new next
 hands_next old s new i lists now next k block within at here seen found pushed h =
-    let is : (b : ℕ) → is_seen new b ≡ cond (block == b) false (is_seen s b) = λ b. ap (λ (fs : List Bool). get_or fs b false) seen ∙ changed s.seen.items block b false false within in
+    let is : (b : ℕ) → is_seen new b ≡ cond (block == b) false (is_seen s b) = λ b. ap (λ (fs : List Bool). get_or fs b false) seen ∙ get_or-set s.seen.items block b false false within in
     record {
       same = found ∙ h.same;
       whole = ap (λ (fs : List Bool). length fs) seen ∙ length-set s.seen.items block false ∙ h.whole;
@@ -295,7 +296,7 @@ hands_clear old s i lists now k b noted all h = decided (is_seen s b) refl
     decided true e =
         let at = noted.listed b (h.only b e) in
         let gone = h.passed at.0 (omega (arith, at.1, all)) in
-        absurd (false≢true (sym gone ∙ ap (is_seen s) (get_or-any old.found.items at.0 0 b at.1 ∙ at.2) ∙ e))
+        absurd (false≢true (sym gone ∙ ap (is_seen s) (get_or_default old.found.items at.0 0 b at.1 ∙ at.2) ∙ e))
 
 and_true : (b : Bool) → (b && true) ≡ b
 and_true true = refl

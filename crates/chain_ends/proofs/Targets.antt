@@ -1,9 +1,10 @@
 -- An alias that has an address is bound to one instance, which was present with that address.
-use Rattle.std.proofs.Common.{◌≡◌, ℕ, zero, suc, Bool, true, false, not, ◌||◌, List, [], ◌∷◌, length, slice_get, take, ◌⊎◌, inl, inr, subst, sym, refl, ap, ◌∙◌, Option, Some, None, is_some, unwrap_or}
+use Rattle.std.proofs.Common.{◌≡◌, ℕ, Bool, true, false, not, ◌||◌, List, [], ◌∷◌, length, slice_get, take, ◌⊎◌, inl, inr, subst, sym, refl, ap, ◌∙◌, Option, Some, None, is_some, unwrap_or}
 use Rattle.std.specs.Prelude.{is_none}
 use Rattle.std.specs.Bool.{if◌then◌else◌}
 use Rattle.std.proofs.lemmas.Bool.{and_from, and_parts, both_ways}
 use Rattle.std.proofs.lemmas.Option.{none-some, same_Some}
+use Rattle.list_laws.proofs.Lists.{first_place}
 use Rattle.orc_ids.specs.declared.ids.InstId.{InstId}
 use Rattle.orc_ids.specs.declared.lookup.Level.{Level}
 use Rattle.orc_ids.specs.declared.lookup.Level.TheVariants as level
@@ -108,10 +109,6 @@ alias_based jmax h l i a r x t alias fit address = split x.base refl
 
 -- What it is bound to
 
-only_first : {X : Type 0} (x y : X) (k : ℕ) → slice_get (x ∷ []) k ≡ Some y → k ≡ 0
-only_first x y zero e = refl
-only_first x y (suc k) e = absurd (none-some y e)
-
 pub target_bound : (jmax : ℕ) (h : List (Entry Meaning)) → IsLegal jmax h → (i a : ℕ) (r : InstRow) (x : UnitRow) → slice_get (state h).rows i ≡ Some r → r.present ≡ true → slice_get (state h).units r.unit.0 ≡ Some x → is_alias x ≡ true → IsAlias x.meaning → fits (row_stage x) r.phase ≡ true → phase_address r.phase ≡ Some a →
     (target : InstId) × (x.bound ≡ Some (Some (target, a) ∷ []))
 target_bound jmax h l i a r x t present s alias form fit address = (stands.target, stands.bound ∙ ap (λ (n : ℕ). Some (Some (stands.target, n) ∷ [])) (sym at))
@@ -123,7 +120,7 @@ target_bound jmax h l i a r x t present s alias form fit address = (stands.targe
     stands = aliases_stand jmax h l r.unit.0 base.0 x s alias form base.1
 
     first : r.offer ≡ 0
-    first = only_first _ _ r.offer (ap (λ os. slice_get os r.offer) (sym form.offers) ∙ instances_are_offered jmax h l i r x t present s)
+    first = first_place _ _ r.offer (ap (λ os. slice_get os r.offer) (sym form.offers) ∙ instances_are_offered jmax h l i r x t present s)
 
     at : a ≡ base.0
     at = addresses_are_kept jmax h l i r x t present s a address

@@ -1,9 +1,10 @@
 -- Emitted instances have the dependencies of their groups, and their units are done.
-use Rattle.std.proofs.Common.{◌≡◌, ℕ, suc, ◌+◌, ◌≤◌, Bool, true, false, ◌&&◌, ◌==◌, List, [], ◌∷◌, length, slice_get, ◌⊎◌, inl, inr, arith, subst, sym, refl, ap, ◌∙◌, Option, Some, None, unwrap_or}
+use Rattle.std.proofs.Common.{◌≡◌, ℕ, suc, ◌≤◌, Bool, true, false, ◌&&◌, ◌==◌, List, [], length, slice_get, ◌⊎◌, inl, inr, arith, subst, sym, refl, ap, ◌∙◌, Option, Some, None, unwrap_or}
 use Rattle.std.specs.Bool.{if◌then◌else◌}
 use Rattle.std.specs.Option.{option_map_or}
 use Rattle.std.proofs.lemmas.Bool.{both_ways, cases_eq, ne_eqb, and_right}
 use Rattle.std.proofs.lemmas.Option.{none-some}
+use Rattle.model_laws.proofs.Units.{own_same}
 use Rattle.orc_ids.specs.declared.groups.Group.{Group}
 use Rattle.orc_ids.specs.declared.ids.InstId.{InstId}
 use Rattle.orc_ids.specs.declared.ids.TrackId.{TrackId}
@@ -164,13 +165,6 @@ run_emitted m c i r _ (RowOn p q b d) a deps h e = step p q d (run_same m c i r 
     step p _ (RowGoes t f g) is old a deps h e = absurd (both_ways false refl h)
 
 -- The instances of a unit
-
--- their list follows from which instances are its own
-own_same : (u k : ℕ) (rows new : List InstRow) → ((i : ℕ) → is_owned_at u new i ≡ is_owned_at u rows i) → own_rows u k new ≡ own_rows u k rows
-own_same u k [] [] h = refl
-own_same u k [] (q ∷ qs) h = ap (λ b. if b then record { 0 = k } ∷ own_rows u (k + 1) qs else own_rows u (k + 1) qs) (h 0) ∙ own_same u (k + 1) [] qs (λ i. h (suc i))
-own_same u k (r ∷ rs) [] h = own_same u (k + 1) rs [] (λ i. h (suc i)) ∙ ap (λ b. if b then record { 0 = k } ∷ own_rows u (k + 1) rs else own_rows u (k + 1) rs) (h 0)
-own_same u k (r ∷ rs) (q ∷ qs) h = ap (λ b. if b then record { 0 = k } ∷ own_rows u (k + 1) qs else own_rows u (k + 1) qs) (h 0) ∙ ap (λ l. if is_owned u r then record { 0 = k } ∷ l else l) (own_same u (k + 1) rs qs (λ i. h (suc i)))
 
 -- The change doesn't remove the unit; and it defines no other one, or this one was asked for. Then the
 -- unit keeps each instance.

@@ -1,6 +1,7 @@
 -- An instance that came to a level stays there, or it is lost; one that is lost stays so.
-use Rattle.std.proofs.Common.{◌≡◌, ℕ, suc, ◌<◌, Bool, true, false, not, ◌||◌, List, ◌++◌, length, slice_get, ◌⊎◌, inl, inr, subst, sym, refl, ap, ◌∙◌, Some, is_some, not-suc-le-zero, zero, le_of_suc-le-suc, [], ◌∷◌}
+use Rattle.std.proofs.Common.{◌≡◌, ℕ, Bool, true, false, not, ◌||◌, List, ◌++◌, slice_get, ◌⊎◌, inl, inr, subst, sym, refl, ap, ◌∙◌, Some, is_some}
 use Rattle.std.proofs.lemmas.Bool.{both_ways, or_cases, not-true, false_from_ne_true}
+pub use Rattle.list_laws.proofs.Lists.{some_below as row_below}
 use Rattle.orc_ids.specs.declared.lookup.Level.TheVariants as level
 use Rattle.session_model.specs.Meaning.{Meaning}
 use Rattle.session_model.specs.Plain.{Plain, address_at, failed_at, present_at}
@@ -49,11 +50,6 @@ gone_stays jmax h more l i = kept_by_changes (λ rows units queries. IsGone rows
     step : (m : Plain) (s : ℕ) (c : Change Meaning) → IsSound m → Guard m s c → IsGone m.rows i → IsGone (changed c m).rows i
     step m s c sound g p = let q = change_rows m s c sound g i p.0 p.1 in
         (q.0, q.1, false_from_ne_true q.0.present (λ e. both_ways p.0.present p.2 ((run_same m c i p.0 q.0 q.2).present e)))
-
-pub row_below : {X : Type 0} (xs : List X) (i : ℕ) → i < length xs → (x : X) × (slice_get xs i ≡ Some x)
-row_below [] i b = absurd (not-suc-le-zero b)
-row_below (x ∷ xs) zero b = (x, refl)
-row_below (x ∷ xs) (suc i) b = row_below xs i (le_of_suc-le-suc b)
 
 pub losses_stay : LossesStay
 losses_stay jmax h more l i below e = split (or_cases (failed_at (state h).rows i) (not (present_at (state h).rows i)) e)

@@ -5,6 +5,7 @@ use Rattle.std.specs.Option.{option_map_or}
 use Rattle.std.proofs.lemmas.Bool.{both_ways, and_parts, and_from, not-true, eq-eqb, eqb-true}
 use Rattle.std.proofs.lemmas.Map.Keys.{any_passes_from_place}
 use Rattle.std.proofs.lemmas.Option.{none-some, same_Some}
+use Rattle.model_laws.proofs.FirstRows.{row_passes, first_found}
 use Rattle.orc_ids.specs.declared.flags.SymFlags.{SymFlags}
 use Rattle.orc_ids.specs.declared.ids.DylibId.{DylibId}
 use Rattle.orc_ids.specs.declared.ids.GenId.{GenId}
@@ -12,7 +13,7 @@ use Rattle.orc_ids.specs.declared.ids.NameId.{NameId}
 use Rattle.orc_ids.specs.declared.ids.TrackId.{TrackId}
 use Rattle.session_model.specs.Lists.{numbered}
 use Rattle.session_model.specs.Change.{changed, settled, defined, spent, verdict, verdicts, verdict_on, is_kept, is_strong, replaced_by, is_replaced, unreplaced_row, new_row, new_rows, new_unit, without_replaced, linked_unit}
-use Rattle.session_model.specs.Match.{first_row, row_of}
+use Rattle.session_model.specs.Match.{row_of}
 use Rattle.session_model.specs.Meaning.{Meaning}
 use Rattle.session_model.specs.Plain.{Plain, UnitRow, GenRow, unsearched_at}
 use Rattle.session_model.specs.declared.change.Change.{Change}
@@ -30,7 +31,6 @@ use Rattle.session_laws.specs.Sound.{IsSound}
 use Rattle.closure_laws.proofs.Fields.{is_define, IsNew, HasFields, change_fields, settled_fields}
 use Rattle.closure_laws.proofs.Histories.{kept_by_changes}
 use Rattle.closure_laws.proofs.LevelsStaying.{row_below}
-use Rattle.closure_laws.proofs.Naming.{row_passes}
 use Rattle.closure_laws.proofs.OwnRows.{define_or}
 use Rattle.closure_laws.proofs.RowMoving.{SameRow}
 use Rattle.closure_laws.proofs.RowSources.{row_was}
@@ -118,15 +118,6 @@ fresh_once rows d u k (offer ∷ offers) differ i j r s e f same = chosen (λ rs
     with_one rest (suc i) (suc j) e f = ap suc (rest i j e f)
 
 -- Replaced instances
-
-first_found : (test : InstRow → Bool) (k : ℕ) (rows : List InstRow) (i : ℕ) (r : InstRow) → slice_get rows i ≡ Some r → test r ≡ true → (x : Row) × (first_row test k rows ≡ Some x)
-first_found test k [] i r e t = absurd (none-some r e)
-first_found test k (q ∷ qs) i r e t = split (test q) refl i e (λ n f. first_found test (k + 1) qs n r f t)
-  where
-    split : (b : Bool) → test q ≡ b → (i : ℕ) → slice_get (q ∷ qs) i ≡ Some r → ((n : ℕ) → slice_get qs n ≡ Some r → (x : Row) × (first_row test (k + 1) qs ≡ Some x)) → (x : Row) × ((if b then Some (record { inst = record { 0 = k }; flags = q.flags }) else first_row test (k + 1) qs) ≡ Some x)
-    split true is i e later = (record { inst = record { 0 = k }; flags = q.flags }, refl)
-    split false is zero e later = absurd (both_ways (test q) is (ap test (same_Some q r e) ∙ t))
-    split false is (suc n) e later = later n e
 
 -- a definition that is kept over another one replaces it
 kept_replaces : (rows : List InstRow) (flags : SymFlags) (old : Row) → is_kept (verdict_on rows flags old) ≡ true → replaced_by (verdict_on rows flags old) ≡ Some old.inst.0

@@ -1,17 +1,19 @@
 -- An external is bound to an instance of its name.
-use Rattle.std.proofs.Common.{◌≡◌, ℕ, suc, ◌+◌, Bool, true, false, ◌&&◌, ◌==◌, List, [], ◌∷◌, ◌++◌, slice_get, take, drop, arith, subst, sym, refl, ap, ◌∙◌, Option, Some, None, option_map}
+use Rattle.std.proofs.Common.{◌≡◌, ℕ, ◌+◌, Bool, true, false, ◌&&◌, ◌==◌, List, ◌++◌, slice_get, take, drop, arith, subst, sym, refl, ap, ◌∙◌, Option, Some, None, option_map}
 use Rattle.std.specs.Option.{option_map_or}
 use Rattle.std.proofs.lemmas.Bool.{and_parts, eqb-true}
 use Rattle.std.proofs.lemmas.Option.{none-some, same_Some}
+use Rattle.model_laws.proofs.FirstRows.{row_passes}
+use Rattle.model_laws.proofs.Choices.{some_of_first}
 use Rattle.orc_ids.specs.declared.ids.GenId.{GenId}
 use Rattle.orc_ids.specs.declared.ids.InstId.{InstId}
 use Rattle.orc_ids.specs.declared.ids.NameId.{NameId}
 use Rattle.orc_ids.specs.declared.lookup.OrderItem.{OrderItem}
 use Rattle.orc_ids.specs.declared.lookup.Wanted.{Wanted}
-use Rattle.session_model.specs.Lists.{first_some, only_if, or_else}
+use Rattle.session_model.specs.Lists.{only_if, or_else}
 use Rattle.session_model.specs.Change.{changed, instance_of, link_order, link_matches}
 use Rattle.session_model.specs.History.{IsLegal}
-use Rattle.session_model.specs.Match.{first_row, row_of, match_in, match_of, sees, offered_by}
+use Rattle.session_model.specs.Match.{row_of, match_in, match_of, sees, offered_by}
 use Rattle.session_model.specs.Meaning.{Meaning}
 use Rattle.session_model.specs.Plain.{Plain}
 use Rattle.session_model.specs.State.{state}
@@ -25,7 +27,7 @@ use Rattle.session_model.specs.declared.rows.Row.{Row}
 use Rattle.session_laws.proofs.Elements.{mapped_some}
 use Rattle.session_laws.proofs.Ending.{front_and_rest}
 use Rattle.session_laws.proofs.Replies.{Guard}
-use Rattle.session_laws.proofs.Settling.{chosen, settled_rows}
+use Rattle.session_laws.proofs.Settling.{settled_rows}
 use Rattle.session_laws.specs.Sound.{IsSound}
 use Rattle.closure_laws.proofs.Ends.{bindings_are_ends, bindings_are_matches}
 use Rattle.closure_laws.proofs.Histories.{kept_by_changes}
@@ -38,27 +40,9 @@ use Rattle.closure_laws.specs.Links.{LinkedAt, BoundByName}
 abbrev IsNamed : List InstRow → ℕ → ℕ → Type 0
 IsNamed rows i name = (r : InstRow) × (slice_get rows i ≡ Some r) × (r.name.0 ≡ name)
 
--- a row that is first to pass a test is there, and passes
-pub row_passes : (test : InstRow → Bool) (k : ℕ) (rows : List InstRow) (r : Row) → first_row test k rows ≡ Some r → (n : ℕ) × (r.inst.0 ≡ k + n) × (x : InstRow) × (slice_get rows n ≡ Some x) × (test x ≡ true)
-row_passes test k [] r e = absurd (none-some r e)
-row_passes test k (y ∷ ys) r e = chosen (λ o. o ≡ Some r → (n : ℕ) × (r.inst.0 ≡ k + n) × (x : InstRow) × (slice_get (y ∷ ys) n ≡ Some x) × (test x ≡ true)) (test y) (Some (record { inst = record { 0 = k }; flags = y.flags })) (first_row test (k + 1) ys)
-    (λ b h. let is : record { inst = record { 0 = k }; flags = y.flags } ≡ r = same_Some (record { inst = record { 0 = k }; flags = y.flags }) r h in (0, sym (ap (λ (z : Row). z.inst.0) is) ∙ omega arith, y, refl, b))
-    (λ b h. later (row_passes test (k + 1) ys r h)) e
-  where
-    later : (n : ℕ) × (r.inst.0 ≡ k + 1 + n) × (x : InstRow) × (slice_get ys n ≡ Some x) × (test x ≡ true) → (n : ℕ) × (r.inst.0 ≡ k + n) × (x : InstRow) × (slice_get (y ∷ ys) n ≡ Some x) × (test x ≡ true)
-    later p = (suc p.0, (omega (arith, p.1)), p.2, p.3, p.4)
-
 row_named : (rows : List InstRow) (d name : ℕ) (r : Row) → row_of rows d name ≡ Some r → IsNamed rows r.inst.0 name
 row_named rows d name r e = let p = row_passes (λ (y : InstRow). y.present && y.dylib.0 == d && y.name.0 == name) 0 rows r e in
     (p.2, ap (slice_get rows) (omega (arith, p.1)) ∙ p.3, eqb-true p.2.name.0 name (and_parts (p.2.present && p.2.dylib.0 == d) (p.2.name.0 == name) p.4).1)
-
-of_first : {X Y : Type 0} (Q : Y → Type 0) (f : X → Option Y) → ((x : X) (y : Y) → f x ≡ Some y → Q y) → (xs : List X) (y : Y) → first_some f xs ≡ Some y → Q y
-of_first Q f h [] y e = absurd (none-some y e)
-of_first {X} {Y} Q f h (x ∷ xs) y e = split (f x) refl e (of_first Q f h xs y)
-  where
-    split : (o : Option Y) → f x ≡ o → or_else o (first_some f xs) ≡ Some y → (first_some f xs ≡ Some y → Q y) → Q y
-    split None is g rest = rest g
-    split (Some z) is g rest = h x y (is ∙ g)
 
 -- a match that is an instance is one of the name
 abbrev MatchNamed : List InstRow → ℕ → Match → Type 0
@@ -66,7 +50,7 @@ MatchNamed rows name (Instance i) = IsNamed rows i.0 name
 MatchNamed rows name (Offered g) = Unit {0}
 
 match_named : (m : Plain) (order : List OrderItem) (name : ℕ) (y : Match) → match_of m order name ≡ Some y → MatchNamed m.rows name y
-match_named m order name y e = of_first (MatchNamed m.rows name) (match_in m name) in_item order y e
+match_named m order name y e = some_of_first (MatchNamed m.rows name) (match_in m name) in_item order y e
   where
     generated : (o : Option GenId) (z : Match) → option_map Offered o ≡ Some z → MatchNamed m.rows name z
     generated None z h = absurd (none-some z h)

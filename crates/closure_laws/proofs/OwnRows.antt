@@ -4,11 +4,13 @@ use Rattle.std.specs.Prelude.{option_and_then, count_by}
 use Rattle.std.specs.Bool.{⊤, if◌then◌else◌}
 use Rattle.std.specs.List.{cons_option}
 use Rattle.std.specs.Option.{option_map_or}
-use Rattle.std.proofs.lemmas.Bool.{both_ways, and_parts, and_from, and_right, ne_eqb, eq-eqb, eqb-true, false_from_ne_true}
+use Rattle.std.proofs.lemmas.Bool.{both_ways, and_parts, and_from, eq-eqb, eqb-true, false_from_ne_true}
 use Rattle.std.proofs.lemmas.List.Elements.{filter_map-append}
 use Rattle.std.proofs.lemmas.List.Recursion.{is_count_by}
 use Rattle.std.proofs.lemmas.Map.Keys.{any_passes_from_place}
 use Rattle.std.proofs.lemmas.Option.{none-some, same_Some}
+use Rattle.model_laws.proofs.Units.{not_owned}
+use Rattle.list_laws.proofs.Bools.{bool_same}
 use Rattle.orc_ids.specs.declared.flags.SymFlags.{SymFlags}
 use Rattle.orc_ids.specs.declared.ids.DylibId.{DylibId}
 use Rattle.orc_ids.specs.declared.ids.GenId.{GenId}
@@ -61,9 +63,6 @@ record HasLive (rows : List InstRow) (u : ℕ) (x : UnitRow) : Type 0 where
 
 unowned : (u : ℕ) (r : InstRow) → is_owned u r ≡ false → owned_offer u r ≡ None
 unowned u r e = ap (λ b. only_if b r.offer) e
-
-of_other : (u : ℕ) (r : InstRow) → (r.unit.0 ≡ u → ⊥) → is_owned u r ≡ false
-of_other u r n = and_right r.present (r.unit.0 == u) (ne_eqb r.unit.0 u n)
 
 none_mapped : {X Y : Type 0} (f : X → Option Y) (xs : List X) → ((i : ℕ) (x : X) → slice_get xs i ≡ Some x → f x ≡ None) → filter_map f xs ≡ []
 none_mapped f [] h = refl
@@ -173,14 +172,9 @@ live_lost lost k (true ∷ flags) = split (not (lost k)) (live_lost lost (k + 1)
     split false e = e
 live_lost lost k (false ∷ flags) = live_lost lost (k + 1) flags
 
-both_true : (a b : Bool) → (a ≡ true → b ≡ true) → (b ≡ true → a ≡ true) → a ≡ b
-both_true true b f g = sym (f refl)
-both_true false true f g = g refl
-both_true false false f g = refl
-
 -- an instance is replaced where its unit loses its name
 replaced_lost : (m : Plain) (d : ℕ) (offers : List (NameId × SymFlags)) (u : ℕ) → Rising 0 (own_offers u m.rows) → (i : ℕ) (r : InstRow) → slice_get m.rows i ≡ Some r → is_owned u r ≡ true → is_replaced (verdicts m.rows d offers) i ≡ loses_name m.rows (verdicts m.rows d offers) u r.offer
-replaced_lost m d offers u rise i r e o = both_true (is_replaced vs i) (loses_name m.rows vs u r.offer) loses replaced
+replaced_lost m d offers u rise i r e o = bool_same (is_replaced vs i) (loses_name m.rows vs u r.offer) loses replaced
   where
     vs : List Verdict
     vs = verdicts m.rows d offers
@@ -242,7 +236,7 @@ defined_live m d t v h old u y e alive = split (pushed_cases (numbered (without_
         had = old u x s (ap (λ (z : UnitRow). is_defunct z.phase) (sym is) ∙ alive)
 
         none_fresh : own_offers u fresh ≡ []
-        none_fresh = none_mapped (owned_offer u) fresh (λ i r a. unowned u r (of_other u r (λ b. below (sym (new_rows_unit d (length m.units) 0 v.offers vs i r a) ∙ b) (element_below m.units u x s))))
+        none_fresh = none_mapped (owned_offer u) fresh (λ i r a. unowned u r (not_owned u r (λ b. below (sym (new_rows_unit d (length m.units) 0 v.offers vs i r a) ∙ b) (element_below m.units u x s))))
           where
             below : length m.units ≡ u → suc u ≤ length m.units → ⊥
             below a lt = omega (arith, a, lt)
@@ -384,7 +378,7 @@ same_count j k [] = refl
 same_count j k (true ∷ flags) = ap suc (same_count (j + 1) (k + 1) flags)
 same_count j k (false ∷ flags) = same_count (j + 1) (k + 1) flags
 
-live_count : (flags : List Bool) → length (live_places 0 flags) ≡ count_by (λ (b : Bool). b) flags
+pub live_count : (flags : List Bool) → length (live_places 0 flags) ≡ count_by (λ (b : Bool). b) flags
 live_count flags = is_count_by (λ bs. length (live_places 0 bs)) (λ (b : Bool). b) refl step flags
   where
     step : (b : Bool) (bs : List Bool) → length (live_places 0 (b ∷ bs)) ≡ cond b (1 + length (live_places 0 bs)) (length (live_places 0 bs))

@@ -2,6 +2,7 @@
 use Rattle.std.proofs.Common.{◌≡◌, ℕ, true, false, List, ◌++◌, slice_get, ◌⊎◌, inl, inr, subst, sym, refl, ap, ◌∙◌, Some}
 use Rattle.std.specs.Bool.{if◌then◌else◌}
 use Rattle.std.proofs.lemmas.Bool.{both_ways, true_from_ne_false}
+use Rattle.model_laws.proofs.Phases.{defunct_stage}
 use Rattle.orc_ids.specs.declared.ids.TrackId.{TrackId}
 use Rattle.orc_ids.specs.declared.ids.UnitId.{UnitId}
 use Rattle.session_model.specs.Change.{changed, settled, removed_unit, is_unit_of}
@@ -11,7 +12,6 @@ use Rattle.session_model.specs.State.{state}
 use Rattle.session_model.specs.declared.change.Change.{Change}
 use Rattle.session_model.specs.declared.change.Change.TheVariants.{Remove}
 use Rattle.session_model.specs.declared.rows.InstRow.{InstRow}
-use Rattle.session_model.specs.declared.rows.UnitPhase.{UnitPhase}
 use Rattle.session_model.specs.declared.rows.UnitPhase.TheVariants as stage
 use Rattle.session_laws.proofs.Elements.{same_element, mapped_some}
 use Rattle.session_laws.proofs.Facts.{test_from}
@@ -130,10 +130,6 @@ kept_settled m i u old = record { row = old.row; there = ap (λ rs. slice_get rs
     split (inl e) = inl e
     split (inr o) = inr (over_settled m u o)
 
-defunct_is : (p : UnitPhase) → is_defunct p ≡ true → p ≡ stage.Defunct
-defunct_is stage.Defunct e = refl
-defunct_is _ e = absurd (both_ways false refl e)
-
 pub searched_stay_present : SearchedStayPresent
 searched_stay_present jmax h more l i r e present searched = split kept.how
   where
@@ -143,4 +139,4 @@ searched_stay_present jmax h more l i r e present searched = split kept.how
 
     split : (kept.row.present ≡ true) ⊎ IsOver (state (h ++ more)).units r.unit.0 → IsPresentOrRemoved (state (h ++ more)) i r.unit.0
     split (inl p) = inl (test_from (λ (y : InstRow). y.present) (state (h ++ more)).rows i kept.row kept.there p)
-    split (inr o) = inr (o.0, o.1, defunct_is o.0.phase o.2)
+    split (inr o) = inr (o.0, o.1, defunct_stage o.0.phase o.2)

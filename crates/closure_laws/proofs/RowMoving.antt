@@ -4,6 +4,7 @@ use Rattle.std.specs.Prelude.{is_none}
 use Rattle.std.specs.Bool.{if◌then◌else◌}
 use Rattle.std.specs.Option.{option_map_or}
 use Rattle.std.proofs.lemmas.Bool.{both_ways, and_parts, and_from}
+use Rattle.list_laws.proofs.Bools.{and_kept}
 use Rattle.orc_ids.specs.declared.groups.Group.{Group}
 use Rattle.orc_ids.specs.declared.ids.InstId.{InstId}
 use Rattle.orc_ids.specs.declared.ids.TrackId.{TrackId}
@@ -24,7 +25,6 @@ use Rattle.session_laws.proofs.Changes.{owned_parts}
 use Rattle.session_laws.proofs.Defining.{replaced_unsearched}
 use Rattle.session_laws.proofs.Elements.{front_some, mapped_some, numbered_some, same_element}
 use Rattle.session_laws.proofs.Facts.{test_is, unsearched_unclaimed}
-use Rattle.session_laws.proofs.Living.{and_kept}
 use Rattle.session_laws.proofs.Replies.{Guard, IsOwnEmission}
 use Rattle.session_laws.proofs.RowStages.{stage_of, row_is, unclaimed_row, finishing_stage, resolvable, emitting_stage, emittable}
 use Rattle.session_laws.proofs.Settling.{chosen}

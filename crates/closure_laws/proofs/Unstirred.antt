@@ -5,6 +5,7 @@ use Rattle.std.specs.Option.{option_map_or}
 use Rattle.std.proofs.lemmas.Bool.{both_ways, and_parts, and_from, or_cases, or_left, or_right, not-true, false_from_ne_true}
 use Rattle.std.proofs.lemmas.List.{length-append}
 use Rattle.std.proofs.Math.Seq.{take-append_seam, take-length}
+use Rattle.list_laws.proofs.Bools.{and_kept}
 use Rattle.orc_ids.specs.declared.ids.InstId.{InstId}
 use Rattle.orc_ids.specs.declared.lookup.Level.{Level}
 use Rattle.orc_ids.specs.declared.lookup.Level.TheVariants as level
@@ -26,7 +27,6 @@ use Rattle.session_laws.proofs.Defining.{replaced_unsearched}
 use Rattle.session_laws.proofs.Elements.{front_some, numbered_some}
 use Rattle.session_laws.proofs.Ending.{query_was_asked}
 use Rattle.session_laws.proofs.Facts.{test_parts, test_from, test_is, ready_emitted}
-use Rattle.session_laws.proofs.Living.{and_kept}
 use Rattle.session_laws.proofs.Paths.{closed_reached, reaches_self, reaches_dep, ready_from_test, test_from_ready}
 use Rattle.session_laws.proofs.Readying.{reached_ready}
 use Rattle.session_laws.proofs.Replies.{Guard}

@@ -5,9 +5,10 @@ use Rattle.std.specs.List.{list_any}
 use Rattle.std.specs.Option.{option_map_or}
 use Rattle.std.proofs.lemmas.Bool.{both_ways, and_from, eq-eqb}
 use Rattle.std.proofs.lemmas.Option.{none-some}
+use Rattle.list_laws.proofs.Lists.{some_below}
+use Rattle.list_laws.proofs.Each.{contains_here}
 use Rattle.orc_ids.specs.declared.ids.DylibId.{DylibId}
 use Rattle.orc_ids.specs.declared.ids.InstId.{InstId}
-use Rattle.block_groups.proofs.Rows.{contains_here}
 use Rattle.closure_laws.specs.Dependencies.{DependsSo, unit_groups}
 use Rattle.link_model.specs.declared.graph.LinkGraph.{LinkGraph}
 use Rattle.session_laws.proofs.Elements.{element_below, same_element}
@@ -23,7 +24,7 @@ use Rattle.session_model.specs.declared.rows.Phase.TheVariants as phase
 use Rattle.session_units.specs.Meaning.{graph_meaning}
 use Rattle.static_links.proofs.Lists.{any_there}
 use Rattle.closures.specs.Closures.{AreObjects, Behind, IsBlockOf, IsEnd, IsGraphUnit, IsObject, IsOf, Itself, block_at}
-use Rattle.closures.proofs.Lists.{map_here, some_below}
+use Rattle.closures.proofs.Lists.{map_here}
 use Rattle.closures.proofs.Members.{owned_here}
 use Rattle.closures.proofs.Units.{IsKept, emitted_parts, graph_there, lies_in}
 

@@ -1,27 +1,16 @@
 -- Which blocks of a unit a block reaches, and which symbols it needs.
-use Rattle.std.proofs.Common.{◌≡◌, ℕ, ◌<◌, ◌≤◌, Bool, true, ◌&&◌, ◌==◌, cond, List, [], ◌∷◌, length, filter, filter_map, All, Contains, refl, ap, ◌∙◌, arith, Some, None}
-use Rattle.std.proofs.lemmas.Bool.{and_from, eq-eqb, ne_eqb, or_left, or_right}
-use Rattle.std.proofs.lemmas.List.Elements.{All-head, All-tail}
+use Rattle.std.proofs.Common.{◌≡◌, ℕ, Bool, true, ◌&&◌, ◌==◌, cond, List, length, filter, Contains, refl, ap, ◌∙◌, Some, None}
+use Rattle.std.proofs.lemmas.Bool.{and_from, eq-eqb, or_left, or_right}
 use Rattle.graph_walks.specs.Walks as walks
-use Rattle.graph_walks.specs.Walks.{IsBounded}
 use Rattle.graph_walks.proofs.Paths.{reaches_self, reaches_next, reach_is_transitive, walks_suffice}
 use Rattle.block_groups.specs.Groups.{block_of, is_own, leads_to, next_blocks, refers_to, needs}
+use Rattle.block_groups.proofs.Needs.{bounded}
 use Rattle.link_model.specs.Image.{is_paired, place_of}
 use Rattle.link_model.specs.Sound.{Sound}
 use Rattle.link_model.specs.declared.graph.Edge.{Edge}
 use Rattle.link_model.specs.declared.graph.LinkGraph.{LinkGraph}
 use Rattle.static_links.proofs.Lists.{any_there}
 use Rattle.closures.proofs.Lists.{chosen_here, filter_here}
-
-no_edges : (es : List Edge) (n b : ℕ) → All (λ (e : Edge). e.block < n) es → n ≤ b → filter (λ (e : Edge). e.block == b) es ≡ []
-no_edges [] n b all h = refl
-no_edges (e ∷ es) n b all h =
-    let below = All-head (λ (x : Edge). x.block < n) e es all in
-    rw (ne_eqb e.block b (λ q. omega (arith, q, below, h))) (no_edges es n b (All-tail (λ (x : Edge). x.block < n) e es all) h)
-
--- nothing follows a number that is no block's
-blocks_bounded : (g : LinkGraph) (live : List Bool) → Sound g → IsBounded (length g.blocks) (next_blocks g live)
-blocks_bounded g live sound = λ b h. ap (filter_map (leads_to g live)) (no_edges g.edges (length g.blocks) b (λ k d lt. (sound.edges k d lt).block) h)
 
 -- an edge leads on from its block
 pub edge_leads : (g : LinkGraph) (live : List Bool) (e : Edge) (a b : ℕ) → Contains g.edges e → e.block ≡ a → leads_to g live e ≡ Some b → Contains (next_blocks g live a) b
@@ -48,7 +37,7 @@ pair_leads g live e b paired at =
 -- a block needs the symbol of each edge of a block that it reaches
 pub symbol_needed : (g : LinkGraph) (live : List Bool) (e : Edge) (first a : ℕ) → Sound g → walks.Reaches (next_blocks g live) first a → Contains g.edges e → e.block ≡ a → needs g live e.target first ≡ true
 symbol_needed g live e first a sound walk c at =
-    (walks_suffice (length g.blocks) (next_blocks g live) (refers_to g e.target) first (blocks_bounded g live sound)).1 (
+    (walks_suffice (length g.blocks) (next_blocks g live) (refers_to g e.target) first (bounded g live sound)).1 (
       a,
       walk,
       any_there (λ (x : Edge). x.block == a && x.target == e.target) g.edges e c

@@ -4,6 +4,7 @@ use Rattle.std.specs.Prelude.{option_and_then}
 use Rattle.std.specs.Bool.{if◌then◌else◌}
 use Rattle.std.proofs.lemmas.Bool.{and_from, and_parts, le-leb, leb-true}
 use Rattle.std.proofs.lemmas.Option.{none-some, same_Some}
+use Rattle.link_laws.proofs.Writes.{listed_length}
 use Rattle.orc_ids.specs.declared.place.Shape.{Shape}
 use Rattle.closure_laws.specs.Bound.{wants_base}
 use Rattle.link_model.specs.Image.{image_bytes, listed}
@@ -27,10 +28,6 @@ listed_at : (at n k : ℕ) (bytes : ℕ → ℕ) → k < n → slice_get (listed
 listed_at at zero k bytes lt = absurd (omega (arith, lt))
 listed_at at (suc n) zero bytes lt = ap (λ (i : ℕ). Some (bytes i)) (omega arith)
 listed_at at (suc n) (suc k) bytes lt = let next : at + 1 + k ≡ at + suc k = omega arith in listed_at (at + 1) n k bytes (omega (arith, lt)) ∙ ap (λ (i : ℕ). Some (bytes i)) next
-
-listed_length : (at n : ℕ) (bytes : ℕ → ℕ) → length (listed at n bytes) ≡ n
-listed_length at zero bytes = refl
-listed_length at (suc n) bytes = ap suc (listed_length (at + 1) n bytes)
 
 -- The range of a graph's unit
 

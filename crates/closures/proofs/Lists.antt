@@ -1,9 +1,10 @@
 -- Elements of lists that are paired, mapped, filtered or chosen from.
-use Rattle.std.proofs.Common.{◌≡◌, ℕ, zero, suc, ◌+◌, ◌<◌, ◌≤◌, Bool, true, false, cond, List, [], ◌∷◌, length, map, filter, filter_map, zip, slice_get, Contains, inl, inr, subst, refl, ap, ◌∙◌, arith, Option, Some, None, not-suc-le-zero}
+use Rattle.std.proofs.Common.{◌≡◌, ℕ, zero, suc, ◌+◌, ◌<◌, ◌≤◌, Bool, true, false, cond, List, [], ◌∷◌, map, filter, filter_map, zip, slice_get, Contains, inl, inr, subst, refl, ap, ◌∙◌, arith, Option, Some, None}
 use Rattle.std.specs.List.{cons_option, range_with_len}
 use Rattle.std.proofs.lemmas.Bool.{both_ways, cases_eq}
 use Rattle.std.proofs.lemmas.Option.{none-some, same_Some, get_or_from_slice_get, slice_get-get_or}
-use Rattle.block_groups.proofs.Rows.{contains_here, contains_later, contains_cases, contains_none}
+use Rattle.list_laws.proofs.Each.{contains_later, contains_here}
+use Rattle.block_groups.proofs.Rows.{contains_cases, contains_none}
 use Rattle.session_laws.proofs.Elements.{element_below}
 
 pub contained : {X : Type 0} (xs : List X) (k : ℕ) (x : X) → slice_get xs k ≡ Some x → Contains xs x
@@ -11,12 +12,6 @@ contained xs k x e = (k, element_below xs k x e, get_or_from_slice_get xs k x x 
 
 pub number_of : {X : Type 0} (xs : List X) (x : X) → Contains xs x → (k : ℕ) × (slice_get xs k ≡ Some x)
 number_of xs x c = (c.0, slice_get-get_or xs c.0 x c.1 ∙ ap Some c.2)
-
--- an element below the length is there
-pub some_below : {X : Type 0} (xs : List X) (k : ℕ) → k < length xs → (x : X) × (slice_get xs k ≡ Some x)
-some_below [] k lt = absurd (not-suc-le-zero lt)
-some_below (x ∷ xs) zero lt = (x, refl)
-some_below (x ∷ xs) (suc k) lt = some_below xs k (omega (arith, lt))
 
 -- Pairs
 

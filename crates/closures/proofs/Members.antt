@@ -6,11 +6,13 @@ use Rattle.std.proofs.lemmas.Bool.{both_ways, eqb-true, eq-eqb}
 use Rattle.std.proofs.lemmas.List.{length-map}
 use Rattle.std.proofs.lemmas.List.Elements.{All-head, All-tail, All-filter, Contains-append_left, Contains-append_cases}
 use Rattle.std.proofs.lemmas.Option.{none-some, same_Some}
+use Rattle.list_laws.proofs.Each.{contains_later, contains_here}
 use Rattle.orc_ids.specs.declared.groups.Group.{Group}
 use Rattle.orc_ids.specs.declared.ids.InstId.{InstId}
 use Rattle.block_groups.specs.Groups.{block_of, group_of, groups_of, is_absolute, is_in, live_places, members_at, needed, needs}
 use Rattle.block_groups.specs.Members.{places_of}
-use Rattle.block_groups.proofs.Rows.{contains_here, contains_later, contains_cases, contains_none}
+use Rattle.block_groups.proofs.Rows.{contains_cases, contains_none}
+use Rattle.block_groups.proofs.Keyed.{block_there}
 use Rattle.closure_laws.specs.Instances as law
 use Rattle.closure_laws.specs.Instances.{offer_at}
 use Rattle.link_model.specs.Graph.{is_defined, is_offered, first_flag, other_flags, own_symbols, external_symbols}
@@ -185,11 +187,6 @@ symbol_fits g [] k all = tt
 symbol_fits g (s ∷ ss) zero all = All-head (λ (x : GSym). PlaceFits g x.place) s ss all
 symbol_fits g (s ∷ ss) (suc k) all = symbol_fits g ss k (All-tail (λ (x : GSym). PlaceFits g x.place) s ss all)
 
-block_below : (g : LinkGraph) (p : GPlace) (b : ℕ) → PlaceFits g p → block_of p ≡ Some b → b < length g.blocks
-block_below g (In block offset) b fits e = subst (λ (x : ℕ). x < length g.blocks) (same_Some block b e) fits.0
-block_below g (Abs address) b fits e = absurd (none-some b e)
-block_below g (External weak) b fits e = absurd (none-some b e)
-
 -- the place of an instance, by its unit's graph
 abbrev pub place_at : LinkGraph → List InstRow → InstId → GPlace
 place_at g rows j = offer_place g (offer_at rows j)
@@ -234,7 +231,7 @@ instance_deps g live rows own bound i b sound offered c at =
     let deps : List InstId = block_deps g live bound b in
     let group : Group = record { members = members; deps = deps } in
     let blocks : List ℕ = range_with_len 0 (length g.blocks) in
-    let below : b < length g.blocks = block_below g (place_at g rows here) b (symbol_fits g (offered_symbols g) (offer_at rows here) (All-filter is_offered (λ (s : GSym). PlaceFits g s.place) g.symbols sound.symbols)) at in
+    let below : b < length g.blocks = block_there g (place_at g rows here) b (symbol_fits g (offered_symbols g) (offer_at rows here) (All-filter is_offered (λ (s : GSym). PlaceFits g s.place) g.symbols sound.symbols)) at in
     let member : Contains members here = member_there (is_in b) (live_places g live) own (place_at g rows) here places c (is_there (place_at g rows here) b at) in
     deps_are i deps (groups_of g live own bound) group (group_deps g live rows own bound i b places at)
     (Contains-append_left (flat_map (block_group g live own bound) blocks) (group_of (members_at is_absolute (live_places g live) own) []) group

@@ -4,6 +4,7 @@ use Rattle.std.specs.Prelude.{IfSome}
 use Rattle.std.proofs.lemmas.Bool.{both_ways}
 use Rattle.std.proofs.lemmas.Option.{none-some}
 use Rattle.std.proofs.lemmas.List.Elements.{All-contains}
+use Rattle.list_laws.proofs.Lists.{some_below}
 use Rattle.orc_ids.specs.declared.ids.InstId.{InstId}
 use Rattle.graph_walks.specs.Walks as walks
 use Rattle.graph_walks.proofs.Paths as paths
@@ -30,7 +31,7 @@ use Rattle.static_links.specs.Links.{Member, Spots, Spot, Leads, Refers, Pairs, 
 use Rattle.closures.specs.Closures.{AreObjects, IsBlockOf, IsBoundAt, IsGraphUnit, IsMapOf, block_at, member_of, members_of}
 use Rattle.closures.proofs.Blocks.{own_leads, pair_leads, symbol_needed, walk_on}
 use Rattle.closures.proofs.Aliases.{end_reached}
-use Rattle.closures.proofs.Lists.{pair_parts, some_below}
+use Rattle.closures.proofs.Lists.{pair_parts}
 use Rattle.closures.proofs.Symbols.{external_there, target_referred}
 use Rattle.closures.proofs.Units.{IsDone, IsKept, depends_on, done_at}
 

@@ -2,8 +2,8 @@
 use Rattle.std.proofs.Common.{◌≡◌, ℕ, zero, suc, ◌+◌, ◌<◌, Bool, true, false, ◌&&◌, ◌==◌, not, cond, List, [], ◌∷◌, length, slice_get, Contains, sym, refl, ap, ◌∙◌, arith, Some, not-suc-le-zero}
 use Rattle.std.proofs.lemmas.Bool.{both_ways, and_from, and_parts, not-true, not_from_false, eq-eqb}
 use Rattle.std.proofs.lemmas.Option.{none-some, same_Some}
+use Rattle.link_laws.proofs.Symbols.{length_own}
 use Rattle.block_groups.specs.Groups.{is_own}
-use Rattle.block_groups.proofs.Keyed.{length_own}
 use Rattle.link_model.specs.Graph.{own_symbols, external_symbols, is_referred, numbers_where}
 use Rattle.link_model.specs.Image.{at_or}
 use Rattle.link_model.specs.declared.graph.Edge.{Edge}

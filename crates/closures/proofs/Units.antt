@@ -4,6 +4,7 @@ use Rattle.std.specs.Prelude.{option_and_then}
 use Rattle.std.specs.Option.{option_map_or}
 use Rattle.std.proofs.lemmas.Bool.{both_ways, and_from, eq-eqb}
 use Rattle.std.proofs.lemmas.Option.{none-some}
+use Rattle.list_laws.proofs.Lists.{some_below}
 use Rattle.orc_ids.specs.declared.ids.InstId.{InstId}
 use Rattle.block_groups.specs.Groups.{block_of, groups_of, needs}
 use Rattle.closure_laws.specs.Bound.{AreBound}
@@ -23,7 +24,7 @@ use Rattle.session_model.specs.declared.rows.Phase.TheVariants as phase
 use Rattle.session_model.specs.declared.rows.UnitPhase.TheVariants as stage
 use Rattle.session_units.specs.Meaning.{instances}
 use Rattle.closures.specs.Closures.{AreObjects, IsGraphUnit, IsObject, block_at, offer_place}
-use Rattle.closures.proofs.Lists.{map_here, some_below}
+use Rattle.closures.proofs.Lists.{map_here}
 use Rattle.closures.proofs.Members.{block_deps, bound_needed, instance_deps, owned_here, place_at, places_offered}
 
 -- what every legal history keeps of its units and instances

@@ -2,6 +2,7 @@
 use Rattle.std.proofs.Common.{◌≡◌, ℕ, zero, suc, ◌+◌, ◌*◌, ◌<◌, ◌≤◌, max, Bool, true, false, ◌&&◌, ◌||◌, not, ◌==◌, if◌then◌else◌, nat_lt, nat_le, length, Option, Some, None, refl, sym, ap, ◌∙◌, inl, inr, ◌⊎◌, arith}
 use Rattle.std.proofs.lemmas.Bool.{lt-ltb, le-leb, le-ltb, lt-leb, ltb-true, leb-true, and_from, and_parts, and_left, and_right, or_left, or_right, or_from, or_cases, or_parts, false_from_ne_true}
 use Rattle.std.proofs.lemmas.Bool.{false≢true}
+use Rattle.list_laws.proofs.Bools.{or_assoc}
 use Rattle.elf_read.specs.declared.error.ElfError.TheVariants.{Overlap, BadTable}
 use Rattle.elf_read.specs.declared.error.ElfError.{ElfError}
 use Rattle.elf_read.specs.declared.fields.SectionHeader.{SectionHeader}
@@ -68,10 +69,6 @@ pub any_below-none : (n : ℕ) (p : ℕ → Bool) → ((k : ℕ) → k < n → p
 any_below-none n p none = false_from_ne_true (any_below n p) (some_below n p none)
 
 -- ---- owners
-
-or_assoc : (a b c : Bool) → ((a || b) || c) ≡ (a || (b || c))
-or_assoc true b c = refl
-or_assoc false b c = refl
 
 pub is_owned-next : (f : File) (i k : ℕ) → is_owned f (i + 1) k ≡ (is_owned f i k || (takes_bytes f i && within (section f i).offset (section f i).size k))
 unfolding is_owned

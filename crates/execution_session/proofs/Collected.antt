@@ -2,6 +2,7 @@
 use Rattle.std.proofs.Common.{◌≡◌, ℕ, ◌≤◌, ◌<◌, true, false, List, slice_get, Option, Some, None, refl, ap, sym, subst, ◌∙◌}
 use Rattle.std.specs.Prelude.{◌≢◌, Ok, Err}
 use Rattle.std.proofs.lemmas.Bool.{both_ways}
+use Rattle.list_laws.proofs.Lists.{missing_past}
 use Rattle.orc_ids.specs.declared.ids.QueryId.{QueryId}
 use Rattle.orc_ids.specs.declared.ids.SeatNo.{SeatNo}
 use Rattle.orc_ids.specs.declared.lookup.Stop.{Stop}
@@ -30,7 +31,6 @@ use Rattle.execution_session.specs.Collected.{end_reply, is_open}
 use Rattle.execution_session.specs.Performs.{state_of, Enters, IsStopped, HasOpen, Collects}
 use Rattle.execution_session.specs.Stands.{Stands}
 use Rattle.execution_session.specs.Steps.{IsStep}
-use Rattle.execution_session.proofs.Elements.{missing_past}
 use Rattle.execution_session.proofs.Standing.{goes_by, entry}
 
 -- Open queries

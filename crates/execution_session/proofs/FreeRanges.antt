@@ -5,6 +5,7 @@ use Rattle.std.specs.List.{cons_option, AllByRecursion}
 use Rattle.std.proofs.lemmas.Bool.{cases_Bool, eqb-true, eq-eqb}
 use Rattle.std.proofs.lemmas.List.Elements.{All-from_recursion, recursion_from_All}
 use Rattle.std.proofs.lemmas.Option.{none-some, same_Some}
+use Rattle.list_laws.proofs.Lists.{missing_past}
 use Rattle.orc_ids.specs.declared.ids.UnitId.{UnitId}
 use Rattle.orc_ids.specs.declared.place.Shape.{Shape}
 use Rattle.session_model.specs.Plain.{UnitRow, unit_shape, placement, placements}
@@ -15,7 +16,6 @@ use Rattle.code_memory.specs.Places as places
 use Rattle.code_memory.specs.Places.{placement_of, is_of, placed_among, IsBeside, IsBesideAll, AreDistinct}
 use Rattle.code_memory.specs.declared.placement.Placement.{Placement}
 use Rattle.session_parts.specs.Stored.{stored, range_at, AreStored}
-use Rattle.execution_session.proofs.Elements.{missing_past}
 use Rattle.execution_session.proofs.StoredMemory.{bare_range}
 
 -- Lists

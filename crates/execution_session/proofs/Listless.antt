@@ -1,5 +1,5 @@
 -- Replies without a list of addresses: all but those of a collect and a take.
-use Rattle.std.proofs.Common.{◌≡◌, ℕ, ◌+◌, Bool, true, false, not, ◌&&◌, ◌||◌, ◌==◌, List, [], ◌∷◌, length, slice_get, subst, sym, refl, Option, Some, None, option_map}
+use Rattle.std.proofs.Common.{◌≡◌, ℕ, ◌+◌, true, false, not, ◌||◌, ◌==◌, List, [], ◌∷◌, length, slice_get, subst, sym, refl, Option, Some, None, option_map}
 use Rattle.std.specs.Bool.{⊤, if◌then◌else◌}
 use Rattle.std.specs.Option.{option_map_or}
 use Rattle.orc_ids.specs.declared.ids.InstId.{InstId}
@@ -8,13 +8,11 @@ use Rattle.session_model.specs.declared.entry.Reply.TheVariants as reply
 use Rattle.std.specs.List.{AllByRecursion}
 use Rattle.session_model.specs.Lists.{first_some, only_if, or_else}
 use Rattle.session_model.specs.Answer.{bad_dep, refused_lookup, lodged_reply, alias_cycle, answer_link, can_resolve, can_link, can_emit}
-use Rattle.session_model.specs.Chain.{comes_to_unit}
 use Rattle.orc_ids.specs.declared.place.Shape.{Shape}
 use Rattle.orc_ids.specs.declared.lookup.Level.TheVariants as level
 use Rattle.orc_ids.specs.declared.limits.TheConstants.{DYLIB_LIMIT, TRACKER_LIMIT, UNIT_LIMIT, GENERATOR_LIMIT, INSTANCE_LIMIT}
-use Rattle.session_model.specs.Plain.{is_alias, unit_shape, own_rows}
+use Rattle.session_model.specs.Plain.{unit_shape, own_rows}
 use Rattle.orc_ids.specs.declared.groups.Group.{Group}
-use Rattle.std.specs.Prelude.{filter_map}
 use Rattle.session_laws.proofs.Settling.{chosen}
 use Rattle.orc_ids.specs.declared.ids.NameId.{NameId}
 use Rattle.orc_ids.specs.declared.flags.SymFlags.{SymFlags}
@@ -22,27 +20,24 @@ use Rattle.orc_ids.specs.declared.lookup.OrderItem.{OrderItem}
 use Rattle.orc_ids.specs.declared.lookup.Wanted.{Wanted}
 use Rattle.orc_ids.specs.declared.lookup.Level.{Level}
 use Rattle.session_model.specs.Meaning.{Meaning}
-use Rattle.session_model.specs.Match.{match_of}
 use Rattle.session_model.specs.Change.{verdict, matched, link_matches}
 use Rattle.orc_ids.specs.declared.ids.DylibId.{DylibId}
 use Rattle.orc_ids.specs.declared.ids.GenId.{GenId}
 use Rattle.orc_ids.specs.declared.ids.TrackId.{TrackId}
-use Rattle.std.specs.Prelude.{is_none, nat_lt, nat_le}
+use Rattle.std.specs.Prelude.{nat_lt, nat_le}
 use Rattle.std.specs.List.{position_from}
 use Rattle.session_model.specs.Query.{all_at}
 use Rattle.session_model.specs.Change.{link_order}
-use Rattle.session_model.specs.Answer.{no_dylib, order_dylibs, tracker_gone, not_tracker_of, clash, answer_dylib, answer_set_order, answer_tracker, answer_move, answer_remove, answer_unit, answer_define, answer_attach, answer_generate, offer_of, error_of, missing_of, answer_lookup, answer_ask}
+use Rattle.session_model.specs.Answer.{no_dylib, order_dylibs, tracker_gone, not_tracker_of, clash, answer_dylib, answer_set_order, answer_tracker, answer_move, answer_remove, answer_unit, answer_define, answer_attach, answer_generate, answer_lookup, answer_ask}
 use Rattle.session_model.specs.declared.entry.Entry.{Entry}
 use Rattle.session_model.specs.declared.entry.Reply.{Reply}
 use Rattle.session_model.specs.Plain.{has_dylib, has_tracker, is_tracker_of, tracker_dylib}
-use Rattle.session_model.specs.declared.rows.Match.{Match}
-use Rattle.session_model.specs.declared.rows.Match.TheVariants.{Instance, Offered}
 use Rattle.session_model.specs.declared.rows.Verdict.{Verdict}
 use Rattle.session_model.specs.declared.rows.Verdict.TheVariants.{Kept, Replaces, Discarded, Clashes}
 use Rattle.session_model.specs.Answer.{AnswersPlace, AnswersCall, AnswersEmit, Answers, called, Called, Gone, Wrong, Right, can_place}
 use Rattle.session_model.specs.declared.entry.Event.{Event}
 use Rattle.session_model.specs.declared.entry.Event.TheVariants as event
-use Rattle.session_laws.proofs.Replies.{AllReplies, replies_map, replies_only, replies_first, replies_or, replies_else}
+use Rattle.session_laws.proofs.Replies.{AllReplies, replies_map, replies_only, replies_first, replies_or, replies_else, refusals_other, cycles_other}
 use Rattle.execution_session.specs.Steps.{has_list, lists}
 
 abbrev Listless : Reply → Type 0
@@ -102,34 +97,11 @@ generate_plain m g = split (slice_get m.generators g.0)
     split None = refl
     split (Some x) = chosen Listless x.spent (reply.Spent g) (answer_unit m x.dylib x.meaning) (λ b. refl) (λ b. unit_plain m x.dylib x.meaning)
 
-offer_other : (test : Reply → Bool) → ((g : GenId) → test (reply.Offer g) ≡ false) → (o : Option Match) → AllReplies (λ r. test r ≡ false) (offer_of o)
-offer_other test h None = tt
-offer_other test h (Some (Offered g)) = h g
-offer_other test h (Some (Instance i)) = tt
-
-error_other : (test : Reply → Bool) → ((i : InstId) → test (reply.InError i) ≡ false) → (m : Plain) (o : Option Match) → AllReplies (λ r. test r ≡ false) (error_of m o)
-error_other test h m None = tt
-error_other test h m (Some (Offered g)) = tt
-error_other test h m (Some (Instance i)) = replies_only (λ r. test r ≡ false) (failed_at m.rows i.0) (reply.InError i) (h i)
-
--- a lookup's refusals, where the test is false of each
-refusals_other : (test : Reply → Bool) → ((g : GenId) → test (reply.Offer g) ≡ false) → ((i : InstId) → test (reply.InError i) ≡ false) → ((n : NameId) → test (reply.Missing n) ≡ false) →
-    (m : Plain) (order : List OrderItem) (wanted : List Wanted) → AllReplies (λ r. test r ≡ false) (refused_lookup m order wanted)
-refusals_other test o f n m order wanted = replies_else (λ r. test r ≡ false) (first_some (λ (w : Wanted). offer_of (match_of m order w.name.0)) wanted) _
-    (replies_first (λ r. test r ≡ false) (λ (w : Wanted). offer_of (match_of m order w.name.0)) (λ w. offer_other test o (match_of m order w.name.0)) wanted)
-    (replies_else (λ r. test r ≡ false) (first_some (λ (w : Wanted). error_of m (match_of m order w.name.0)) wanted) _
-    (replies_first (λ r. test r ≡ false) (λ (w : Wanted). error_of m (match_of m order w.name.0)) (λ w. error_other test f m (match_of m order w.name.0)) wanted)
-    (replies_first (λ r. test r ≡ false) (missing_of m order) (λ w. replies_only (λ r. test r ≡ false) (not w.weak && is_none (match_of m order w.name.0)) (reply.Missing w.name) (n w.name)) wanted))
-
 lodged_plain : (m : Plain) (lev : Level) (found : List (Option InstId)) → Listless (lodged_reply m lev found)
 lodged_plain m lev found = chosen Listless (all_at m.rows lev found) (reply.Done (record { 0 = length m.queries })) (reply.Pending (record { 0 = length m.queries })) (λ b. refl) (λ b. refl)
 
 pub lookup_plain : (m : Plain) (order : List OrderItem) (wanted : List Wanted) (lev : Level) → Listless (answer_lookup m order wanted lev)
 lookup_plain m order wanted lev = replies_or Listless (refused_lookup m order wanted) (lodged_reply m lev (matched m order wanted)) (refusals_other has_list (λ g. refl) (λ i. refl) (λ n. refl) m order wanted) (lodged_plain m lev (matched m order wanted))
-
-cycles_other : (test : Reply → Bool) → ((i : InstId) → test (reply.AliasCycle i) ≡ false) → (m : Plain) (u : ℕ) (x : UnitRow) → AllReplies (λ r. test r ≡ false) (alias_cycle m u x)
-cycles_other test h m u x = replies_first (λ r. test r ≡ false) (λ (i : InstId). only_if (comes_to_unit m.rows m.units m.queries u i.0) (reply.AliasCycle i))
-    (λ i. replies_only (λ r. test r ≡ false) (comes_to_unit m.rows m.units m.queries u i.0) (reply.AliasCycle i) (h i)) (if is_alias x then filter_map (λ (o : Option InstId). o) (link_matches m x) else [])
 
 pub link_plain : (m : Plain) (u : ℕ) (x : UnitRow) → Listless (answer_link m u x)
 link_plain m u x = replies_or Listless (or_else (refused_lookup m (link_order m x) (x.meaning.externals x.live)) (alias_cycle m u x)) (lodged_reply m level.Resolved (link_matches m x))

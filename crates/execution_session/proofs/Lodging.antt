@@ -3,6 +3,7 @@ use Rattle.std.proofs.Common.{◌≡◌, ℕ, ◌≤◌, ◌⊎◌, inl, inr, Bo
 use Rattle.std.specs.Bool.{if◌then◌else◌}
 use Rattle.std.specs.Option.{option_map_or}
 use Rattle.std.proofs.lemmas.Bool.{both_ways}
+use Rattle.model_laws.proofs.Phases.{started_stage, linking_stage}
 use Rattle.orc_ids.specs.declared.ids.InstId.{InstId}
 use Rattle.orc_ids.specs.declared.ids.UnitId.{UnitId}
 use Rattle.orc_ids.specs.declared.limits.TheConstants.{ORDER_LIMIT, WANTED_LIMIT}
@@ -41,7 +42,6 @@ use Rattle.execution_session.specs.Fires.{is_lodged}
 use Rattle.execution_session.specs.Lookups.{Lodges, IsLodgingStep}
 use Rattle.execution_session.specs.Moved.{Lodged, HandsInLawful}
 use Rattle.execution_session.specs.Stands.{Stands}
-use Rattle.execution_session.proofs.RightCalls.{started, linking}
 use Rattle.execution_session.proofs.Standing.{goes_by}
 
 -- Replies
@@ -130,8 +130,8 @@ pub may_wait : (x : UnitRow) → can_link x ≡ true → (x.phase ≡ stage.Link
 may_wait x e = split (is_alias x) refl e
   where
     split : (b : Bool) → is_alias x ≡ b → is_stage (if b then stage.Started else stage.Linking) x.phase ≡ true → (x.phase ≡ stage.Linking) ⊎ ((x.phase ≡ stage.Started) × (is_alias x ≡ true))
-    split true a h = inr (started x.phase h, a)
-    split false a h = inl (linking x.phase h)
+    split true a h = inr (started_stage x.phase h, a)
+    split false a h = inl (linking_stage x.phase h)
 
 answers_right : (m : Plain) (s : ℕ) (u : UnitId) (x : UnitRow) (r : Reply) → called m s u can_link ≡ Right x → r ≡ answer_link m u.0 x → (jmax : ℕ) (past : List (Entry Meaning)) → Answers jmax past m s (event.Link u) r
 answers_right m s u x r right is jmax past = subst (λ c. AnswersCall c u (λ y. r ≡ answer_link m u.0 y) r) (sym right) is

@@ -3,6 +3,7 @@ use Rattle.std.proofs.Common.{◌≡◌, ℕ, ◌<◌, ◌^◌, List, slice_get,
 use Rattle.std.specs.Prelude.{IfSome, is_some}
 use Rattle.std.specs.Int.{IsPowerOfTwo}
 use Rattle.std.proofs.lemmas.Bool.{and_parts}
+use Rattle.model_laws.proofs.Phases.{started_stage}
 use Rattle.orc_ids.specs.declared.ids.UnitId.{UnitId}
 use Rattle.orc_ids.specs.declared.place.Shape.{Shape}
 use Rattle.session_model.specs.Meaning.{Meaning, IsLawful}
@@ -27,7 +28,6 @@ use Rattle.execution_session.specs.Handed.{IsLowest}
 use Rattle.execution_session.specs.Stands.{Stands}
 use Rattle.execution_session.specs.Steps.{IsQuietStep}
 use Rattle.execution_session.proofs.FreeRanges.{distinct_among, free_here, free_there}
-use Rattle.execution_session.proofs.RightCalls.{started}
 use Rattle.execution_session.proofs.Standing.{goes_by}
 
 -- the place is right, and of the unit's shape
@@ -39,7 +39,7 @@ pub place_unit : {U N : Type 0} (means : U → Meaning) (m : Plain) (p : Parts U
     (x : UnitRow) × (slice_get m.units u.0 ≡ Some x) × (x.phase ≡ stage.Started) × (x.base ≡ None) × (unit_shape x ≡ Some shape)
 place_unit means m p s u shape at may =
     let its = right_unit m s u can_place may.0 may.1 in
-    let phase = started (may.0).phase (and_parts (is_stage stage.Started (may.0).phase) (is_some (unit_shape may.0)) its.2).0 in
+    let phase = started_stage (may.0).phase (and_parts (is_stage stage.Started (may.0).phase) (is_some (unit_shape may.0)) its.2).0 in
     (may.0, its.0, phase, (at.sound.units_fit u.0 may.0 its.0).early (ap is_early phase), may.2)
 
 -- the shape of a lawful unit

@@ -3,13 +3,12 @@ use Rattle.std.proofs.Common.{◌≡◌, ℕ, ◌<◌, Bool, true, false, ◌==�
 use Rattle.std.specs.Bool.{if◌then◌else◌}
 use Rattle.std.specs.Prelude.{◌&&◌, nat_eq, is_some}
 use Rattle.std.specs.Option.{option_map_or}
-use Rattle.std.proofs.lemmas.Bool.{and_parts, both_ways, eqb-true}
+use Rattle.std.proofs.lemmas.Bool.{and_parts, eqb-true}
 use Rattle.orc_ids.specs.declared.ids.UnitId.{UnitId}
 use Rattle.session_model.specs.Plain.{Plain, UnitRow, is_defunct, is_owned}
-use Rattle.session_model.specs.Answer.{AnswersCall, Called, Gone, Wrong, Right, called, is_held, is_stage}
+use Rattle.session_model.specs.Answer.{AnswersCall, Called, Gone, Wrong, Right, called, is_held}
 use Rattle.session_model.specs.declared.entry.Reply.{Reply}
 use Rattle.session_model.specs.declared.rows.InstRow.{InstRow}
-use Rattle.session_model.specs.declared.rows.UnitPhase.{UnitPhase}
 use Rattle.session_model.specs.declared.rows.UnitPhase.TheVariants as stage
 use Rattle.session_laws.specs.Sound.{IsSound}
 use Rattle.instance_graph.specs.Graph.{NoneEmitted}
@@ -49,12 +48,3 @@ owned_offers m u offered i r x at own there = let parts = and_parts r.present (r
 -- the answer to a right call
 pub right_answer : (c : Called) (u : UnitId) (P : UnitRow → Type 0) (r : Reply) (x : UnitRow) → c ≡ Right x → P x → AnswersCall c u P r
 right_answer c u P r x is p = subst (λ d. AnswersCall d u P r) (sym is) p
-
--- the phases at which calls are right
-pub started : (p : UnitPhase) → is_stage stage.Started p ≡ true → p ≡ stage.Started
-started stage.Started e = refl
-started _ e = absurd (both_ways false refl e)
-
-pub linking : (p : UnitPhase) → is_stage stage.Linking p ≡ true → p ≡ stage.Linking
-linking stage.Linking e = refl
-linking _ e = absurd (both_ways false refl e)

@@ -4,6 +4,7 @@ use Rattle.std.specs.Bool.{if◌then◌else◌}
 use Rattle.std.specs.Prelude.{◌||◌, flat_map, option_map}
 use Rattle.std.specs.Vec.{vec_capacity}
 use Rattle.std.proofs.lemmas.Bool.{eq-eqb}
+use Rattle.list_laws.proofs.Lists.{list_same}
 use Rattle.orc_ids.specs.declared.ids.SeatNo.{SeatNo}
 use Rattle.orc_ids.specs.declared.lookup.Stop.{Stop}
 use Rattle.orc_ids.specs.declared.lookup.Stop.TheVariants as stop
@@ -34,7 +35,6 @@ use Rattle.session_parts.specs.declared.parts.Parts.{Parts}
 use Rattle.session_parts.specs.Ends.{AreEnds}
 use Rattle.session_parts.specs.Parts.{AreParts}
 use Rattle.session_parts.specs.Replies.{Refuses}
-use Rattle.session_parts.proofs.NewUnits.{same_list}
 use Rattle.execution_session.specs.declared.live.Live.{Live}
 use Rattle.execution_session.specs.Performs.{state_of, lacks_places, IsStopped, Enters}
 use Rattle.execution_session.specs.Rest.{IsAtRest, Rests}
@@ -135,7 +135,7 @@ enters means jmax h new capacity e p c grown = record { place = c.place; answere
 -- Nothing settles
 
 pub quiet_fires : {N : Type 0} (h : List (Entry Meaning)) (armed left : List (Option (Unheard N))) (fires : List (Notice N)) → AreFires h armed left fires → ((k : ℕ) → SettlesNow h k → ⊥) → (fires ≡ []) × (left ≡ armed)
-quiet_fires {N} h armed left fires f none = (f.told ∙ ap (flat_map (notice_of (state h) armed)) empty, same_list left armed (λ k. f.others k ∙ (ap (λ ns. option_map (λ (o : Option (Unheard N)). if is_one_of k ns then None else o) (slice_get armed k)) empty ∙ sym (unmapped (slice_get armed k)))))
+quiet_fires {N} h armed left fires f none = (f.told ∙ ap (flat_map (notice_of (state h) armed)) empty, list_same left armed (λ k. f.others k ∙ (ap (λ ns. option_map (λ (o : Option (Unheard N)). if is_one_of k ns then None else o) (slice_get armed k)) empty ∙ sym (unmapped (slice_get armed k)))))
   where
     no_number : (ns : List ℕ) → f.numbers ≡ ns → ns ≡ []
     no_number [] e = refl

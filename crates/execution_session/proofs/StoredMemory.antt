@@ -1,9 +1,11 @@
 -- What code memory has at an address is the session's memory.
-use Rattle.std.proofs.Common.{◌≡◌, ℕ, zero, suc, ◌+◌, ◌-◌, ◌<◌, ◌≤◌, Bool, true, false, ◌&&◌, ◌==◌, cond, nat_lt, nat_le, List, [], ◌∷◌, length, slice_get, ◌⊎◌, inl, inr, subst, sym, refl, ap, ◌∙◌, Option, Some, None, option_map, arith}
+use Rattle.std.proofs.Common.{◌≡◌, ℕ, suc, ◌+◌, ◌-◌, ◌<◌, ◌≤◌, Bool, true, false, ◌&&◌, ◌==◌, cond, nat_lt, nat_le, List, [], ◌∷◌, length, slice_get, ◌⊎◌, inl, inr, subst, sym, refl, ap, ◌∙◌, Option, Some, None, option_map, arith}
 use Rattle.std.specs.Bool.{if◌then◌else◌}
 use Rattle.std.specs.Prelude.{find, option_and_then, Result, Ok, Err, IfOk}
 use Rattle.std.proofs.lemmas.Bool.{cases_Bool, and_parts, eqb-true, eq-eqb, leb-true, le-leb, ltb-false}
 use Rattle.std.proofs.lemmas.Option.{none-some, same_Some}
+use Rattle.list_laws.proofs.Lists.{missing_past}
+use Rattle.model_laws.proofs.Choices.{none_chosen}
 use Rattle.orc_ids.specs.declared.ids.UnitId.{UnitId}
 use Rattle.orc_ids.specs.declared.limits.TheConstants.{CODE_START, CODE_END}
 use Rattle.orc_ids.specs.declared.place.Shape.{Shape}
@@ -20,7 +22,6 @@ use Rattle.code_memory.specs.declared.image.Segment.{Segment}
 use Rattle.code_memory.proofs.Deposited.{mapped_at}
 use Rattle.session_parts.specs.Stored.{stored, range_at, AreStored}
 use Rattle.execution_session.specs.Handed.{IsMemory}
-use Rattle.execution_session.proofs.Elements.{missing_past}
 
 -- The first element that chooses something
 
@@ -31,18 +32,6 @@ first_parts {X} {Y} f (x ∷ xs) y e = split (f x) refl e (first_parts f xs y)
     split : (o : Option Y) → f x ≡ o → or_else o (first_some f xs) ≡ Some y → (first_some f xs ≡ Some y → (k : ℕ) × (z : X) × (slice_get xs k ≡ Some z) × (f z ≡ Some y)) → (k : ℕ) × (z : X) × (slice_get (x ∷ xs) k ≡ Some z) × (f z ≡ Some y)
     split None t h rest = let p = rest h in (suc p.0, p.1, p.2, p.3)
     split (Some z) t h rest = (0, x, refl, t ∙ h)
-
-first_none : {X Y : Type 0} (f : X → Option Y) (xs : List X) → first_some f xs ≡ None → (k : ℕ) (x : X) → slice_get xs k ≡ Some x → f x ≡ None
-first_none f [] e k x t = absurd (none-some x t)
-first_none {X} {Y} f (z ∷ zs) e k x t = split (f z) refl e (first_none f zs)
-  where
-    split : (o : Option Y) → f z ≡ o → or_else o (first_some f zs) ≡ None → (first_some f zs ≡ None → (j : ℕ) (y : X) → slice_get zs j ≡ Some y → f y ≡ None) → f x ≡ None
-    split (Some y) g h rest = absurd (none-some y (sym h))
-    split None g h rest = at k t
-      where
-        at : (k : ℕ) → slice_get (z ∷ zs) k ≡ Some x → f x ≡ None
-        at zero t = ap f (sym (same_Some z x t)) ∙ g
-        at (suc j) t = rest h j x t
 
 -- A unit's byte
 
@@ -183,7 +172,7 @@ memory_is m p s laid address = split (memory m address) refl
         none : (o : Option ℕ) → byte_at (deposits p) address ≡ o → byte_at (deposits p) address ≡ None
         none None f = f
         none (Some byte) f = let x = byte_owned m.units p s address byte (deposited p address byte laid.distinct f) in
-            absurd (none-some byte (sym (first_none (unit_byte address) m.units e x.0 x.1 x.2) ∙ byte_of x.1 address byte x.3))
+            absurd (none-some byte (sym (none_chosen (unit_byte address) m.units e x.0 x.1 x.2) ∙ byte_of x.1 address byte x.3))
 
 pub memory_copied : {E : Type 0} (m : Plain) (p : List Placement) (copied : Result (List Segment) E) → AreStored m.units p → AreLaidOut p → IfOk copied (λ image. image ≡ deposits p) → IfOk copied (IsMemory m)
 memory_copied m p (Ok image) s laid e = λ address. ap (λ ss. byte_at ss address) e ∙ memory_is m p s laid address

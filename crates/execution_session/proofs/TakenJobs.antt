@@ -1,9 +1,8 @@
 -- Jobs that are handed out: the answers, the steps, and the unit that comes with a job.
-use Rattle.std.proofs.Common.{◌≡◌, ◌⊎◌, inl, inr, ℕ, ◌+◌, Ok, Bool, true, false, cond, suc, List, [], ◌∷◌, ◌++◌, slice_get, length, Option, Some, None, subst, sym, refl, ap, ◌∙◌, arith}
-use Rattle.std.specs.Prelude.{count_by}
+use Rattle.std.proofs.Common.{◌≡◌, ◌⊎◌, inl, inr, ℕ, ◌+◌, Ok, true, false, List, [], ◌∷◌, ◌++◌, slice_get, length, Option, Some, None, subst, sym, refl, ap, ◌∙◌, arith}
 use Rattle.std.proofs.lemmas.Bool.{both_ways, cases_eq}
-use Rattle.std.proofs.lemmas.List.Recursion.{is_count_by}
 use Rattle.std.proofs.lemmas.Option.{none-some, same_Some}
+use Rattle.list_laws.proofs.Lists.{missing_past}
 use Rattle.orc_ids.specs.declared.ids.SeatNo.{SeatNo}
 use Rattle.orc_ids.specs.declared.ids.UnitId.{UnitId}
 use Rattle.session_model.specs.Lists.{changed_at}
@@ -29,8 +28,7 @@ use Rattle.session_laws.proofs.Answering.{linked_ends}
 use Rattle.session_laws.proofs.Elements.{changed_elsewhere, changed_some, element_below, mapped_length, same_element}
 use Rattle.session_laws.proofs.Rising.{start_listed, finish_linked}
 use Rattle.session_laws.proofs.Settling.{settled_rows, settling_keeps}
-use Rattle.closure_laws.specs.Instances.{live_places}
-use Rattle.closure_laws.proofs.OwnRows.{instances_are_live}
+use Rattle.closure_laws.proofs.OwnRows.{instances_are_live, live_count}
 use Rattle.query_book.specs.declared.ends.QueryEnd.{QueryEnd}
 use Rattle.session_parts.specs.declared.parts.Parts.{Parts}
 use Rattle.session_parts.specs.Ends.{AreEnds, IsKept}
@@ -43,7 +41,6 @@ use Rattle.execution_session.specs.Steps.{IsQuietStep}
 use Rattle.execution_session.specs.Taken.{IsUnitOf, GivesUnit, BindsUnit, finishing_of, LinkEnd, CanHandOut}
 use Rattle.execution_session.proofs.Rested.{leads}
 use Rattle.execution_session.proofs.Standing.{goes_by}
-use Rattle.execution_session.proofs.Elements.{missing_past}
 
 -- What is known of a session at rest
 
@@ -66,19 +63,6 @@ link_end past ends u x are there linked =
     ended : (law : (k : ℕ) × (x.query ≡ Some k) × (n : ℕ) × (end : Ending) × IsEnd past k n end) (k : ℕ) (it : IsEnd past law.0 law.2 law.3) → (o : Option QueryEnd) × (slice_get ends law.0 ≡ Some o) → LinkEnd (state past) ends u
     ended law k it kept = let e = both_some kept.0 (open_is_not law.0 law.2 law.3 it kept.0 kept.1) in
         record { unit = x; there = there; query = law.0; its = law.1; end = e.0; ended = kept.1 ∙ ap Some e.1 }
-
--- how many names are live, wherever the first one is
-same_count : (j k : ℕ) (flags : List Bool) → length (live_places j flags) ≡ length (live_places k flags)
-same_count j k [] = refl
-same_count j k (true ∷ flags) = ap suc (same_count (j + 1) (k + 1) flags)
-same_count j k (false ∷ flags) = same_count (j + 1) (k + 1) flags
-
-live_count : (flags : List Bool) → length (live_places 0 flags) ≡ count_by (λ (b : Bool). b) flags
-live_count flags = is_count_by (λ bs. length (live_places 0 bs)) (λ (b : Bool). b) refl step flags
-  where
-    step : (b : Bool) (bs : List Bool) → length (live_places 0 (b ∷ bs)) ≡ cond b (1 + length (live_places 0 bs)) (length (live_places 0 bs))
-    step true bs = omega (arith, same_count (0 + 1) 0 bs)
-    step false bs = same_count (0 + 1) 0 bs
 
 pub can_hand_out : {U N : Type 0} (means : U → Meaning) (jmax : ℕ) (p : Parts U N) (h : List (Entry U)) (capacity : ℕ) → IsAtRest means jmax p h capacity → CanHandOut (state_of means h) p.book.ends
 can_hand_out means jmax p h capacity r = record {

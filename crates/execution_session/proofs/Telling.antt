@@ -4,9 +4,10 @@ use Rattle.std.specs.Bool.{if◌then◌else◌}
 use Rattle.std.specs.Prelude.{◌==◌, ◌↔◌, flat_map, option_and_then}
 use Rattle.std.specs.List.{list_any}
 use Rattle.std.specs.Option.{option_map_or}
-use Rattle.std.proofs.lemmas.Bool.{cases_eq, both_ways, and_parts, and_from, eq-eqb, ne_eqb, eqb-true}
+use Rattle.std.proofs.lemmas.Bool.{cases_eq, both_ways, and_parts, and_from, eq-eqb, ne_eqb, eqb-true, or_cases, or_left}
 use Rattle.std.proofs.lemmas.List.{length-append}
 use Rattle.std.proofs.lemmas.Option.{none-some, same_Some}
+use Rattle.list_laws.proofs.Lists.{set_there, set_elsewhere}
 use Rattle.session_model.specs.Meaning.{Meaning}
 use Rattle.session_model.specs.Plain.{Plain}
 use Rattle.session_model.specs.Query.{Stand, stand_at}
@@ -16,7 +17,6 @@ use Rattle.session_model.specs.declared.entry.Entry.{Entry}
 use Rattle.session_model.specs.declared.rows.InstRow.{InstRow}
 use Rattle.session_model.specs.declared.rows.Query.{Query}
 use Rattle.session_laws.proofs.Elements.{same_element, element_below}
-use Rattle.instances.proofs.Lists.{set_there, set_elsewhere}
 use Rattle.notifiers.specs.declared.notice.Unheard.{Unheard}
 use Rattle.notifiers.specs.declared.notice.Notice.{Notice}
 use Rattle.query_book.specs.declared.ends.QueryEnd.{QueryEnd}
@@ -63,10 +63,6 @@ or_later : (b : Bool) {c : Bool} → c ≡ true → (b || c) ≡ true
 or_later true e = refl
 or_later false e = e
 
-either : (b c : Bool) → (b || c) ≡ true → (b ≡ true) ⊎ (c ≡ true)
-either true c h = inl refl
-either false c h = inr h
-
 pub settling_is : (k n : ℕ) (s : ℕ → Stand) (qs : List Query) (ends : List (Option QueryEnd)) → is_one_of n (settling k s qs ends) ≡ true → (j : ℕ) × (n ≡ k + j) × IsSettling s qs ends j
 settling_is k n s [] ends c = absurd cc
 settling_is k n s (q ∷ qs) [] c = absurd cc
@@ -80,7 +76,7 @@ settling_is k n s (q ∷ qs) (end ∷ ends) c = split (settles s q end) refl (se
     here t (inr c) rest = later (rest c)
 
     split : (b : Bool) → settles s q end ≡ b → (is_one_of n (settling (suc k) s qs ends) ≡ true → (j : ℕ) × (n ≡ suc k + j) × IsSettling s qs ends j) → is_one_of n ((if b then k ∷ [] else []) ++ settling (suc k) s qs ends) ≡ true → (j : ℕ) × (n ≡ k + j) × IsSettling s (q ∷ qs) (end ∷ ends) j
-    split true t rest c = here t (either (k == n) (is_one_of n (settling (suc k) s qs ends)) c) rest
+    split true t rest c = here t (or_cases (k == n) (is_one_of n (settling (suc k) s qs ends)) c) rest
     split false t rest c = later (rest c)
 
 pub settling_has : (k j : ℕ) (s : ℕ → Stand) (qs : List Query) (ends : List (Option QueryEnd)) → IsSettling s qs ends j → is_one_of (k + j) (settling k s qs ends) ≡ true
@@ -152,14 +148,10 @@ ended_queries {N} at s k a = split (slice_get a.queries k)
     split None = refl
     split (Some q) = refl
 
-or_first : (b c : Bool) → b ≡ true → (b || c) ≡ true
-or_first true c e = refl
-or_first false c e = absurd cc
-
 pub left_all : {N : Type 0} (at : ℕ) (s : ℕ → Stand) (ks : List ℕ) (k : ℕ) (a : Account N) → ((n : ℕ) → is_one_of n ks ≡ true → (q : Query) × (slice_get a.queries n ≡ Some q)) → slice_get (ended_all at s ks a).armed k ≡ option_map (λ o. if is_one_of k ks then None else o) (slice_get a.armed k)
 left_all {N} at s [] k a h = unmapped (slice_get a.armed k)
 left_all {N} at s (n ∷ ns) k a h = left_all at s ns k (ended_one at s n a) (λ i c. let p = h i (or_later (n == i) c) in (p.0, ap (λ qs. slice_get qs i) (ended_queries at s n a) ∙ p.1))
-    ∙ (ap (option_map (λ o. if is_one_of k ns then None else o)) (let p = h n (or_first (n == n) (is_one_of n ns) (eq-eqb n n refl)) in left_one at s n k a p.0 p.1) ∙ both (n == k) (is_one_of k ns) (slice_get a.armed k))
+    ∙ (ap (option_map (λ o. if is_one_of k ns then None else o)) (let p = h n (or_left (n == n) (is_one_of n ns) (eq-eqb n n refl)) in left_one at s n k a p.0 p.1) ∙ both (n == k) (is_one_of k ns) (slice_get a.armed k))
   where
     both : (b c : Bool) (o : Option (Option (Unheard N))) → option_map (λ o. if c then None else o) (option_map (λ o. if b then None else o) o) ≡ option_map (λ o. if b || c then None else o) o
     both b c None = refl

@@ -5,7 +5,7 @@ use Rattle.std.specs.Fmt.{decimal}
 use Rattle.std.specs.List.{AllByRecursion, list_any, position_from, range_with_len}
 use Rattle.std.specs.Str.{bytes_eq}
 use Rattle.std.proofs.Math.Nat.{mod-lt}
-use Rattle.std.proofs.lemmas.Bool.{cases_eq, false_from_ne_true, ne_eqb}
+use Rattle.std.proofs.lemmas.Bool.{cases_eq, false_from_ne_true, ne_eqb, or_from}
 use Rattle.std.proofs.lemmas.Bool.Decides.{nat_tests}
 use Rattle.std.proofs.lemmas.Fmt.{decimal_by_steps, decimal_injective, length-decimal-le}
 use Rattle.std.proofs.lemmas.Slice.Eq.{bytes_eq-Decides}
@@ -34,13 +34,9 @@ digits n fits = decimal_by_steps (λ m ds. AreDigits ds) (λ m lt. (((omega arit
     last : (m : ℕ) → IsDigit (48 + m % 10)
     last m = let lt : m % 10 < 10 = mod-lt m (omega arith) in (omega arith, omega (arith, lt))
 
-neither : (t u : Bool) → t ≡ false → u ≡ false → (t || u) ≡ false
-neither true u h k = h
-neither false u h k = k
-
 none_of : (test : ℕ → Bool) → ((b : ℕ) → IsDigit b → test b ≡ false) → (bs : List ℕ) → AreDigits bs → list_any test bs ≡ false
 none_of test no_digit [] all = refl
-none_of test no_digit (b ∷ bs) all = neither (test b) (list_any test bs) (no_digit b all.0) (none_of test no_digit bs all.1)
+none_of test no_digit (b ∷ bs) all = or_from (test b) (list_any test bs) (no_digit b all.0) (none_of test no_digit bs all.1)
 
 -- ---- names
 
@@ -48,7 +44,7 @@ not_zero : (b : ℕ) → IsDigit b → (b == 0) ≡ false
 not_zero b is = let low = is.0 in ne_eqb b 0 (λ e. omega (arith, low, e))
 
 pub name_text : (k : ℕ) → k < 2 ^ 64 → IsText (function_name k)
-name_text k fits = neither false (list_any (λ b. b == 0) (decimal k)) refl (none_of (λ b. b == 0) not_zero (decimal k) (digits k fits))
+name_text k fits = or_from false (list_any (λ b. b == 0) (decimal k)) refl (none_of (λ b. b == 0) not_zero (decimal k) (digits k fits))
 
 printable : (b : ℕ) → IsDigit b → (nat_lt b 0x21 || b == 0x7f) ≡ false
 printable b is = let low = is.0 in let high = is.1 in grind (arith, nat_tests, low, high)
@@ -58,8 +54,8 @@ nonzero n = ne_eqb (suc n) 0 (λ e. omega (arith, e))
 
 pub name_good : (k : ℕ) → k < 2 ^ 64 → is_bad_name (function_name k) ≡ false
 unfolding is_bad_name
-name_good k fits = neither (length (function_name k) == 0) (list_any (λ b. nat_lt b 0x21 || b == 0x7f) (function_name k)) (nonzero (length (decimal k)))
-    (neither false (list_any (λ b. nat_lt b 0x21 || b == 0x7f) (decimal k)) refl (none_of (λ b. nat_lt b 0x21 || b == 0x7f) printable (decimal k) (digits k fits)))
+name_good k fits = or_from (length (function_name k) == 0) (list_any (λ b. nat_lt b 0x21 || b == 0x7f) (function_name k)) (nonzero (length (decimal k)))
+    (or_from false (list_any (λ b. nat_lt b 0x21 || b == 0x7f) (decimal k)) refl (none_of (λ b. nat_lt b 0x21 || b == 0x7f) printable (decimal k) (digits k fits)))
 
 pub name_short : (k : ℕ) → k < 2 ^ 64 → length (function_name k) ≤ 4096
 name_short k fits =

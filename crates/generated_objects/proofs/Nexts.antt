@@ -1,12 +1,8 @@
 -- The next function is one of them.
 use Rattle.std.proofs.Common.{◌≡◌, ℕ, ◌+◌, ◌-◌, ◌<◌, ◌⊎◌, inl, inr, Bool, true, false, refl, arith}
 use Rattle.std.specs.Prelude.{◌%◌, ◌==◌, ◌||◌, if◌then◌else◌}
-use Rattle.std.proofs.lemmas.Bool.{both_ways, cases_eq, eq-eqb}
+use Rattle.std.proofs.lemmas.Bool.{both_ways, cases_eq, eq-eqb, or_right}
 use Rattle.generated_objects.specs.Rings.{RING, first_of, next}
-
-or_right : (a b : Bool) → b ≡ true → (a || b) ≡ true
-or_right true b e = refl
-or_right false b e = e
 
 pub next_below : (n k : ℕ) → k < n → next n k < n
 next_below n k below = split (cases_eq (k + 1) n)

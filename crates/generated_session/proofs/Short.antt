@@ -8,6 +8,7 @@ use Rattle.std.proofs.lemmas.List.{length-append, length-map, length-take-le, ta
 use Rattle.std.proofs.lemmas.List.Elements.{All-weaker}
 use Rattle.std.proofs.lemmas.List.Sums.{count_by-le-length}
 use Rattle.std.proofs.lemmas.Option.{none-some, same_Some}
+use Rattle.list_laws.proofs.Each.{each_taken}
 use Rattle.orc_ids.specs.declared.lookup.Stop.{Stop}
 use Rattle.orc_ids.specs.declared.lookup.Stop.TheVariants.{JournalFull}
 use Rattle.session_model.specs.Calls.{numbered_calls}
@@ -50,11 +51,6 @@ total_front : {X : Type 0} (f : X → ℕ) (n : ℕ) (xs : List X) → total f (
 total_front f zero xs = omega arith
 total_front f (suc n) [] = omega arith
 total_front f (suc n) (x ∷ xs) = omega (arith, total_front f n xs)
-
-each_taken : {X : Type 0} (P : X → Type 0) (n : ℕ) (xs : List X) → AllByRecursion P xs → AllByRecursion P (take n xs)
-each_taken P zero xs a = tt
-each_taken P (suc n) [] a = tt
-each_taken P (suc n) (x ∷ xs) a = (a.0, each_taken P n xs a.1)
 
 taken_short : {X : Type 0} (n : ℕ) (xs : List X) → length (take n xs) ≤ length xs
 taken_short zero xs = omega arith

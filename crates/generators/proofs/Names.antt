@@ -1,7 +1,7 @@
 -- The names of a unit, one after the other.
 use Rattle.std.proofs.Common.{◌≡◌, ◌<◌, ℕ, zero, suc, ◌+◌, ◌-◌, Bool, true, false, ◌&&◌, ◌||◌, ◌==◌, List, [], ◌∷◌, ◌++◌, Some, slice_get, length, take, refl, sym, ap, ◌∙◌, arith}
 use Rattle.std.specs.Bool.{if◌then◌else◌}
-use Rattle.std.proofs.lemmas.Bool.{eqb-true, ne_eqb}
+use Rattle.std.proofs.lemmas.Bool.{eqb-true, ne_eqb, and_parts}
 use Rattle.std.proofs.lemmas.List.{take_more}
 use Rattle.std.proofs.lemmas.List.Folds.{list_any-append}
 use Rattle.std.proofs.lemmas.Option.{get_or_from_slice_get, slice_get_within}
@@ -47,16 +47,12 @@ one_after_other f true true false old mid new was is apart = is ∙ was
 one_after_other f true false true old mid new was is apart = is ∙ ap f was
 one_after_other f true false false old mid new was is apart = is ∙ was
 
-first_of_and : (a b : Bool) → (a && b) ≡ true → a ≡ true
-first_of_and true b is = refl
-first_of_and false b is = is
-
 pub names_more : (f : Queue → Queue) (offers : List (NameId × SymFlags)) (k : ℕ) (o : NameId × SymFlags) (scope : Scope) (here : Bool) (n : ℕ) (old mid new : Queue) → NamesDiffer offers → slice_get offers k ≡ Some o →
     mid ≡ (if here && offered_in (take k offers) scope n then f old else old) → new ≡ (if here && (o.0.0 == n && sees scope o.1) then f mid else mid) →
     new ≡ (if here && offered_in (take (k + 1) offers) scope n then f old else old)
 names_more f offers k o scope here n old mid new differ at was is =
     one_after_other f here (offered_in (take k offers) scope n) (o.0.0 == n && sees scope o.1) old mid new was is
-    (λ now. none_before offers k o scope n differ at (eqb-true o.0.0 n (first_of_and (o.0.0 == n) (sees scope o.1) now)))
+    (λ now. none_before offers k o scope n differ at (eqb-true o.0.0 n (and_parts (o.0.0 == n) (sees scope o.1) now).0))
     ∙ sym (ap (λ b. if here && b then f old else old) (offered_more offers k o scope n at))
 
 pub and_true : (b : Bool) → (b && true) ≡ b

@@ -1,7 +1,7 @@
 -- What becomes of the lines when one more joins one of them, or the spent ones leave it.
 use Rattle.std.proofs.Common.{◌≡◌, ◌<◌, ℕ, zero, suc, ◌+◌, ◌-◌, Bool, true, false, ◌&&◌, List, [], ◌∷◌, ◌++◌, Option, Some, nat_eq, cond, unwrap_or, refl, sym, ap, ◌∙◌, arith, subst, add-one}
 use Rattle.std.specs.Bool.{if◌then◌else◌}
-use Rattle.std.proofs.lemmas.Bool.{eq-eqb, eqb-true, ne_eqb}
+use Rattle.std.proofs.lemmas.Bool.{eq-eqb, eqb-true, ne_eqb, and_parts}
 use Rattle.generators.specs.declared.lines.Line.{Line}
 use Rattle.generators.specs.declared.lines.Lines.{Lines}
 use Rattle.generators.specs.Lines.{Queue, joined_by, from_unspent, line_at, turn_at, turns_from, queue_in, queue_at, ChangesLines, PutsLine, PutsTurn}
@@ -38,11 +38,6 @@ joined_line who other x g put =
     ap (λ (n : ℕ). record { joined = n; waiting = turns_from other x.first (x.waiting + 1) }) e
     ∙ ap (λ (gs : List ℕ). record { joined = x.first + x.waiting + 1; waiting = gs }) (ap (turns_from other x.first) (add-one x.waiting) ∙ turns_join who other g x.first x.waiting (x.first + x.waiting) refl put)
 
-both_true : (a b : Bool) → (a && b) ≡ true → (a ≡ true) × (b ≡ true)
-both_true true true is = (refl, refl)
-both_true true false is = absurd (grind (arith, is))
-both_true false b is = absurd (grind (arith, is))
-
 -- one line is what a function makes of it, and the others are as they were
 pub changed_queue : (l m : Lines) (d name : ℕ) (f : Queue → Queue) → queue_at m d name ≡ f (queue_at l d name) → ((e n : ℕ) → (nat_eq d e && nat_eq name n) ≡ false → queue_at m e n ≡ queue_at l e n) →
     ChangesLines d (nat_eq name) f l m
@@ -50,7 +45,7 @@ changed_queue l m d name f its others e n = split (nat_eq d e && nat_eq name n) 
   where
     split : (b : Bool) → (nat_eq d e && nat_eq name n) ≡ b → queue_at m e n ≡ (if b then f (queue_at l e n) else queue_at l e n)
     split true is =
-        let both = both_true (nat_eq d e) (nat_eq name n) is in
+        let both = and_parts (nat_eq d e) (nat_eq name n) is in
         subst (λ y. queue_at m y n ≡ f (queue_at l y n)) (eqb-true d e both.0) (subst (λ z. queue_at m d z ≡ f (queue_at l d z)) (eqb-true name n both.1) its)
     split false is = others e n is
 

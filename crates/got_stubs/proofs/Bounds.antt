@@ -2,14 +2,12 @@
 use Rattle.std.proofs.Common.{◌≡◌, ℕ, ◌+◌, ◌*◌, ◌<◌, ◌≤◌, List, length, take, get_or, sym, ap, subst, ◌∙◌, inl, inr, arith}
 use Rattle.std.specs.Prelude.{sum_by}
 use Rattle.std.proofs.lemmas.Bool.{cases_lt}
-use Rattle.std.proofs.lemmas.Nat.{pow_pos, pow_below}
+use Rattle.std.proofs.lemmas.Nat.{pow_below}
 use Rattle.std.proofs.lemmas.List.Sums.{sum_by_more, sum_by_more_le, sum_by-take-le}
+use Rattle.link_laws.proofs.Layouts.{align_positive}
 use Rattle.link_model.specs.Sound.{IsAlignment, IsSized, MAX_BLOCKS, MAX_BYTES}
 use Rattle.link_model.specs.declared.graph.Block.{Block}
 use Rattle.link_model.specs.declared.graph.LinkGraph.{LinkGraph}
-
-pub align_positive : (align : ℕ) → IsAlignment align → 0 < align
-align_positive align is = omega (arith, is.2, pow_pos is.0)
 
 pub align_small : (align : ℕ) → IsAlignment align → align ≤ 4096
 align_small align is = elim (cases_lt is.0 12) [

@@ -1,7 +1,6 @@
 -- Flags one after another, and the numbers that pass.
 use Rattle.std.proofs.Common.{◌≡◌, ℕ, zero, suc, ◌+◌, ◌<◌, ◌≤◌, Bool, true, false, cond, List, [], ◌∷◌, length, drop, refl, sym, ap, ◌∙◌, add-one, arith}
-use Rattle.link_model.specs.Graph.{is_defined, is_offered, first_flag, other_flags, own_symbols, numbers_where}
-use Rattle.link_model.specs.declared.graph.GSym.{GSym}
+use Rattle.link_model.specs.Graph.{other_flags, numbers_where}
 
 pub other_flags-drop : (live : List Bool) (n : ℕ) → other_flags (drop n live) ≡ drop (n + 1) live
 other_flags-drop live n = go live n ∙ ap (λ (k : ℕ). drop k live) (sym (add-one n))
@@ -11,14 +10,6 @@ other_flags-drop live n = go live n ∙ ap (λ (k : ℕ). drop k live) (sym (add
     go [] (suc n) = refl
     go (b ∷ bs) zero = refl
     go (b ∷ bs) (suc n) = go bs n
-
-pub length-own_symbols : (ss : List GSym) (live : List Bool) → length (own_symbols ss live) ≡ length ss
-length-own_symbols [] live = refl
-length-own_symbols (s ∷ ss) live = either (is_offered s) (length-own_symbols ss (other_flags live)) (length-own_symbols ss live)
-  where
-    either : (b : Bool) → length (own_symbols ss (other_flags live)) ≡ length ss → length (own_symbols ss live) ≡ length ss → length (cond b (first_flag live ∷ own_symbols ss (other_flags live)) (is_defined s.place ∷ own_symbols ss live)) ≡ suc (length ss)
-    either true h h' = ap suc h
-    either false h h' = ap suc h'
 
 -- no more numbers pass than there are flags
 pub length-numbers_where : (test : ℕ → Bool → Bool) (k : ℕ) (bs : List Bool) → length (numbers_where test k bs) ≤ length bs

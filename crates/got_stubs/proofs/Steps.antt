@@ -2,6 +2,7 @@
 use Rattle.std.proofs.Common.{◌≡◌, ℕ, zero, suc, ◌+◌, ◌*◌, ◌<◌, ◌≤◌, max, Bool, true, false, List, [], ◌∷◌, ◌++◌, length, get_or, take, drop, replicate, refl, sym, ap, subst, ◌∙◌, arith}
 use Rattle.std.specs.List.{All}
 use Rattle.std.proofs.lemmas.List.{append_assoc, length-append, at_drop_more, drop_all}
+use Rattle.link_laws.proofs.Symbols.{length_own}
 use Rattle.link_model.specs.Graph.{is_defined, is_offered, first_flag, other_flags, own_symbols, external_symbols}
 use Rattle.link_model.specs.Layout.{aligned, block_offsets, blocks_end, in_turn, layout_of, cell_symbols, stub_symbols, unit_align, CELL_SIZE, STUB_SIZE}
 use Rattle.link_model.specs.Sound.{Sound}
@@ -11,7 +12,7 @@ use Rattle.link_model.specs.declared.graph.GSym.{GSym}
 use Rattle.link_model.specs.declared.graph.LinkGraph.{LinkGraph}
 use Rattle.got_stubs.specs.declared.marks.Mark.{Mark}
 use Rattle.got_stubs.specs.Marks.{no_mark, AreMarks}
-use Rattle.got_stubs.proofs.Flags.{other_flags-drop, length-own_symbols}
+use Rattle.got_stubs.proofs.Flags.{other_flags-drop}
 use Rattle.got_stubs.proofs.Noted.{none_marked}
 
 -- one more at the end of what was made, one less at the start of what is left
@@ -57,7 +58,7 @@ no_more some rest all n e le = omega (arith, ap length e, length-append some res
 pub owners_whole : (ss : List GSym) (live rest made : List Bool) (k : ℕ) → made ++ own_symbols (drop k ss) rest ≡ own_symbols ss live → length ss ≤ k → length made ≡ length ss
 owners_whole ss live rest made k e end =
     let none : own_symbols (drop k ss) rest ≡ [] = ap (λ (xs : List GSym). own_symbols xs rest) (drop_all k ss end) in
-    let all : length (made ++ own_symbols (drop k ss) rest) ≡ length ss = ap length e ∙ length-own_symbols ss live in
+    let all : length (made ++ own_symbols (drop k ss) rest) ≡ length ss = ap length e ∙ length_own ss live in
     let more = ap (λ (xs : List Bool). length xs) none in
     omega (arith, length-append made (own_symbols (drop k ss) rest), all, more)
 

@@ -1,6 +1,7 @@
 -- One symbol more of a walk over the symbols that have a part.
 use Rattle.std.proofs.Common.{◌≡◌, ℕ, ◌+◌, ◌*◌, ◌<◌, Bool, true, false, cond, List, ◌∷◌, length, get_or, drop, max, refl, sym, ap, ◌∙◌, arith}
 use Rattle.std.proofs.lemmas.List.{at_drop_more, get_or_default}
+use Rattle.link_laws.proofs.Symbols.{length_own}
 use Rattle.link_model.specs.Graph.{is_defined, is_offered, first_flag, other_flags, own_symbols, numbers_where}
 use Rattle.link_model.specs.Layout.{aligned, cell_symbols, stub_symbols, layout_of, CELL_SIZE, STUB_SIZE}
 use Rattle.link_model.specs.declared.graph.GSym.{GSym}
@@ -10,7 +11,7 @@ use Rattle.got_stubs.specs.declared.parts.Part.{Part}
 use Rattle.got_stubs.specs.declared.plan.Plan.{Plan}
 use Rattle.got_stubs.specs.Marks.{no_mark, owner_of, next_offer, has_part, part_at, symbols_with}
 use Rattle.got_stubs.specs.Plan.{IsPlan}
-use Rattle.got_stubs.proofs.Flags.{other_flags-drop, length-own_symbols}
+use Rattle.got_stubs.proofs.Flags.{other_flags-drop}
 use Rattle.got_stubs.proofs.Noted.{part_test, part_symbols}
 
 pub owner_first : (b : Bool) (s : GSym) (ss : List GSym) (live : List Bool) (n : ℕ) → cond b (first_flag (drop n live) ∷ own_symbols ss (other_flags (drop n live))) (is_defined s.place ∷ own_symbols ss (drop n live)) ≡ cond b (first_flag (drop n live)) (is_defined s.place) ∷ own_symbols ss (drop (cond b (n + 1) n) live)
@@ -57,7 +58,7 @@ pub planned : (part : Part) (g : LinkGraph) (plan : Plan) (live : List Bool) (ma
 planned part g plan live marks ss is m s =
     ap (λ (xs : List Mark). symbols_with part xs ss live) m
     ∙ ap (λ (xs : List GSym). symbols_with part plan.marks.items xs live) s
-    ∙ part_symbols part g.edges plan.marks.items (own_symbols g.symbols live) (length-own_symbols g.symbols live ∙ sym is.whole) is.marks
+    ∙ part_symbols part g.edges plan.marks.items (own_symbols g.symbols live) (length_own g.symbols live ∙ sym is.whole) is.marks
 
 pub shape_is : (g : LinkGraph) (plan : Plan) (live : List Bool) (need cells stubs : ℕ) → IsPlan g plan → need ≡ max 16 (aligned (aligned (aligned plan.end 8 + CELL_SIZE * cells) 16 + STUB_SIZE * stubs) 16) → cells ≡ length (cell_symbols g live) → stubs ≡ length (stub_symbols g live) → record { need = need; align = plan.align } ≡ (layout_of g live).shape
 shape_is g plan live need cells stubs is e c s =

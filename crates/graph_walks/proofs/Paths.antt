@@ -67,7 +67,11 @@ within_sound (suc n) next test i e = from_cases (or_cases (test i) (list_any (wi
         let p = later k.0 k.2 in
         (p.0, reaches_next next i k.0 p.0 k.1 p.1, p.2)
 
-within_base : (n : ℕ) (next : ℕ → List ℕ) (test : ℕ → Bool) (i : ℕ) → test i ≡ true → within n next test i ≡ true
+pub within_zero : (next : ℕ → List ℕ) (test : ℕ → Bool) (i : ℕ) → within 0 next test i ≡ test i
+unfolding within
+within_zero next test i = refl
+
+pub within_base : (n : ℕ) (next : ℕ → List ℕ) (test : ℕ → Bool) (i : ℕ) → test i ≡ true → within n next test i ≡ true
 unfolding within
 within_base zero next test i e = e
 within_base (suc n) next test i e = or_left (test i) (list_any (within n next test) (next i)) e

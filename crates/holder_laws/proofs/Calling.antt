@@ -1,14 +1,15 @@
 -- The conditions of a seat's calls on a unit stay, whatever other seats do.
-use Rattle.std.proofs.Common.{◌≡◌, ℕ, suc, ◌+◌, Bool, true, false, ◌&&◌, List, [], ◌∷◌, ◌++◌, slice_get, inl, inr, subst, sym, refl, ap, ◌∙◌, unwrap_or}
+use Rattle.std.proofs.Common.{◌≡◌, ℕ, ◌+◌, Bool, true, false, ◌&&◌, List, [], ◌++◌, slice_get, inl, inr, subst, sym, refl, ap, ◌∙◌, unwrap_or}
 use Rattle.std.specs.Bool.{if◌then◌else◌}
 use Rattle.std.specs.Cmp.{both_ways}
 use Rattle.std.specs.Prelude.{nat_eq}
 use Rattle.std.specs.Option.{option_map_or}
 use Rattle.std.proofs.lemmas.Bool.{and_from, eq-eqb}
+pub use Rattle.model_laws.proofs.Units.{own_same as own_list}
 use Rattle.orc_ids.specs.declared.ids.InstId.{InstId}
 use Rattle.orc_ids.specs.declared.ids.UnitId.{UnitId}
 use Rattle.session_model.specs.Meaning.{Meaning}
-use Rattle.session_model.specs.Plain.{Plain, UnitRow, unit_shape, own_rows, is_owned, is_owned_at, is_defunct, kept}
+use Rattle.session_model.specs.Plain.{Plain, UnitRow, unit_shape, is_owned, is_owned_at, is_defunct, kept}
 use Rattle.session_model.specs.declared.rows.Ending.TheVariants.{Lost}
 use Rattle.session_model.specs.State.{state}
 use Rattle.session_model.specs.Answer.{AnswersCall, HasCause, LinkEnded, Gone, Wrong, Right, called, can_place, can_emit, is_held, is_stage}
@@ -67,13 +68,6 @@ place_stays jmax s u shape h more l places o may y e =
     ap unit_shape r.was.same ∙ may r.was.unit r.right
 
 -- The instances of the unit
-
-pub own_list : (u k : ℕ) (rows new : List InstRow) → ((i : ℕ) → is_owned_at u new i ≡ is_owned_at u rows i) → own_rows u k new ≡ own_rows u k rows
-own_list u k [] [] h = refl
-own_list u k [] (q ∷ qs) h = ap (λ b. if b then record { 0 = k } ∷ own_rows u (k + 1) qs else own_rows u (k + 1) qs) (h 0) ∙ own_list u (k + 1) [] qs (λ i. h (suc i))
-own_list u k (r ∷ rs) [] h = own_list u (k + 1) rs [] (λ i. h (suc i)) ∙ ap (λ b. if b then record { 0 = k } ∷ own_rows u (k + 1) rs else own_rows u (k + 1) rs) (h 0)
-own_list u k (r ∷ rs) (q ∷ qs) h = ap (λ b. if b then record { 0 = k } ∷ own_rows u (k + 1) qs else own_rows u (k + 1) qs) (h 0)
-    ∙ ap (λ l. if is_owned u r then record { 0 = k } ∷ l else l) (own_list u (k + 1) rs qs (λ i. h (suc i)))
 
 pub owned_same : (rows new : List InstRow) (u : ℕ) → OwnSame rows new u → (i : ℕ) → is_owned_at u new i ≡ is_owned_at u rows i
 owned_same rows new u own i = both_ways (is_owned_at u new i) (is_owned_at u rows i) back on

@@ -5,6 +5,7 @@ use Rattle.std.specs.Bool.{⊤, if◌then◌else◌}
 use Rattle.std.specs.Option.{option_map_or}
 use Rattle.std.proofs.lemmas.Bool.{both_ways, cases_Bool}
 use Rattle.std.proofs.lemmas.Option.{none-some, same_Some}
+use Rattle.model_laws.proofs.Phases.{defunct_stage}
 use Rattle.orc_ids.specs.declared.ids.InstId.{InstId}
 use Rattle.session_model.specs.Lists.{changed_at, numbered}
 use Rattle.session_model.specs.Meaning.{Meaning}
@@ -30,7 +31,7 @@ use Rattle.session_laws.proofs.Rising.{defunct_stays}
 use Rattle.session_laws.proofs.Settling.{chosen, settling_keeps}
 use Rattle.closure_laws.proofs.Histories.{OneMore}
 use Rattle.holder_laws.specs.Holders.{Holds, WasHeld, OthersGiveNone}
-use Rattle.holder_laws.proofs.Others.{others_along, gone_phase}
+use Rattle.holder_laws.proofs.Others.{others_along}
 
 -- each unit that the seat holds now it held before
 abbrev pub GivesNone : ℕ → List UnitRow → List UnitRow → Type 0
@@ -148,5 +149,5 @@ others_give_none jmax h more l s u y o b = split (cases_Bool (is_defunct x.0.pha
     x = others_seat_none jmax s h more l o u y b.there b.seat
 
     split : (is_defunct x.0.phase ≡ true) ⊎ (is_defunct x.0.phase ≡ false) → WasHeld (state h) (state (h ++ more)) s u y
-    split (inl d) = let z = defunct_stays jmax h more l u x.0 x.1 (gone_phase x.0.phase d) in absurd (here_gone (slice_get (state (h ++ more)).units u) z.0 y z.1 b.there z.2 b.here)
+    split (inl d) = let z = defunct_stays jmax h more l u x.0 x.1 (defunct_stage x.0.phase d) in absurd (here_gone (slice_get (state (h ++ more)).units u) z.0 y z.1 b.there z.2 b.here)
     split (inr d) = was_held (state h) (state (h ++ more)) s u x.0 y (record { there = x.1; seat = x.2; here = d }) b (held_stays jmax h more l s u x.0 x.1 x.2 d o)

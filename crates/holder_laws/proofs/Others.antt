@@ -1,13 +1,13 @@
 -- Along entries of other seats.
 use Rattle.std.proofs.Common.{◌≡◌, ℕ, zero, suc, true, false, List, [], ◌∷◌, ◌++◌, slice_get, ◌⊎◌, inl, inr, append_assoc, append-nil, subst, sym, refl, ◌∙◌, Some}
-use Rattle.std.proofs.lemmas.Bool.{both_ways, cases_Bool}
+use Rattle.std.proofs.lemmas.Bool.{cases_Bool}
 use Rattle.std.proofs.lemmas.Option.{none-some, same_Some}
+use Rattle.model_laws.proofs.Phases.{defunct_stage}
 use Rattle.session_model.specs.Meaning.{Meaning}
 use Rattle.session_model.specs.Plain.{Plain, UnitRow, is_defunct}
 use Rattle.session_model.specs.State.{state}
 use Rattle.session_model.specs.History.{IsLegal}
 use Rattle.session_model.specs.declared.entry.Entry.{Entry}
-use Rattle.session_model.specs.declared.rows.UnitPhase.{UnitPhase}
 use Rattle.session_model.specs.declared.rows.UnitPhase.TheVariants as stage
 use Rattle.session_laws.specs.Holding.{AllOthers}
 use Rattle.session_laws.proofs.Along.{prefixes_legal}
@@ -27,10 +27,6 @@ pub one_other : (s : ℕ) (e : Entry Meaning) → (e.seat.0 ≡ s → ⊥) → A
 one_other s e apart zero f is = subst (λ (g : Entry Meaning). g.seat.0 ≡ s → ⊥) (same_Some e f is) apart
 one_other s e apart (suc k) f is = absurd (none-some f is)
 
-pub gone_phase : (p : UnitPhase) → is_defunct p ≡ true → p ≡ stage.Defunct
-gone_phase stage.Defunct e = refl
-gone_phase _ e = absurd (both_ways false refl e)
-
 -- the unit is the seat's, gone or not
 abbrev pub IsSeated : Plain → ℕ → ℕ → Type 0
 IsSeated m s u = (x : UnitRow) × (slice_get m.units u ≡ Some x) × (x.seat ≡ Some s)
@@ -39,5 +35,5 @@ pub seat_stays : (jmax : ℕ) (h more : List (Entry Meaning)) → IsLegal jmax (
 seat_stays jmax h more l s u o p = split (cases_Bool (is_defunct p.0.phase))
   where
     split : (is_defunct p.0.phase ≡ true) ⊎ (is_defunct p.0.phase ≡ false) → IsSeated (state (h ++ more)) s u
-    split (inl d) = let q = gone_stays_held jmax h more l s u p.0 p.1 p.2 (gone_phase p.0.phase d) o in (q.0, q.1, q.3)
+    split (inl d) = let q = gone_stays_held jmax h more l s u p.0 p.1 p.2 (defunct_stage p.0.phase d) o in (q.0, q.1, q.3)
     split (inr d) = let q = held_stays jmax h more l s u p.0 p.1 p.2 d o in (q.unit, q.there, q.seat ∙ p.2)

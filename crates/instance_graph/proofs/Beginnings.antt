@@ -1,10 +1,11 @@
 -- With which instances a failure begins, and what a removal makes of rows.
-use Rattle.std.proofs.Common.{◌≡◌, ℕ, suc, ◌+◌, ◌<◌, ◌≤◌, Bool, true, false, ◌&&◌, ◌||◌, ◌==◌, not, List, [], ◌∷◌, map, length, ◌⊎◌, inl, inr, Option, Some, None, option_map, slice_get, refl, ap, ap₂, sym, subst, ◌∙◌, arith, suc-le-suc}
-use Rattle.std.specs.Prelude.{nat_lt, nat_le, All}
+use Rattle.std.proofs.Common.{◌≡◌, ℕ, ◌+◌, ◌<◌, ◌≤◌, Bool, true, false, ◌&&◌, ◌||◌, ◌==◌, not, List, [], ◌∷◌, map, length, ◌⊎◌, inl, inr, Option, Some, None, option_map, slice_get, refl, ap, ap₂, sym, ◌∙◌, arith}
+use Rattle.std.specs.Prelude.{nat_lt, nat_le}
 use Rattle.std.specs.Option.{option_map_or}
 use Rattle.std.proofs.lemmas.Bool.{eqb-true, eq-eqb, or_cases}
 use Rattle.std.proofs.lemmas.Bool.Decides.{nat_tests}
 use Rattle.std.proofs.lemmas.Option.{slice_get_within}
+use Rattle.list_laws.proofs.Bools.{bool_same, or_assoc}
 use Rattle.orc_ids.specs.declared.ids.UnitId.{UnitId}
 use Rattle.session_model.specs.Plain.{is_owned, is_owned_at, present_at}
 use Rattle.session_model.specs.Reach.{is_ready}
@@ -13,7 +14,6 @@ use Rattle.instances.specs.Spans.{IsSpan}
 use Rattle.instances.specs.Table as one
 use Rattle.instances.proofs.Kept.{map_changed}
 use Rattle.instance_graph.specs.Removal.{is_gone, roots, removed_row}
-use Rattle.instance_graph.proofs.Readiness.{bool_same}
 use Rattle.instance_graph.proofs.Standings.{IsAlike}
 
 -- one instance more was looked at
@@ -85,10 +85,6 @@ roots_nil rows k = by_row (slice_get rows k)
         and_false true = refl
         and_false false = refl
 
-or_assoc : (a b c : Bool) → ((a || b) || c) ≡ (a || (b || c))
-or_assoc true b c = refl
-or_assoc false b c = refl
-
 -- the next unit's instances were added
 pub roots_step : (start now new : Bool) (u : UnitId) (us all : List UnitId) (rows : List InstRow) (k : ℕ) → new ≡ (now || (is_owned_at u.0 rows k && not (is_ready rows k))) → (now || roots (u ∷ us) rows k) ≡ (start || roots all rows k) → (new || roots us rows k) ≡ (start || roots all rows k)
 roots_step start now new u us all rows k e so_far =
@@ -122,10 +118,6 @@ removed_nil (r ∷ rs) = ap₂ (λ x xs. x ∷ xs) (ap (λ b. record r { present
     and_true : (b : Bool) → (b && true) ≡ b
     and_true true = refl
     and_true false = refl
-
--- the same is so of the other units
-pub all_rest : (n : ℕ) (xs : List UnitId) (u : UnitId) (us : List UnitId) → xs ≡ u ∷ us → All (λ (v : UnitId). v.0 < n) xs → All (λ (v : UnitId). v.0 < n) us
-all_rest n xs u us e h = λ k d b. subst (λ ys. All (λ (v : UnitId). v.0 < n) ys) e h (suc k) d (suc-le-suc b)
 
 -- a row with the unit of another
 abbrev pub HasUnitAt : List InstRow → ℕ → InstRow → Type 0

@@ -1,9 +1,10 @@
 -- What a failure hits, by the frontier and by the rows.
-use Rattle.std.proofs.Common.{◌≡◌, ℕ, suc, ◌+◌, Bool, true, false, ◌&&◌, not, List, [], ◌∷◌, ◌⊎◌, inl, inr, Option, Some, None, option_map, slice_get, refl, ap, ap₂, sym, ◌∙◌}
+use Rattle.std.proofs.Common.{◌≡◌, ℕ, ◌+◌, Bool, true, false, ◌&&◌, not, List, [], ◌∷◌, ◌⊎◌, inl, inr, Option, Some, None, option_map, slice_get, refl, ap, ap₂, sym, ◌∙◌}
 use Rattle.std.specs.Prelude.{if◌then◌else◌}
 use Rattle.std.specs.Option.{option_map_or}
 use Rattle.std.proofs.lemmas.Bool.{both_ways, cases_Bool, false_from_ne_true}
-use Rattle.std.proofs.lemmas.Option.{none-some, same_Some}
+use Rattle.list_laws.proofs.Bools.{bool_same}
+use Rattle.list_laws.proofs.Lists.{list_same}
 use Rattle.orc_ids.specs.declared.ids.InstId.{InstId}
 use Rattle.session_model.specs.Change.{hit_row, hits_failed}
 use Rattle.session_model.specs.Lists.{numbered}
@@ -18,16 +19,8 @@ use Rattle.instances.proofs.Kept.{numbered_changed}
 use Rattle.instance_graph.specs.Graph.{NoneEmitted}
 use Rattle.instance_graph.specs.Tied.{entry_of, IsTied}
 use Rattle.instance_graph.proofs.Members.{among_contains, contains_among}
-use Rattle.instance_graph.proofs.Readiness.{tested, ready_same, ready_carried, ready_self, ready_emitted, ready_rows, ready_entries, next_tied, path_same, bool_same}
+use Rattle.instance_graph.proofs.Readiness.{tested, ready_same, ready_carried, ready_self, ready_emitted, ready_rows, ready_entries, next_tied, path_same}
 use Rattle.instance_graph.proofs.Standings.{IsAlike, alike_same}
-
--- Lists that have the same in each place
-
-pub list_same : {X : Type 0} (xs ys : List X) → ((i : ℕ) → slice_get xs i ≡ slice_get ys i) → xs ≡ ys
-list_same [] [] h = refl
-list_same [] (y ∷ ys) h = absurd (none-some y (h 0))
-list_same (x ∷ xs) [] h = absurd (none-some x (sym (h 0)))
-list_same (x ∷ xs) (y ∷ ys) h = ap₂ (λ z zs. z ∷ zs) (same_Some x y (h 0)) (list_same xs ys (λ i. h (suc i)))
 
 -- The same hits
 

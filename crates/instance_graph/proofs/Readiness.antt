@@ -2,6 +2,7 @@
 use Rattle.std.proofs.Common.{◌≡◌, ℕ, Bool, true, false, ◌↔◌, List, [], ◌∷◌, Option, Some, None, option_map, slice_get, Contains, refl, ap, sym, subst, ◌∙◌}
 use Rattle.std.specs.Option.{option_map_or}
 use Rattle.std.specs.Prelude.{IsTrue}
+use Rattle.list_laws.proofs.Bools.{bool_same}
 use Rattle.graph_walks.specs.Walks.{IsPath}
 use Rattle.graph_walks.proofs.Paths as walks
 use Rattle.session_model.specs.Plain.{is_emitted, phase_deps, emitted_at}
@@ -63,11 +64,6 @@ ready_entries rows entries t i h = record {
 -- the test over the rows is readiness over the entries
 pub tested : ReadyIsTested → (rows : List InstRow) (entries : List frontier.Entry) → IsTied rows entries → (i : ℕ) → (is_ready rows i ≡ true) ↔ frontier.IsReady entries i
 tested law rows entries t i = (λ e. ready_entries rows entries t i ((law rows i).0 e), λ h. (law rows i).1 (ready_rows rows entries t i h))
-
-pub bool_same : (a b : Bool) → (a ≡ true → b ≡ true) → (b ≡ true → a ≡ true) → a ≡ b
-bool_same true b f g = sym (f refl)
-bool_same false true f g = g refl
-bool_same false false f g = refl
 
 -- What is ready reaches only what is
 

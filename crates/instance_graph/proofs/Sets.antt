@@ -5,9 +5,9 @@ use Rattle.std.specs.Option.{option_map_or}
 use Rattle.std.proofs.lemmas.Bool.{both_ways, lt-ltb, le-ltb, not-true}
 use Rattle.std.proofs.lemmas.Bool.Decides.{eqb_tells, nat_tests}
 use Rattle.std.proofs.lemmas.List.Folds.{list_any-append}
+use Rattle.list_laws.proofs.Lists.{set_there, set_elsewhere}
 use Rattle.orc_ids.specs.declared.ids.InstId.{InstId}
 use Rattle.instances.specs.Table.{is_among}
-use Rattle.instances.proofs.Lists.{set_there, set_elsewhere}
 use Rattle.instance_graph.specs.Sets.{is_set, unset, AreFlagged}
 
 -- Flags

@@ -4,6 +4,7 @@ use Rattle.std.specs.Prelude.{if◌then◌else◌, IsSome, nat_lt, nat_le}
 use Rattle.std.specs.Option.{option_map_or}
 use Rattle.std.proofs.lemmas.Bool.{both_ways, or_parts, or_left, or_right, and_parts, lt-ltb, eqb-true, false_from_ne_true}
 use Rattle.std.proofs.lemmas.Bool.Decides.{nat_tests}
+use Rattle.model_laws.proofs.Phases.{emitted_unfailed}
 use Rattle.orc_ids.specs.declared.flags.SymFlags.{SymFlags}
 use Rattle.orc_ids.specs.declared.ids.InstId.{InstId}
 use Rattle.orc_ids.specs.declared.ids.NameId.{NameId}
@@ -130,13 +131,6 @@ emitted_address (phase.Resolved a) e = absurd (both_ways false refl e)
 emitted_address (phase.Emitted a d) e = refl
 emitted_address phase.Failed e = absurd (both_ways false refl e)
 
-pub emitted_unfailed : (p : Phase) → is_emitted p ≡ true → is_failed p ≡ false
-emitted_unfailed phase.Unsearched e = refl
-emitted_unfailed phase.Claimed e = refl
-emitted_unfailed (phase.Resolved a) e = refl
-emitted_unfailed (phase.Emitted a d) e = refl
-emitted_unfailed phase.Failed e = absurd (both_ways false refl e)
-
 pub emitted_stands : (rows : List InstRow) (i : ℕ) → emitted_at rows i ≡ true → IsSome (address_at rows i) × (failed_at rows i ≡ false)
 emitted_stands rows i e = by_row (slice_get rows i) e
   where
@@ -170,11 +164,6 @@ unspanned rows u first count i n r new old s t e h none = false_from_ne_true (is
     both_ways new none (e ∙ or_right old (nat_le first i && nat_lt i (first + count) && nat_lt i n) is))
 
 -- Definitions
-
-pub in_front : {X : Type 0} (xs ys : List X) (i : ℕ) → i < length xs → slice_get (xs ++ ys) i ≡ slice_get xs i
-in_front [] ys i h = absurd (omega (arith, h))
-in_front (x ∷ xs) ys zero h = refl
-in_front (x ∷ xs) ys (suc i) h = in_front xs ys i (omega (arith, h))
 
 -- what isn't asked for yet isn't emitted
 fresh_absent : (d u k : ℕ) (offers : List (NameId × SymFlags)) (live : List Bool) (i : ℕ) → row_entry (fresh_rows d u k offers live) i ≡ frontier.Absent

@@ -2,21 +2,15 @@
 use Rattle.std.proofs.Common.{◌≡◌, ℕ, suc, ◌+◌, ◌<◌, ◌≤◌, Bool, true, false, ◌||◌, ◌==◌, List, [], ◌∷◌, drop, length, slice_get, Option, Some, None, option_map, refl, ap, sym, ◌∙◌}
 use Rattle.std.specs.List.{list_any}
 use Rattle.std.proofs.lemmas.Option.{none-some}
+use Rattle.model_laws.proofs.Choices.{or_else_assoc, or_else_none}
+use Rattle.list_laws.proofs.Lists.{drop_some}
 use Rattle.orc_ids.specs.declared.ids.InstId.{InstId}
 use Rattle.orc_ids.specs.declared.groups.Group.{Group}
 use Rattle.session_model.specs.Lists.{only_if, or_else, first_some}
 use Rattle.instances.specs.Groups.{group_deps, IsFilled, HasDeps}
-use Rattle.instances.proofs.Lists.{drop_one, drop_past}
+use Rattle.instances.proofs.Lists.{drop_past}
 
 -- Filling a table
-
-or_else_assoc : {X : Type 0} (a b c : Option X) → or_else (or_else a b) c ≡ or_else a (or_else b c)
-or_else_assoc None b c = refl
-or_else_assoc (Some x) b c = refl
-
-or_else_none : {X : Type 0} (a : Option X) → or_else a None ≡ a
-or_else_none None = refl
-or_else_none (Some x) = refl
 
 -- what the rest gives comes after what was given so far
 abbrev pub Filling : {X : Type 0} → (X → ℕ → Option (List InstId)) → List X → ℕ → List (Option (List InstId)) → List (Option (List InstId)) → Type 0
@@ -34,7 +28,7 @@ pub filled_more : {X : Type 0} (F : X → ℕ → Option (List InstId)) (xs : Li
 filled_more F xs k x start now new t so_far step j =
     ap (option_map (λ o. or_else o (first_some (λ y. F y j) (drop (k + 1) xs)))) (step j)
     ∙ twice (slice_get now j) (F x j) (first_some (λ y. F y j) (drop (k + 1) xs))
-    ∙ ap (λ l. option_map (λ o. or_else o (first_some (λ y. F y j) l)) (slice_get now j)) (sym (drop_one xs k x t))
+    ∙ ap (λ l. option_map (λ o. or_else o (first_some (λ y. F y j) l)) (slice_get now j)) (sym (drop_some xs k x t))
     ∙ so_far j
 
 pub filled_all : {X : Type 0} (F : X → ℕ → Option (List InstId)) (xs : List X) (k : ℕ) (start now : List (Option (List InstId))) → length xs ≤ k → Filling F xs k start now → IsFilled (λ j. first_some (λ x. F x j) xs) start now

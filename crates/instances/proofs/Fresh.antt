@@ -2,12 +2,12 @@
 use Rattle.std.proofs.Common.{◌≡◌, ℕ, zero, suc, ◌+◌, ◌≤◌, Bool, true, false, List, [], ◌∷◌, ◌++◌, drop, length, slice_get, Some, refl, ap, ap₂, sym, ◌∙◌, arith, append_assoc}
 use Rattle.std.proofs.lemmas.List.{length-append}
 use Rattle.std.proofs.lemmas.Option.{none-some, same_Some}
+use Rattle.list_laws.proofs.Lists.{drop_some}
 use Rattle.orc_ids.specs.declared.flags.SymFlags.{SymFlags}
 use Rattle.orc_ids.specs.declared.ids.NameId.{NameId}
 use Rattle.session_model.specs.Change.{new_row}
 use Rattle.session_model.specs.declared.rows.InstRow.{InstRow}
 use Rattle.instances.specs.Table.{fresh_rows}
-use Rattle.instances.proofs.Lists.{drop_one}
 
 one_more : (d u k : ℕ) (offer : NameId × SymFlags) (offers : List (NameId × SymFlags)) (flag : Bool) (live : List Bool) → fresh_rows d u k (offer ∷ []) (flag ∷ []) ++ fresh_rows d u (k + 1) offers live ≡ fresh_rows d u k (offer ∷ offers) (flag ∷ live)
 one_more d u k offer offers true live = refl
@@ -19,7 +19,7 @@ pub fresh_more : (d u k : ℕ) (offers : List (NameId × SymFlags)) (live : List
 fresh_more d u k offers live offer flag now a b =
     append_assoc now (fresh_rows d u k (offer ∷ []) (flag ∷ [])) (fresh_rows d u (k + 1) (drop (k + 1) offers) (drop (k + 1) live))
     ∙ ap (λ xs. now ++ xs) (one_more d u k offer (drop (k + 1) offers) flag (drop (k + 1) live))
-    ∙ ap₂ (λ xs ys. now ++ fresh_rows d u k xs ys) (sym (drop_one offers k offer a)) (sym (drop_one live k flag b))
+    ∙ ap₂ (λ xs ys. now ++ fresh_rows d u k xs ys) (sym (drop_some offers k offer a)) (sym (drop_some live k flag b))
 
 at_most_one : (d u k : ℕ) (offer : NameId × SymFlags) (flag : Bool) → length (fresh_rows d u k (offer ∷ []) (flag ∷ [])) ≤ 1
 at_most_one d u k offer true = omega arith

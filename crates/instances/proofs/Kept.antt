@@ -2,6 +2,7 @@
 use Rattle.std.proofs.Common.{◌≡◌, ℕ, zero, suc, ◌+◌, ◌<◌, ◌≤◌, ◌-◌, map, List, [], ◌∷◌, ◌++◌, length, slice_get, Option, Some, None, option_map, ◌⊎◌, inl, inr, refl, ap, sym, subst, ◌∙◌, arith}
 use Rattle.std.proofs.lemmas.List.{length-append}
 use Rattle.std.proofs.lemmas.Option.{none-some, same_Some, slice_get_within}
+use Rattle.list_laws.proofs.Lists.{appended_below}
 use Rattle.orc_ids.specs.declared.limits.TheConstants.{INSTANCE_LIMIT}
 use Rattle.session_model.specs.Lists.{numbered}
 use Rattle.session_model.specs.declared.rows.InstRow.{InstRow}
@@ -52,11 +53,6 @@ spanned_changed f old new its same h s = record {
 
 -- One more unit
 
-in_front : {X : Type 0} (xs ys : List X) (i : ℕ) → i < length xs → slice_get (xs ++ ys) i ≡ slice_get xs i
-in_front [] ys i h = absurd (omega (arith, h))
-in_front (x ∷ xs) ys zero h = refl
-in_front (x ∷ xs) ys (suc i) h = in_front xs ys i (omega (arith, h))
-
 behind : {X : Type 0} (xs ys : List X) (i : ℕ) → length xs ≤ i → slice_get (xs ++ ys) i ≡ slice_get ys (i - length xs)
 behind [] ys i h = ap (slice_get ys) (omega arith)
 behind (x ∷ xs) ys zero h = absurd (omega (arith, h))
@@ -90,7 +86,7 @@ spanned_more rows fresh its s old few first count new = record {
     longer = length-append its (s ∷ [])
 
     old_row : (i : ℕ) (r : InstRow) → i < length rows → slice_get (rows ++ fresh) i ≡ Some r → slice_get rows i ≡ Some r
-    old_row i r b e = sym (in_front rows fresh i b) ∙ e
+    old_row i r b e = sym (appended_below rows fresh i b) ∙ e
 
     new_row : (i : ℕ) (r : InstRow) → length rows ≤ i → slice_get (rows ++ fresh) i ≡ Some r → r.unit.0 ≡ length its
     new_row i r b e = new (i - length rows) r (sym (behind rows fresh i b) ∙ e)
@@ -122,7 +118,7 @@ spanned_more rows fresh its s old few first count new = record {
         only_new i r t is (inr b) = let c = slice_get_within (rows ++ fresh) i r t in (omega (arith, b, first), omega (arith, c, long, first, count))
 
     at : (u : ℕ) (x : Span) → slice_get (its ++ s ∷ []) u ≡ Some x → (u < length its) ⊎ (length its ≤ u) → IsSpan (rows ++ fresh) u x.first x.count
-    at u x e (inl b) = old_span u x (sym (in_front its (s ∷ []) u b) ∙ e) b
+    at u x e (inl b) = old_span u x (sym (appended_below its (s ∷ []) u b) ∙ e) b
     at u x e (inr b) = let p = one s x (u - length its) (sym (behind its (s ∷ []) u b) ∙ e) in
         let is : u ≡ length its = omega (arith, p.0, b) in
         subst (λ n. IsSpan (rows ++ fresh) n x.first x.count) (sym is) (subst (λ (y : Span). IsSpan (rows ++ fresh) (length its) y.first y.count) (sym p.1) new_span)

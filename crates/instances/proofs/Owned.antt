@@ -3,11 +3,11 @@ use Rattle.std.proofs.Common.{◌≡◌, ℕ, zero, suc, ◌+◌, ◌<◌, ◌�
 use Rattle.std.specs.Bool.{if◌then◌else◌}
 use Rattle.std.proofs.lemmas.Bool.{and_right, false_from_ne_true, eqb-true}
 use Rattle.std.proofs.lemmas.Option.{none-some}
+use Rattle.list_laws.proofs.Lists.{drop_some}
 use Rattle.orc_ids.specs.declared.ids.InstId.{InstId}
 use Rattle.session_model.specs.Plain.{is_owned, own_rows}
 use Rattle.session_model.specs.declared.rows.InstRow.{InstRow}
 use Rattle.instances.specs.Spans.{IsSpan}
-use Rattle.instances.proofs.Lists.{drop_one}
 
 pub own_none : (u k : ℕ) (rows : List InstRow) → ((i : ℕ) (r : InstRow) → slice_get rows i ≡ Some r → is_owned u r ≡ false) → own_rows u k rows ≡ []
 own_none u k [] h = refl
@@ -39,7 +39,7 @@ pub own_to : (rows : List InstRow) (u first count k : ℕ) → IsSpan rows u fir
 own_to rows u first count k s b = own_none u k (drop k rows) (λ i r t. not_owned rows u first count (k + i) r s (dropped_there k rows i r t) (λ p. absurd (omega (arith, b, p.1))))
 
 pub own_more : (rows : List InstRow) (u k : ℕ) (r : InstRow) (own new : List InstId) → slice_get rows k ≡ Some r → own ++ own_rows u k (drop k rows) ≡ own_rows u 0 rows → new ≡ (if is_owned u r then own ++ record { 0 = k } ∷ [] else own) → new ++ own_rows u (k + 1) (drop (k + 1) rows) ≡ own_rows u 0 rows
-own_more rows u k r own new t so_far is = ap (λ xs. xs ++ own_rows u (k + 1) (drop (k + 1) rows)) is ∙ by_test (is_owned u r) ∙ ap (λ xs. own ++ own_rows u k xs) (sym (drop_one rows k r t)) ∙ so_far
+own_more rows u k r own new t so_far is = ap (λ xs. xs ++ own_rows u (k + 1) (drop (k + 1) rows)) is ∙ by_test (is_owned u r) ∙ ap (λ xs. own ++ own_rows u k xs) (sym (drop_some rows k r t)) ∙ so_far
   where
     by_test : (b : Bool) → (if b then own ++ record { 0 = k } ∷ [] else own) ++ own_rows u (k + 1) (drop (k + 1) rows) ≡ own ++ (if b then record { 0 = k } ∷ own_rows u (k + 1) (drop (k + 1) rows) else own_rows u (k + 1) (drop (k + 1) rows))
     by_test true = append_assoc own (record { 0 = k } ∷ []) (own_rows u (k + 1) (drop (k + 1) rows))

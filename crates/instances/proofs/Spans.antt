@@ -1,7 +1,9 @@
 -- Rows that are changed within the span of their unit.
-use Rattle.std.proofs.Common.{◌≡◌, ℕ, ◌+◌, ◌≤◌, Bool, true, false, ◌&&◌, ◌==◌, not, map, List, ◌++◌, take, drop, arith, refl, ap, ◌∙◌, unwrap_or, Option}
+use Rattle.std.proofs.Common.{◌≡◌, ℕ, ◌+◌, ◌≤◌, ◌==◌, map, List, ◌++◌, take, drop, arith, ap, ◌∙◌, unwrap_or, Option}
 use Rattle.std.specs.Bool.{if◌then◌else◌}
-use Rattle.std.proofs.lemmas.Bool.{and_left, and_right, ne_eqb}
+use Rattle.std.proofs.lemmas.Bool.{and_left, ne_eqb}
+use Rattle.list_laws.proofs.Bools.{and_kept}
+use Rattle.model_laws.proofs.Units.{not_owned}
 use Rattle.orc_ids.specs.declared.groups.Group.{Group}
 use Rattle.orc_ids.specs.declared.ids.InstId.{InstId}
 use Rattle.session_model.specs.Lists.{numbered, first_some}
@@ -19,21 +21,14 @@ use Rattle.instances.proofs.Lists.{none_below, none_above, none_numbered, all_nu
 abbrev pub Leaves : ℕ → (InstRow → InstRow) → Type 0
 Leaves u f = (r : InstRow) → (r.unit.0 ≡ u → ⊥) → f r ≡ r
 
-not_owned : (u : ℕ) (r : InstRow) → (r.unit.0 ≡ u → ⊥) → is_owned u r ≡ false
-not_owned u r n = and_right r.present (r.unit.0 == u) (ne_eqb r.unit.0 u n)
-
 pub claim_leaves : (u : ℕ) → Leaves u (claimed_row u)
 claim_leaves u r n = ap (λ b. record r { phase = if b then phase.Claimed else r.phase }) (and_left (is_owned u r) (is_unsearched r.phase) (not_owned u r n))
 
 pub address_leaves : (u : ℕ) (address : ℕ → ℕ) → Leaves u (addressed_row u address)
 address_leaves u address r n = ap (λ b. record r { phase = if b then phase.Resolved (address r.offer) else r.phase }) (not_owned u r n)
 
-and_true : (b c : Bool) → c ≡ false → (b && not c) ≡ b
-and_true true c e = ap not e
-and_true false c e = refl
-
 pub removal_leaves : (u : ℕ) → Leaves u (removed_row u)
-removal_leaves u r n = ap (λ b. record r { present = b }) (and_true r.present (r.unit.0 == u) (ne_eqb r.unit.0 u n))
+removal_leaves u r n = ap (λ b. record r { present = b }) (and_kept r.present (r.unit.0 == u) (ne_eqb r.unit.0 u n))
 
 emission_leaves : (u : ℕ) (groups : List Group) (i : ℕ) → Leaves u (emitted_row u groups i)
 emission_leaves u groups i r n = ap (λ b. record r { phase = if b then phase.Emitted (unwrap_or (phase_address r.phase) 0) (deps_in groups i) else r.phase }) (not_owned u r n)

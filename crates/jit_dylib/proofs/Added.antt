@@ -1,16 +1,13 @@
 -- Rows that are added one by one, where no name is offered twice.
-use Rattle.std.proofs.Common.{◌≡◌, ◌<◌, ◌≤◌, ◌⊎◌, inl, inr, ℕ, suc, ◌+◌, Bool, true, false, List, [], ◌∷◌, Some, None, cond, slice_get, get_or, length, drop, unwrap_or, subst, refl, sym, ap, ◌∙◌, arith, add-one}
+use Rattle.std.proofs.Common.{◌≡◌, ◌<◌, ◌≤◌, ◌⊎◌, inl, inr, ℕ, suc, ◌+◌, Bool, true, false, List, [], ◌∷◌, Some, None, cond, slice_get, get_or, length, drop, unwrap_or, subst, refl, sym, ap, ◌∙◌, arith}
 use Rattle.std.specs.Bool.{if◌then◌else◌}
-use Rattle.std.proofs.Math.Seq.{drop-cons}
 use Rattle.std.proofs.lemmas.Option.{unwrap_or-slice_get}
 use Rattle.std.proofs.lemmas.Bool.{cases_eq, ne_eqb, eq-eqb}
+use Rattle.std.proofs.lemmas.List.{drop_more}
 use Rattle.orc_ids.specs.declared.flags.SymFlags.{SymFlags}
 use Rattle.orc_ids.specs.declared.ids.NameId.{NameId}
 use Rattle.session_model.specs.Lists.{or_else}
 use Rattle.jit_dylib.specs.Rows.{Rows, row_at, fresh_rows, AreAdded, NamesDiffer}
-
-drop_at : {X : Type 0} (xs : List X) (k : ℕ) (d : X) → k < length xs → drop k xs ≡ get_or xs k d ∷ drop (k + 1) xs
-drop_at xs k d less = rw (add-one k) (drop-cons xs k d less)
 
 -- the names behind the first one
 pub rest_differ : (o : NameId × SymFlags) (os : List (NameId × SymFlags)) → NamesDiffer (o ∷ os) → NamesDiffer os
@@ -43,12 +40,12 @@ pub more_at : (at next result : ℕ) (offers : List (NameId × SymFlags)) (d : N
     b ≡ unwrap_or (slice_get live at) false → result ≡ (if b then next + 1 else next) → NamesDiffer (drop at offers) → AreAdded (fresh_rows next (get_or offers at d ∷ []) (b ∷ [])) old new →
     (name : ℕ) → or_else (row_at (fresh_rows result (drop (at + 1) offers) (drop (at + 1) live)) name) (row_at new name) ≡ or_else (row_at (fresh_rows next (drop at offers) (drop at live)) name) (row_at old name)
 more_at at next result offers d b live old new less same flag number differ added name =
-    rw (number, drop_at offers at d less, drop_at live at false (omega (arith, less, same)), ← unwrap_or-slice_get live at false, ← flag)
-    (one_more next (get_or offers at d) (drop (at + 1) offers) b (drop (at + 1) live) old new (subst NamesDiffer (drop_at offers at d less) differ) added name)
+    rw (number, drop_more offers at d less, drop_more live at false (omega (arith, less, same)), ← unwrap_or-slice_get live at false, ← flag)
+    (one_more next (get_or offers at d) (drop (at + 1) offers) b (drop (at + 1) live) old new (subst NamesDiffer (drop_more offers at d less) differ) added name)
 
 pub names_behind : (offers : List (NameId × SymFlags)) (at : ℕ) → at < length offers → NamesDiffer (drop at offers) → NamesDiffer (drop (at + 1) offers)
 names_behind [] at less differ = absurd (omega (arith, less))
-names_behind (o ∷ os) at less differ = rest_differ _ _ (subst NamesDiffer (drop_at (o ∷ os) at o less) differ)
+names_behind (o ∷ os) at less differ = rest_differ _ _ (subst NamesDiffer (drop_more (o ∷ os) at o less) differ)
 
 -- at most one number more
 pub next_within : (b : Bool) (next result most : ℕ) → result ≡ (if b then next + 1 else next) → next ≤ most → result ≤ most + 1

@@ -6,6 +6,8 @@ use Rattle.std.specs.List.{list_any}
 use Rattle.std.specs.Option.{option_map_or}
 use Rattle.std.proofs.lemmas.Option.{none-some, same_Some}
 use Rattle.std.proofs.lemmas.Bool.{cases_eq, ne_eqb, eq-eqb, eqb-true}
+use Rattle.model_laws.proofs.Changes.{numbered_length}
+use Rattle.model_laws.proofs.FirstRows.{no_first}
 use Rattle.orc_ids.specs.declared.flags.SymFlags.{SymFlags}
 use Rattle.orc_ids.specs.declared.ids.InstId.{InstId}
 use Rattle.orc_ids.specs.declared.ids.NameId.{NameId}
@@ -25,10 +27,6 @@ use Rattle.jit_dylib.specs.Laws.{IsTableOf, is_present_as, HasOneRowEach, NamesG
 
 first_step : (test : InstRow → Bool) (k : ℕ) (r : InstRow) (rs : List InstRow) (b : Bool) → test r ≡ b → first_row test k (r ∷ rs) ≡ (if b then Some (record { inst = record { 0 = k }; flags = r.flags }) else first_row test (k + 1) rs)
 first_step test k r rs b e = ap (λ c. if c then Some (record { inst = record { 0 = k }; flags = r.flags }) else first_row test (k + 1) rs) e
-
-first_none : (test : InstRow → Bool) (k : ℕ) (rows : List InstRow) → ((i : ℕ) (r : InstRow) → slice_get rows i ≡ Some r → test r ≡ false) → first_row test k rows ≡ None
-first_none test k [] fails = refl
-first_none test k (r ∷ rs) fails = first_step test k r rs false (fails 0 r refl) ∙ first_none test (k + 1) rs (λ i. fails (suc i))
 
 record IsFirst (test : InstRow → Bool) (rows : List InstRow) (i : ℕ) : Type 0 where
   row : InstRow
@@ -54,10 +52,6 @@ first_append test k (x ∷ xs) ys n e = split (test x) refl (first_append test (
     split : (b : Bool) → test x ≡ b → first_row test (k + 1) (xs ++ ys) ≡ or_else (first_row test (k + 1) xs) (first_row test n ys) → first_row test k (x ∷ xs ++ ys) ≡ or_else (first_row test k (x ∷ xs)) (first_row test n ys)
     split true t ih = first_step test k x (xs ++ ys) true t ∙ sym (ap (λ o. or_else o (first_row test n ys)) (first_step test k x xs true t))
     split false f ih = first_step test k x (xs ++ ys) false f ∙ (ih ∙ sym (ap (λ o. or_else o (first_row test n ys)) (first_step test k x xs false f)))
-
-length-numbered : {X Y : Type 0} (f : ℕ → X → Y) (k : ℕ) (xs : List X) → length (numbered f k xs) ≡ length xs
-length-numbered f k [] = refl
-length-numbered f k (x ∷ xs) = ap suc (length-numbered f (k + 1) xs)
 
 -- a replaced row is no longer present
 
@@ -111,7 +105,7 @@ hidden_rows test goes f k (r ∷ rs) h one =
         ∙ (sym (ap (λ x. only_if (not x) (record { inst = record { 0 = k }; flags = r.flags })) g) ∙ sym (ap (unless_gone goes) (first_step test k r rs true t))))
     split true t true g rest =
         first_step test k (f k r) (numbered f (k + 1) rs) false (h.each 0 k r (omega arith) refl ∙ (ap (λ x. x && not (goes k)) t ∙ ap not g))
-        ∙ (rest ∙ (ap (unless_gone goes) (first_none test (k + 1) rs (others_fail test r rs one t))
+        ∙ (rest ∙ (ap (unless_gone goes) (no_first test (k + 1) rs (others_fail test r rs one t))
         ∙ (sym (ap (λ x. only_if (not x) (record { inst = record { 0 = k }; flags = r.flags })) g) ∙ sym (ap (unless_gone goes) (first_step test k r rs true t)))))
 
 -- the rows of the names that stay
@@ -211,7 +205,7 @@ rows_defined rows d u n offers one =
     let found = verdicts rows d offers in
     let test = is_present_as d n in
     let fresh = row_at (fresh_rows (length rows) offers (kept_names found)) n in
-    first_append test 0 (numbered (unreplaced_row found) 0 rows) (new_rows d u 0 offers found) (length rows) (sym (length-numbered (unreplaced_row found) 0 rows) ∙ (let z : length (numbered (unreplaced_row found) 0 rows) ≡ 0 + length (numbered (unreplaced_row found) 0 rows) = omega arith in z))
+    first_append test 0 (numbered (unreplaced_row found) 0 rows) (new_rows d u 0 offers found) (length rows) (sym (numbered_length (unreplaced_row found) 0 rows) ∙ (let z : length (numbered (unreplaced_row found) 0 rows) ≡ 0 + length (numbered (unreplaced_row found) 0 rows) = omega arith in z))
     ∙ (ap (λ o. or_else o (first_row test (length rows) (new_rows d u 0 offers found))) (hidden_rows test (is_replaced found) (unreplaced_row found) 0 rows (hides_replaced found d n rows) (one n))
     ∙ (ap (or_else (unless_gone (is_replaced found) (row_of rows d n))) (new_is_fresh d u n (length rows) 0 offers found)
     ∙ either_order found (row_of rows d n) fresh (λ x is. replaced_is_fresh rows d n x (length rows) offers is)))
@@ -278,7 +272,7 @@ pub rows_elsewhere : (rows : List InstRow) (d e u n : ℕ) (offers : List (NameI
 rows_elsewhere rows d e u n offers one apart =
     let found = verdicts rows d offers in
     let test = is_present_as e n in
-    first_append test 0 (numbered (unreplaced_row found) 0 rows) (new_rows d u 0 offers found) (length rows) (sym (length-numbered (unreplaced_row found) 0 rows) ∙ (let z : length (numbered (unreplaced_row found) 0 rows) ≡ 0 + length (numbered (unreplaced_row found) 0 rows) = omega arith in z))
+    first_append test 0 (numbered (unreplaced_row found) 0 rows) (new_rows d u 0 offers found) (length rows) (sym (numbered_length (unreplaced_row found) 0 rows) ∙ (let z : length (numbered (unreplaced_row found) 0 rows) ≡ 0 + length (numbered (unreplaced_row found) 0 rows) = omega arith in z))
     ∙ (ap (or_else (first_row test 0 (numbered (unreplaced_row found) 0 rows))) (none_new d e u n (length rows) 0 offers found (λ same. apart (sym same)))
     ∙ (or_nothing (first_row test 0 (numbered (unreplaced_row found) 0 rows))
     ∙ (hidden_rows test (λ i. false) (unreplaced_row found) 0 rows (hides_nothing rows d e n offers apart) (one n)

@@ -2,8 +2,9 @@
 use Rattle.std.proofs.Common.{◌≡◌, ℕ, Bool, true, false, List, [], ◌∷◌, ◌++◌, map, get_or, drop, Some, sym, refl, ap, ◌∙◌, subst, ⊎_elim}
 use Rattle.std.proofs.lemmas.Bool.{both_ways, cases_Bool}
 use Rattle.std.proofs.lemmas.Option.{same_Some}
+use Rattle.model_laws.proofs.Units.{call_one}
 use Rattle.orc_ids.specs.declared.ids.UnitId.{UnitId}
-use Rattle.session_model.specs.Answer.{Answers, AnswersCall, AnswersEmit, AnswersPlace, AnswersTake, Called, Gone, Wrong, Right, HasCause, LinkEnded, answer_link, called, can_emit, can_link, can_place, can_resolve}
+use Rattle.session_model.specs.Answer.{Answers, AnswersEmit, AnswersPlace, AnswersTake, HasCause, LinkEnded, answer_link, called, can_emit, can_link, can_place, can_resolve}
 use Rattle.session_model.specs.Meaning.{Meaning, Bindings}
 use Rattle.session_model.specs.Plain.{Plain, UnitRow, unit_shape}
 use Rattle.session_model.specs.declared.rows.Ending.{Ending}
@@ -68,11 +69,6 @@ jobs_agree past m [] u v a b same x y = absurd x
 jobs_agree past m (job.Start w ∷ js) u v a b same x y = x ∙ sym y
 jobs_agree past m (job.Finish w ∷ js) u v a b same x y = let ends = ends_agree past m w.0 a b x.1 y.1 in λ i. reply.Finish (same i) (finishing.Bound (ends i))
 
-calls_agree : (c : Called) (u : UnitId) (P : UnitRow → Reply → Type 0) (r s : Reply) → ((x : UnitRow) → P x r → P x s → r ≡ s) → AnswersCall c u (λ x. P x r) r → AnswersCall c u (λ x. P x s) s → r ≡ s
-calls_agree Gone u P r s agree x y = x ∙ sym y
-calls_agree Wrong u P r s agree x y = x ∙ sym y
-calls_agree (Right row) u P r s agree x y = agree row x y
-
 -- two right replies of bindings to one event are the same
 bindings_agree : (jmax : ℕ) (past : List (Entry Meaning)) (m : Plain) (seat : ℕ) (e : Event Meaning) (u v : UnitId) (a b : Bindings) → u ≡ v →
     Answers jmax past m seat e (reply.Finish u (finishing.Bound a)) → Answers jmax past m seat e (reply.Finish v (finishing.Bound b)) → reply.Finish u (finishing.Bound a) ≡ reply.Finish v (finishing.Bound b)
@@ -84,11 +80,11 @@ bindings_agree jmax past m seat (event.Generate g) u v a b same x y = x ∙ sym 
 bindings_agree jmax past m seat (event.Ask order wanted lev n) u v a b same x y = x.2 ∙ sym y.2
 bindings_agree jmax past m seat (event.Collect q) u v a b same x y = absurd x
 bindings_agree jmax past m seat event.Take u v a b same x y = jobs_agree past m m.jobs u v a b same x y
-bindings_agree jmax past m seat (event.Place w shape) u v a b same x y = calls_agree (called m seat w can_place) w (λ row r. (unit_shape row ≡ Some shape) × AnswersPlace m shape r) (reply.Finish u (finishing.Bound a)) (reply.Finish v (finishing.Bound b)) (λ row p q. absurd p.1) x y
-bindings_agree jmax past m seat (event.Resolve w) u v a b same x y = calls_agree (called m seat w can_resolve) w (λ row r. r ≡ reply.Resolved) (reply.Finish u (finishing.Bound a)) (reply.Finish v (finishing.Bound b)) (λ row p q. p ∙ sym q) x y
-bindings_agree jmax past m seat (event.Link w) u v a b same x y = calls_agree (called m seat w can_link) w (λ row r. r ≡ answer_link m w.0 row) (reply.Finish u (finishing.Bound a)) (reply.Finish v (finishing.Bound b)) (λ row p q. p ∙ sym q) x y
-bindings_agree jmax past m seat (event.Emit w groups) u v a b same x y = calls_agree (called m seat w can_emit) w (λ row r. AnswersEmit m w.0 groups row r) (reply.Finish u (finishing.Bound a)) (reply.Finish v (finishing.Bound b)) (λ row p q. p.2 ∙ sym q.2) x y
-bindings_agree jmax past m seat (event.Fail w cause) u v a b same x y = calls_agree (called m seat w (λ row. true)) w (λ row r. HasCause jmax past m w.0 row cause × (r ≡ reply.Failed)) (reply.Finish u (finishing.Bound a)) (reply.Finish v (finishing.Bound b)) (λ row p q. p.1 ∙ sym q.1) x y
+bindings_agree jmax past m seat (event.Place w shape) u v a b same x y = call_one (called m seat w can_place) w (λ row r. (unit_shape row ≡ Some shape) × AnswersPlace m shape r) (reply.Finish u (finishing.Bound a)) (reply.Finish v (finishing.Bound b)) (λ row p q. absurd p.1) x y
+bindings_agree jmax past m seat (event.Resolve w) u v a b same x y = call_one (called m seat w can_resolve) w (λ row r. r ≡ reply.Resolved) (reply.Finish u (finishing.Bound a)) (reply.Finish v (finishing.Bound b)) (λ row p q. p ∙ sym q) x y
+bindings_agree jmax past m seat (event.Link w) u v a b same x y = call_one (called m seat w can_link) w (λ row r. r ≡ answer_link m w.0 row) (reply.Finish u (finishing.Bound a)) (reply.Finish v (finishing.Bound b)) (λ row p q. p ∙ sym q) x y
+bindings_agree jmax past m seat (event.Emit w groups) u v a b same x y = call_one (called m seat w can_emit) w (λ row r. AnswersEmit m w.0 groups row r) (reply.Finish u (finishing.Bound a)) (reply.Finish v (finishing.Bound b)) (λ row p q. p.2 ∙ sym q.2) x y
+bindings_agree jmax past m seat (event.Fail w cause) u v a b same x y = call_one (called m seat w (λ row. true)) w (λ row r. HasCause jmax past m w.0 row cause × (r ≡ reply.Failed)) (reply.Finish u (finishing.Bound a)) (reply.Finish v (finishing.Bound b)) (λ row p q. p.1 ∙ sym q.1) x y
 bindings_agree jmax past m seat (event.Tracker d) u v a b same x y = x ∙ sym y
 bindings_agree jmax past m seat (event.MoveTracker t to) u v a b same x y = x ∙ sym y
 bindings_agree jmax past m seat (event.Remove t) u v a b same x y = x ∙ sym y

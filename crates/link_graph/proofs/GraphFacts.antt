@@ -10,8 +10,8 @@ use Rattle.std.proofs.lemmas.Bool.{cases_Bool, eqb-true, ltb-false, false≢true
 use Rattle.std.proofs.lemmas.List.{length-append, length-map}
 use Rattle.std.proofs.lemmas.List.Elements.{All-nil, All-cons, All-head, All-tail, All-map, All-append, All-weaker}
 use Rattle.std.proofs.lemmas.List.Sums.{sum_by-append, sum_by-cons}
-use Rattle.std.proofs.lemmas.Nat.{pow_pos}
 use Rattle.std.proofs.lemmas.Option.{same_Some}
+use Rattle.link_laws.proofs.Layouts.{align_positive}
 use Rattle.orc_ids.specs.declared.ids.NameId.{NameId}
 use Rattle.elf_read.specs.Symbols.{symbol_zero}
 use Rattle.elf_read.specs.declared.object.ElfObject.{ElfObject}
@@ -66,9 +66,6 @@ passed_all o h =
     record { small = if-none (is_too_large o) TooMany first.0; relocs = (or_else-parts (relocs_error o.symbols 0 o.sections) pairs second.1).0 }
 
 -- ---- blocks
-
-positive : (align : ℕ) → IsAlignment align → 0 < align
-positive align is = omega (arith, is.2, pow_pos is.0)
 
 common_is : (sections : List Section) (s : Symbol) (p : SymPlace) → is_common p ≡ true → PlaceInside sections s.value p → IsAlignment s.value
 common_is sections s place.Common is h = h
@@ -376,7 +373,7 @@ graph_sound names o g read none is =
     let room : length sections + length (common_symbols ss) ≤ length g.blocks = omega (arith, ap (λ (xs : List Block). length xs) blocks, count_blocks (trimmed o)) in
     record {
       bytes = subst (All (λ (b : Block). length b.bytes ≤ b.size)) (sym blocks) (short_blocks (trimmed o) h);
-      aligns = subst (All (λ (b : Block). 0 < b.align)) (sym blocks) (All-weaker (λ (b : Block). IsAlignment b.align) (λ (b : Block). 0 < b.align) (λ b is. positive b.align is) (blocks_of (trimmed o)) (aligned_blocks (trimmed o) h));
+      aligns = subst (All (λ (b : Block). 0 < b.align)) (sym blocks) (All-weaker (λ (b : Block). IsAlignment b.align) (λ (b : Block). 0 < b.align) (λ b is. align_positive b.align is) (blocks_of (trimmed o)) (aligned_blocks (trimmed o) h));
       symbols = subst (All (λ (s : GSym). PlaceFits g s.place)) (sym symbols) (symbols_fit names g sections commons (length sections) ss blocks room h.places);
       edges = subst (All (EdgeFits g)) (sym edges) (All-weaker (FitsAmong 0 (length g.symbols) sections) (EdgeFits g) (λ e fits. edge_fits g sections commons e blocks fits) (trimmed_edges 0 o.sections)
           (subst (λ (n : ℕ). All (FitsAmong 0 n sections) (trimmed_edges 0 o.sections)) (sym count) (edges_fit o.symbols 0 (length o.symbols) o.sections passed.relocs read_facts.targets)));

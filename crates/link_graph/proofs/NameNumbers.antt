@@ -7,6 +7,7 @@ use Rattle.std.specs.Cmp.Lexicographic.{nat_list_eq_equiv, same_text}
 use Rattle.std.proofs.lemmas.Bool.{cases_Bool, cases_lt}
 use Rattle.std.proofs.lemmas.List.Elements.{Contains-push_cases}
 use Rattle.std.proofs.lemmas.Option.{none-some, same_Some, slice_get_within, slice_get-get_or}
+use Rattle.std.proofs.lemmas.List.{get_or_default}
 use Rattle.elf_read.specs.declared.object.Symbol.{Symbol}
 use Rattle.orc_ids.specs.declared.ids.NameId.{NameId}
 use Rattle.link_graph.specs.Object.{name_number, is_global}
@@ -50,18 +51,13 @@ keeps_all a b c first second number text there = second number text (first numbe
 abbrev pub AreFirstNamed : List (List ℕ) → List Symbol → ℕ → Type 0
 AreFirstNamed names symbols n = (k : ℕ) (d : Symbol) → k < n → IsTrue (is_global (get_or symbols k d)) → Contains names (get_or symbols k d).name
 
-any_default : {X : Type 0} (xs : List X) (k : ℕ) (d e : X) → k < length xs → get_or xs k d ≡ get_or xs k e
-any_default [] k d e lt = absurd (omega arith)
-any_default (x ∷ xs) zero d e lt = refl
-any_default (x ∷ xs) (suc k) d e lt = any_default xs k d e (omega arith)
-
 -- one more symbol
 pub one_more_named : (old new : List (List ℕ)) (symbols : List Symbol) (n : ℕ) (s : Symbol) → KeepsNumbers old new → n < length symbols → s ≡ get_or symbols n s → (IsTrue (is_global s) → Contains new s.name) → AreFirstNamed old symbols n → AreFirstNamed new symbols (n + 1)
 one_more_named old new symbols n s keeps within is here before k d lt global = elim (cases_lt k n) [
   | inl below ↦ kept old new (get_or symbols k d).name keeps (before k d below global)
   | inr above ↦ (
       let same : k ≡ n = omega arith in
-      let item : get_or symbols k d ≡ s = ap (λ i. get_or symbols i d) same ∙ any_default symbols n d s within ∙ sym is in
+      let item : get_or symbols k d ≡ s = ap (λ i. get_or symbols i d) same ∙ get_or_default symbols n d s within ∙ sym is in
       subst (λ (x : Symbol). Contains new x.name) (sym item) (here (subst (λ (x : Symbol). IsTrue (is_global x)) item global)))
 ]
 

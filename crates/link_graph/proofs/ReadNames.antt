@@ -1,8 +1,9 @@
 -- The names of an object that is read are no longer than a name may be.
-use Rattle.std.proofs.Common.{◌≡◌, ℕ, zero, suc, ◌≤◌, Bool, true, false, cond, ◌==◌, nat_lt, List, [], ◌∷◌, length, map, take, drop, Option, Some, None, unwrap_or, option_map, Ok, refl, arith}
-use Rattle.std.specs.List.{position_or_len, All}
+use Rattle.std.proofs.Common.{◌≡◌, ℕ, suc, ◌≤◌, Bool, true, false, cond, ◌==◌, nat_lt, List, [], length, take, drop, Option, Some, None, unwrap_or, option_map, Ok, refl, arith}
+use Rattle.std.specs.List.{position_or_len}
 use Rattle.std.proofs.lemmas.Bool.{ltb-true}
 use Rattle.std.proofs.lemmas.List.{length-take}
+use Rattle.list_laws.proofs.Each.{all_mapped}
 use Rattle.elf_read.specs.declared.error.ElfError.{ElfError}
 use Rattle.elf_read.specs.declared.object.ElfObject.{ElfObject}
 use Rattle.elf_read.specs.declared.object.Symbol.{Symbol}
@@ -36,11 +37,6 @@ either_short false a b x y = y
 symbol_short : (f : File) (j : ℕ) → length (symbol_in f j).name ≤ 4096
 unfolding symbol_in symbol_name
 symbol_short f j = either_short (j == 0) symbol_zero _ (omega arith) (name_short f j)
-
-all_mapped : {X Y : Type 0} (P : Y → Type 0) (f : X → Y) → ((x : X) → P (f x)) → (xs : List X) → All P (map f xs)
-all_mapped P f h [] k d lt = absurd (omega arith)
-all_mapped P f h (x ∷ xs) zero d lt = h x
-all_mapped P f h (x ∷ xs) (suc k) d lt = all_mapped P f h xs k d (omega arith)
 
 object_from_ok : (refusal : Option ElfError) (x o : ElfObject) → unless refusal x ≡ Ok o → x ≡ o
 object_from_ok None x o h = cc

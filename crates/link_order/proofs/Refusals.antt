@@ -1,6 +1,7 @@
 -- A search's refusals are those of a lookup.
 use Rattle.std.proofs.Common.{◌≡◌, Bool, true, false, not, ◌&&◌, map, List, [], ◌∷◌, Option, Some, None, option_map, refl, sym, ap, ap₂, ◌∙◌}
 use Rattle.std.specs.Prelude.{is_none}
+use Rattle.model_laws.proofs.Choices.{first_mapped}
 use Rattle.orc_ids.specs.declared.ids.DylibId.{DylibId}
 use Rattle.orc_ids.specs.declared.ids.GenId.{GenId}
 use Rattle.orc_ids.specs.declared.ids.NameId.{NameId}
@@ -31,10 +32,6 @@ chosen_reply {X} {Y} f g made same (x ∷ xs) = ap₂ or_else (same x) (chosen_r
     split : (a b : Option Y) → or_else (option_map made a) (option_map made b) ≡ option_map made (or_else a b)
     split None b = refl
     split (Some y) b = refl
-
-first_mapped : {X Y Z : Type 0} (f : Y → Option Z) (g : X → Y) (xs : List X) → first_some f (map g xs) ≡ first_some (λ x. f (g x)) xs
-first_mapped f g [] = refl
-first_mapped f g (x ∷ xs) = ap (or_else (f (g x))) (first_mapped f g xs)
 
 pub offers : (m : Plain) (order : List OrderItem) (wanted : List Wanted) → first_some (λ (w : Wanted). offer_of (match_of m order w.name.0)) wanted ≡ option_map reply.Offer (first_some offered_in (finds m order wanted))
 offers m order wanted = chosen_reply (λ (w : Wanted). generator_of (match_of m order w.name.0)) (λ (w : Wanted). offer_of (match_of m order w.name.0)) reply.Offer (λ w. same (match_of m order w.name.0)) wanted ∙ ap (option_map reply.Offer) (sym (first_mapped offered_in (found_for m order) wanted))

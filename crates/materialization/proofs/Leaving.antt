@@ -1,6 +1,7 @@
 -- Entries of other seats leave a job where it is.
 use Rattle.std.proofs.Common.{◌≡◌, ℕ, true, false, List, ◌++◌, ◌⊎◌, inl, inr, refl, ap, ◌∙◌}
 use Rattle.std.proofs.lemmas.Bool.{cases_Bool}
+use Rattle.model_laws.proofs.Phases.{defunct_stage}
 use Rattle.orc_ids.specs.declared.ids.UnitId.{UnitId}
 use Rattle.session_model.specs.Meaning.{Meaning}
 use Rattle.session_model.specs.Plain.{UnitRow, is_defunct}
@@ -12,7 +13,6 @@ use Rattle.session_laws.specs.Holding.{AllOthers, IsKept, OwnSame}
 use Rattle.session_laws.proofs.Keeping.{held_stays, gone_stays_held}
 use Rattle.holder_laws.proofs.Calling.{fail_stays}
 use Rattle.holder_laws.proofs.Giving.{GivesNone, others_seat_none}
-use Rattle.holder_laws.proofs.Others.{gone_phase}
 use Rattle.materialization.specs.Rest.{IsAt, Has, fits}
 use Rattle.materialization.specs.Laws.{HasReason, OthersLeaveAJob}
 use Rattle.materialization.specs.declared.stage.Stage.{Stage}
@@ -34,7 +34,7 @@ at_stays : (jmax : ℕ) (h more : List (Entry Meaning)) → IsLegal jmax (h ++ m
 at_stays jmax h more l s u o at b = split (cases_Bool (is_defunct b.unit.phase))
   where
     split : (is_defunct b.unit.phase ≡ true) ⊎ (is_defunct b.unit.phase ≡ false) → IsAt (state (h ++ more)) s u at
-    split (inl d) = let y = gone_stays_held jmax h more l s u b.unit b.there b.seat (gone_phase b.unit.phase d) o in
+    split (inl d) = let y = gone_stays_held jmax h more l s u b.unit b.there b.seat (defunct_stage b.unit.phase d) o in
         record { unit = y.0; there = y.1; seat = y.3; how = inl (ap is_defunct y.2) }
     split (inr d) = record { unit = y.unit; there = y.there; seat = y.seat ∙ b.seat; how = how y.how b.how }
       where

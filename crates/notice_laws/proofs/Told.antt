@@ -4,6 +4,7 @@ use Rattle.std.specs.Bool.{if◌then◌else◌}
 use Rattle.std.proofs.lemmas.Bool.{cases_Bool, eq-eqb}
 use Rattle.std.proofs.lemmas.List.Elements.{All-append, All-nil}
 use Rattle.std.proofs.lemmas.Option.{none-some, same_Some}
+use Rattle.list_laws.proofs.Lists.{taken_more}
 use Rattle.orc_ids.specs.declared.lookup.Outcome.{Outcome}
 use Rattle.session_model.specs.Calls.{numbered_calls}
 use Rattle.session_model.specs.History.{IsLegal}
@@ -76,20 +77,12 @@ numbered_there (f ∷ fs) m (suc k) e there =
     let number : m + 1 + k ≡ m + suc k = omega arith in
     behind (m, f) (f.seat.0 == e.seat.0) (numbered_calls e.seat.0 (m + 1) fs) (m + suc k, e) (t.0, t.1 ∙ ap (λ n. Some (n, e)) number)
 
-front_pushed : (h : List (Entry Meaning)) (n : ℕ) (e : Entry Meaning) → slice_get h n ≡ Some e → take (n + 1) h ≡ take n h ++ e ∷ []
-front_pushed [] n e t = absurd (none-some e t)
-front_pushed (f ∷ fs) zero e t = ap (λ x. x ∷ []) (same_Some f e t)
-front_pushed (f ∷ fs) (suc n) e t = ap (λ k. take k (f ∷ fs)) next ∙ ap (λ l. f ∷ l) (front_pushed fs n e t)
-  where
-    next : suc n + 1 ≡ suc (n + 1)
-    next = omega arith
-
 -- an event at whose entry a query settles is one that may settle queries
 may_have : (jmax : ℕ) (h : List (Entry Meaning)) (n k : ℕ) (e : Entry Meaning) → IsLegal jmax h → slice_get h n ≡ Some e → SettlesNow (take (n + 1) h) k → may_settle e.event ≡ true
 may_have jmax h n k e legal there settles = by (cases_Bool (may_settle e.event))
   where
     pushed : take (n + 1) h ≡ take n h ++ e ∷ []
-    pushed = front_pushed h n e there
+    pushed = taken_more h n e there
 
     by : (may_settle e.event ≡ true) ⊎ (may_settle e.event ≡ false) → may_settle e.event ≡ true
     by (inl may) = may

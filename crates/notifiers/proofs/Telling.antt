@@ -1,33 +1,13 @@
 -- Lists of notices that grow, and what their objects have heard.
-use Rattle.std.proofs.Common.{◌≡◌, ℕ, zero, suc, ◌<◌, List, [], ◌∷◌, ◌++◌, Option, None, Some, All, length, get_or, sym, ap, ◌∙◌, subst, arith, append_assoc}
+use Rattle.std.proofs.Common.{◌≡◌, ℕ, suc, List, [], ◌∷◌, ◌++◌, Option, None, Some, All, sym, ap, ◌∙◌, subst, arith, append_assoc}
 use Rattle.std.proofs.lemmas.List.{map-append}
+use Rattle.std.proofs.lemmas.List.Elements.{All-push}
 use Rattle.orc_ids.specs.declared.lookup.Outcome.{Outcome}
 use Rattle.notifiers.specs.declared.notice.Notice.{Notice}
 use Rattle.notifiers.specs.Notices.{AreUnheard, AreHeard, outcomes, IsTold, Told}
 
-all_first : {X : Type 0} (P : X → Type 0) (x : X) (xs : List X) → All P (x ∷ xs) → P x
-all_first P x xs all = all 0 x (omega arith)
-
 all_rest : {X : Type 0} (P : X → Type 0) (x : X) (xs : List X) → All P (x ∷ xs) → All P xs
 all_rest P x xs all = λ k d less. all (suc k) d (omega (arith, less))
-
-all_one : {X : Type 0} (P : X → Type 0) (x : X) → P x → All P (x ∷ [])
-all_one {X} P x here = at
-  where
-    at : (k : ℕ) (d : X) → k < length (x ∷ []) → P (get_or (x ∷ []) k d)
-    at zero d less = here
-    at (suc k) d less = absurd (omega (arith, less))
-
-all_cons : {X : Type 0} (P : X → Type 0) (x : X) (xs : List X) → P x → All P xs → All P (x ∷ xs)
-all_cons {X} P x xs here all = at
-  where
-    at : (k : ℕ) (d : X) → k < length (x ∷ xs) → P (get_or (x ∷ xs) k d)
-    at zero d less = here
-    at (suc k) d less = all k d (omega (arith, less))
-
-all_push : {X : Type 0} (P : X → Type 0) (xs : List X) (x : X) → All P xs → P x → All P (xs ++ x ∷ [])
-all_push P [] x all here = all_one P x here
-all_push P (y ∷ ys) x all here = all_cons P y (ys ++ x ∷ []) (all_first P y ys all) (all_push P ys x (all_rest P y ys all) here)
 
 -- the others, once the first is taken out
 pub heard_rest : {N : Type 0} (heard : N → Option Outcome) (all rest : List (Notice N)) (n : Notice N) → all ≡ n ∷ rest → AreHeard heard all → AreHeard heard rest
@@ -47,7 +27,7 @@ told_push heard fires old new n m t h = record {
   told = t.told ++ m ∷ [];
   added = ap (λ xs. xs ++ m ∷ []) t.added ∙ append_assoc old t.told (m ∷ []);
   same = outcomes-push t.told fires m n t.same h.note h.outcome;
-  heard_it = all_push (λ x. heard x.what ≡ Some x.outcome) t.told m t.heard_it h.heard_it;
+  heard_it = All-push (λ x. heard x.what ≡ Some x.outcome) t.told m t.heard_it h.heard_it;
 }
 
 -- the notices before some rest were told, and those of the rest are unheard

@@ -9,8 +9,9 @@ use Rattle.std.proofs.Math.Seq.{drop-cons}
 use Rattle.std.proofs.lemmas.Bool.{cases_Bool, both_ways}
 use Rattle.std.proofs.lemmas.List.{append_assoc, append-nil, map-append}
 use Rattle.std.proofs.lemmas.Option.{none-some}
+use Rattle.list_laws.proofs.Lists.{pushed_last, mapped_below}
 use Rattle.object_files.specs.Files.{is_among, distinct_after, distinct, AreNumbered}
-use Rattle.object_files.proofs.Snoc.{name_at, each_snoc, stays_in_snoc, last_of_snoc}
+use Rattle.object_files.proofs.Snoc.{each_snoc, stays_in_snoc}
 
 -- the files after one more word
 abbrev pub with_mention : List (List ℕ) → List ℕ → List (List ℕ)
@@ -70,7 +71,7 @@ place_last (file ∷ files) word h = elim (cases_Bool (bytes_eq word file)) [
 place_of_mention : (files : List (List ℕ)) (word : List ℕ) → slice_get (with_mention files word) (position_or_len (bytes_eq word) files) ≡ Some word
 place_of_mention files word = elim (cases_Bool (is_among files word)) [
   | inl t ↦ rw t (place_there files word t)
-  | inr f ↦ rw (f, place_last files word f) (last_of_snoc files word)
+  | inr f ↦ rw (f, place_last files word f) (pushed_last files word)
 ]
 
 -- a file keeps its place
@@ -115,7 +116,7 @@ next_number f ws keys grown i number d numbers lt count is place have =
     rw (with_text f keys grown w is)
     (each_snoc (λ k n. (text : List ℕ) × (slice_get (map f ws) k ≡ Some text) × (slice_get (with_mention files (f w)) n ≡ Some text)) numbers number
     (λ k n at. let found = have k n at in (found.0, found.1, stays (is_among files (f w)) files (f w) found.0 n found.2))
-    (f w, rw count (name_at f ws i d lt), rw (place, place_text f (f w) keys) (place_of_mention files (f w))))
+    (f w, rw count (mapped_below f ws i d lt), rw (place, place_text f (f w) keys) (place_of_mention files (f w))))
 
 -- ---- the end
 

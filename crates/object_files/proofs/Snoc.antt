@@ -1,9 +1,7 @@
 -- Facts about the items of lists by their places, when one item more is appended.
-use Rattle.std.proofs.Common.{◌≡◌, ℕ, zero, suc, ◌<◌, List, [], ◌∷◌, ◌++◌, length, map, get_or, Some, refl, ap, subst, ◌∙◌, inl, inr, arith}
-use Rattle.std.specs.Prelude.{slice_get, option_map, ◌⊎◌}
-use Rattle.std.specs.List.{All}
-use Rattle.std.proofs.lemmas.Option.{none-some, same_Some, slice_get_within, slice_get-map, slice_get-get_or}
-use Rattle.std.proofs.lemmas.List.Elements.{All-append}
+use Rattle.std.proofs.Common.{◌≡◌, ℕ, zero, suc, List, [], ◌∷◌, ◌++◌, length, Some, refl, ap, subst, inl, inr, arith}
+use Rattle.std.specs.Prelude.{slice_get, ◌⊎◌}
+use Rattle.std.proofs.lemmas.Option.{none-some, same_Some, slice_get_within}
 
 -- an item of the longer list is one of the shorter, or the last
 pub item_of_snoc : {X : Type 0} (xs : List X) (x y : X) (k : ℕ) → slice_get (xs ++ x ∷ []) k ≡ Some y → (slice_get xs k ≡ Some y) ⊎ ((length xs ≡ k) × (x ≡ y))
@@ -37,23 +35,8 @@ both_snoc {X} {Y} P xs ys x y same before last k a b first second = elim (item_o
   ]
 ]
 
-all_one : {X : Type 0} (P : X → Type 0) (x : X) → P x → All P (x ∷ [])
-all_one P x h zero d lt = h
-all_one P x h (suc k) d lt = absurd (omega arith)
-
-pub all_snoc : {X : Type 0} (P : X → Type 0) (xs : List X) (x : X) → All P xs → P x → All P (xs ++ x ∷ [])
-all_snoc P xs x all last = All-append P xs (x ∷ []) all (all_one P x last)
-
 -- an item stays where it is
 pub stays_in_snoc : {X : Type 0} (xs : List X) (x y : X) (k : ℕ) → slice_get xs k ≡ Some y → slice_get (xs ++ x ∷ []) k ≡ Some y
 stays_in_snoc [] x y k h = absurd (none-some y h)
 stays_in_snoc (z ∷ xs) x y zero h = h
 stays_in_snoc (z ∷ xs) x y (suc k) h = stays_in_snoc xs x y k h
-
-pub last_of_snoc : {X : Type 0} (xs : List X) (x : X) → slice_get (xs ++ x ∷ []) (length xs) ≡ Some x
-last_of_snoc [] x = refl
-last_of_snoc (z ∷ xs) x = last_of_snoc xs x
-
--- what a function makes of the item at a place
-pub name_at : {A B : Type 0} (f : A → B) (xs : List A) (i : ℕ) (d : A) → i < length xs → slice_get (map f xs) i ≡ Some (f (get_or xs i d))
-name_at f xs i d lt = slice_get-map f xs i ∙ ap (option_map f) (slice_get-get_or xs i d lt)

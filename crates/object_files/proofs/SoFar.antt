@@ -3,7 +3,7 @@ use Rattle.std.proofs.Common.{◌≡◌, ℕ, ◌+◌, ◌≤◌, List, [], ◌�
 use Rattle.std.specs.Prelude.{slice_get, Result, Ok, Err, IfErr}
 use Rattle.std.specs.List.{All}
 use Rattle.std.proofs.lemmas.List.{length-append, length-map, map-append}
-use Rattle.std.proofs.lemmas.List.Elements.{All-nil}
+use Rattle.std.proofs.lemmas.List.Elements.{All-nil, All-push}
 use Rattle.std.proofs.lemmas.List.Sums.{sum_by_push}
 use Rattle.std.proofs.lemmas.Option.{none-some, same_Some, slice_get_within}
 use Rattle.orc_ids.specs.declared.ids.UnitName.TheVariants.{Object}
@@ -23,7 +23,7 @@ use Rattle.object_files.specs.declared.error.LoadError.TheVariants.{Fault, TooLo
 use Rattle.object_files.specs.declared.load.TheConstants.{TOTAL_LIMIT}
 use Rattle.object_files.proofs.LaterTables.{object_kept}
 use Rattle.orc_names.specs.Numbers.{KeepsNumbers}
-use Rattle.object_files.proofs.Snoc.{each_snoc, both_snoc, all_snoc}
+use Rattle.object_files.proofs.Snoc.{each_snoc, both_snoc}
 
 -- the first files were taken in: so many, with so many bytes, and these are their units by a table
 pub record AreSoFar (told : Told) (files names : List (List ℕ)) (units : List Meaning) (count size : ℕ) : Type 0 where
@@ -82,7 +82,7 @@ one_more_read told files names contents name bytes g read here next object = rec
       (λ k content at other there. read.told_so k other content there at)
       (λ other there. subst (λ (x : List ℕ). HasContent told x bytes) (same_Some name other (sym here ∙ there)) next.content)
       k content at other there;
-  short = all_snoc (λ (b : List ℕ). length b ≤ FILE_LIMIT) contents bytes read.short next.short;
+  short = All-push (λ (b : List ℕ). length b ≤ FILE_LIMIT) contents bytes read.short next.short;
   within = omega (arith, one_total contents bytes (total contents) (length bytes) refl refl, next.within);
   objects = each_snoc (λ k content. (names : List (List ℕ)) × (g : LinkGraph) × IsObject names content g) contents bytes read.objects (names, g, object);
 }
@@ -108,9 +108,9 @@ one_more told files old new units count before name unit size so keeps here take
           made.object;
       are = both_snoc (λ k u g. u ≡ graph_meaning (Object k) g) units so.graphs unit graph (so.count_is ∙ sym so.whole) so.are
           (subst (λ (n : ℕ). unit ≡ graph_meaning (Object n) graph) (sym so.count_is) taken.unit_is.is);
-      sound = all_snoc (λ g. Sound g) so.graphs graph so.sound made.sound;
-      differ = all_snoc (λ g. OffersDiffer g) so.graphs graph so.differ made.differ;
-      addresses = all_snoc HasAddresses so.graphs graph so.addresses made.addresses;
+      sound = All-push (λ g. Sound g) so.graphs graph so.sound made.sound;
+      differ = All-push (λ g. OffersDiffer g) so.graphs graph so.differ made.differ;
+      addresses = All-push HasAddresses so.graphs graph so.addresses made.addresses;
     }
 
 -- ---- all

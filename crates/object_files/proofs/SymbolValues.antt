@@ -3,6 +3,7 @@ use Rattle.std.proofs.Common.{◌≡◌, ℕ, zero, suc, ◌+◌, ◌<◌, ◌^�
 use Rattle.std.specs.Prelude.{slice_index}
 use Rattle.std.specs.Option.{option_map_or}
 use Rattle.std.specs.List.{All}
+use Rattle.list_laws.proofs.Each.{all_mapped}
 use Rattle.orc_words.proofs.Numbers.{number_at-lt}
 use Rattle.elf_read.specs.declared.object.ElfObject.{ElfObject}
 use Rattle.elf_read.specs.declared.object.SymPlace.{SymPlace}
@@ -38,11 +39,6 @@ either_fits false a b x y = y
 symbol_fits : (bytes : List ℕ) (j : ℕ) → ((k : ℕ) → slice_index bytes k < 256) → (symbol_in (file_of bytes) j).value < 2 ^ 64
 unfolding symbol_in
 symbol_fits bytes j h = either_fits (j == 0) symbol_zero _ (omega arith) (value_fits bytes j h)
-
-all_mapped : {X Y : Type 0} (P : Y → Type 0) (f : X → Y) → ((x : X) → P (f x)) → (xs : List X) → All P (map f xs)
-all_mapped P f h [] k d lt = absurd (omega arith)
-all_mapped P f h (x ∷ xs) zero d lt = h x
-all_mapped P f h (x ∷ xs) (suc k) d lt = all_mapped P f h xs k d (omega arith)
 
 object_fits : (bytes : List ℕ) → ((k : ℕ) → slice_index bytes k < 256) → HasValues (object_in (file_of bytes))
 unfolding object_in

@@ -1,8 +1,9 @@
 -- The units of a session of a program's objects are the members of the program.
-use Rattle.std.proofs.Common.{◌≡◌, ℕ, zero, suc, ◌+◌, List, [], ◌∷◌, length, slice_get, arith, inl, subst, sym, refl, ap, ap₂, ◌∙◌, Some, unwrap_or}
+use Rattle.std.proofs.Common.{◌≡◌, ℕ, zero, suc, ◌+◌, List, [], ◌∷◌, length, slice_get, arith, inl, sym, refl, ap, ap₂, ◌∙◌, Some, unwrap_or}
 use Rattle.std.specs.List.{All}
-use Rattle.std.proofs.lemmas.List.Elements.{All-head, All-tail}
 use Rattle.std.proofs.lemmas.Option.{none-some, same_Some}
+use Rattle.link_laws.proofs.Symbols.{at_or_there}
+pub use Rattle.list_laws.proofs.Each.{all_at as one_of_all}
 use Rattle.link_model.specs.Image.{at_or}
 use Rattle.link_model.specs.Sound.{Sound}
 use Rattle.link_model.specs.declared.graph.LinkGraph.{LinkGraph}
@@ -14,13 +15,6 @@ use Rattle.closures.proofs.Aliases.{own_block}
 use Rattle.program_names.specs.Laws.{IsOfObjects}
 use Rattle.program_names.specs.Names.{kept_names}
 use Rattle.program_links.specs.Programs.{bases_of, members_from, program_members}
-use Rattle.program_links.proofs.Owners.{at_or_there}
-
--- what holds of all holds of one
-pub one_of_all : {X : Type 0} (P : X → Type 0) (xs : List X) (k : ℕ) (x : X) → All P xs → slice_get xs k ≡ Some x → P x
-one_of_all P [] k x a e = absurd (none-some x e)
-one_of_all P (y ∷ ys) zero x a e = subst P (same_Some y x e) (All-head P y ys a)
-one_of_all P (y ∷ ys) (suc k) x a e = one_of_all P ys k x (All-tail P y ys a) e
 
 -- a unit is its member
 pub member_there : (units : List UnitRow) (graphs : List LinkGraph) (k : ℕ) (x : UnitRow) (g : LinkGraph) → slice_get units k ≡ Some x → slice_get graphs k ≡ Some g → slice_get (members_of units graphs) k ≡ Some (member_of x g)

@@ -4,6 +4,7 @@ use Rattle.std.specs.Bool.{if◌then◌else◌}
 use Rattle.std.specs.Option.{option_map_or}
 use Rattle.std.proofs.lemmas.Bool.{both_ways, and_parts, not-true}
 use Rattle.std.proofs.lemmas.Option.{none-some, same_Some}
+use Rattle.link_laws.proofs.Symbols.{at_or_there}
 use Rattle.link_model.specs.Graph.{is_defined, is_offered, first_flag, other_flags, own_symbols, numbers_where, external_symbols, is_referred}
 use Rattle.link_model.specs.Image.{at_or}
 use Rattle.link_model.specs.Offers.{name_of, no_symbol}
@@ -26,9 +27,6 @@ pub at_or_is : {X : Type 0} (other : X) (xs : List X) (k : ℕ) → at_or other 
 at_or_is other [] k = refl
 at_or_is other (x ∷ xs) zero = refl
 at_or_is other (x ∷ xs) (suc k) = at_or_is other xs k
-
-pub at_or_there : {X : Type 0} (other : X) (xs : List X) (k : ℕ) (x : X) → slice_get xs k ≡ Some x → at_or other xs k ≡ x
-at_or_there other xs k x e = at_or_is other xs k ∙ ap (λ o. unwrap_or o other) e
 
 -- the place of a symbol is that of its number
 pub place_is : (ss : List GSym) (s : ℕ) → at_or (Abs 0) (map (λ (x : GSym). x.place) ss) s ≡ (at_or no_symbol ss s).place

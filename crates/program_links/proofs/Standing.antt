@@ -6,6 +6,7 @@ use Rattle.std.specs.List.{All}
 use Rattle.std.proofs.Math.Nat.{mod-eq_of_lt}
 use Rattle.std.proofs.lemmas.Bool.{both_ways}
 use Rattle.std.proofs.lemmas.Option.{none-some}
+use Rattle.link_laws.proofs.Symbols.{at_or_there}
 use Rattle.orc_ids.specs.declared.limits.TheConstants.{CODE_START, CODE_END}
 use Rattle.orc_ids.specs.declared.place.Shape.{Shape}
 use Rattle.link_model.specs.Image.{at_or, own_address, place_of}
@@ -39,7 +40,7 @@ use Rattle.closures.specs.Closures.{block_at, member_of, members_of, offer_place
 use Rattle.program_names.specs.Laws.{IsObjectUnit, IsOfObjects, IsOfSymbol}
 use Rattle.program_links.specs.Programs.{HasAddresses, IsAddress}
 use Rattle.program_links.proofs.Members.{member_there, one_of_all}
-use Rattle.program_links.proofs.Owners.{at_or_there, place_is}
+use Rattle.program_links.proofs.Owners.{place_is}
 
 -- Addresses of 64 bits
 

@@ -7,6 +7,7 @@ use Rattle.std.proofs.lemmas.Bool.{both_ways, and_parts, and_from, eqb-true, eq-
 use Rattle.std.proofs.lemmas.List.{length-append}
 use Rattle.std.proofs.lemmas.Map.Keys.{any_passes_from_place}
 use Rattle.std.proofs.lemmas.Option.{none-some, same_Some}
+use Rattle.list_laws.proofs.Bools.{and_kept}
 use Rattle.orc_ids.specs.declared.flags.SymFlags.{SymFlags}
 use Rattle.orc_ids.specs.declared.ids.NameId.{NameId}
 use Rattle.orc_ids.specs.declared.ids.UnitName.{UnitName}
@@ -31,7 +32,6 @@ use Rattle.session_model.specs.declared.rows.Verdict.{Verdict}
 use Rattle.session_model.specs.declared.rows.Verdict.TheVariants.{Kept, Replaces}
 use Rattle.session_units.specs.Meaning.{graph_meaning}
 use Rattle.session_laws.proofs.Defining.{new_rows_phase}
-use Rattle.session_laws.proofs.Living.{and_kept}
 use Rattle.session_laws.proofs.Elements.{appended_at, appended_cases, element_below, front_some, mapped_parts, mapped_some, numbered_length, numbered_parts, numbered_some, pushed_cases, pushed_last, same_element}
 use Rattle.closure_laws.specs.Names.{HasOneRowEach, is_present_as}
 use Rattle.program_names.specs.Laws.{IsUntouched, main_order}

@@ -1,10 +1,12 @@
 -- Which symbol is a name's definition among some objects, and what one more object changes of it.
 use Rattle.std.proofs.Common.{◌≡◌, ℕ, zero, suc, ◌+◌, ◌<◌, Bool, true, false, ◌==◌, List, [], ◌∷◌, ◌++◌, length, slice_get, ◌⊎◌, inl, inr, arith, subst, sym, refl, ap, ◌∙◌, Option, Some, None, option_map, cond}
-use Rattle.std.specs.Prelude.{IsSome, position, unwrap_or}
+use Rattle.std.specs.Prelude.{IsSome, position}
 use Rattle.std.specs.List.{position_from}
-use Rattle.std.proofs.lemmas.Bool.{both_ways, and_parts, eqb-true, cases_order, false≢true}
+use Rattle.std.proofs.lemmas.Bool.{both_ways, and_parts, eqb-true, cases_order}
 use Rattle.std.proofs.lemmas.Iterator.Adapters.{position_from-zero}
 use Rattle.std.proofs.lemmas.Option.{none-some, same_Some, get_or_from_slice_get}
+use Rattle.list_laws.proofs.Options.{same_option}
+use Rattle.model_laws.proofs.Choices.{or_else_none}
 use Rattle.orc_ids.specs.declared.ids.NameId.{NameId}
 use Rattle.link_model.specs.Graph.{is_offered}
 use Rattle.link_model.specs.Offers.{name_of, no_symbol}
@@ -64,11 +66,6 @@ only_place test xs i x e t only = split (position test xs) refl
 
 -- The symbols of one object
 
-same_option : (o p : Option NameId) (z : NameId) → IsSome o → IsSome p → unwrap_or o z ≡ unwrap_or p z → o ≡ p
-same_option None p z some other e = absurd (false≢true some)
-same_option (Some a) None z some other e = absurd (false≢true other)
-same_option (Some a) (Some b) z some other e = ap Some e
-
 name_is : (a : NameId) (n : ℕ) → a.0 ≡ n → a ≡ record { 0 = n }
 name_is a n e = ap (λ (k : ℕ). record { 0 = k }) e
 
@@ -105,13 +102,9 @@ else_assoc : {X : Type 0} (a b c : Option X) → or_else a (or_else b c) ≡ or_
 else_assoc None b c = refl
 else_assoc (Some x) b c = refl
 
-else_none : {X : Type 0} (a : Option X) → or_else a None ≡ a
-else_none None = refl
-else_none (Some x) = refl
-
 -- one more object, of number n, is looked at last
 first_pushed : (test : GSym → Bool) (k n : ℕ) (gs : List LinkGraph) (g : LinkGraph) → n ≡ k + length gs → first_symbol test k (gs ++ g ∷ []) ≡ or_else (first_symbol test k gs) (option_map (λ (s : ℕ). (n, s)) (position test g.symbols))
-first_pushed test k n [] g e = else_none (option_map (λ (s : ℕ). (k, s)) (position test g.symbols)) ∙ ap (λ (j : ℕ). option_map (λ (s : ℕ). (j, s)) (position test g.symbols)) (omega (arith, e))
+first_pushed test k n [] g e = or_else_none (option_map (λ (s : ℕ). (k, s)) (position test g.symbols)) ∙ ap (λ (j : ℕ). option_map (λ (s : ℕ). (j, s)) (position test g.symbols)) (omega (arith, e))
 first_pushed test k n (x ∷ xs) g e =
     ap (or_else (option_map (λ (s : ℕ). (k, s)) (position test x.symbols))) (first_pushed test (k + 1) n xs g (omega (arith, e)))
     ∙ else_assoc (option_map (λ (s : ℕ). (k, s)) (position test x.symbols)) (first_symbol test (k + 1) xs) (option_map (λ (s : ℕ). (n, s)) (position test g.symbols))

@@ -2,7 +2,7 @@
 use Rattle.std.proofs.Common.{◌≡◌, ℕ, zero, suc, ◌-◌, ◌≤◌, true, List, [], ◌∷◌, ◌++◌, length, slice_get, take, arith, subst, sym, refl, ap, ◌∙◌, Option, Some, option_and_then}
 use Rattle.std.specs.Option.{option_map_or}
 use Rattle.std.proofs.lemmas.List.Elements.{All-take}
-use Rattle.std.proofs.lemmas.Option.{none-some, same_Some}
+use Rattle.link_laws.proofs.Symbols.{at_or_there}
 use Rattle.orc_ids.specs.declared.ids.DylibId.{DylibId}
 use Rattle.orc_ids.specs.declared.lookup.OrderItem.{OrderItem}
 use Rattle.link_model.specs.Graph.{is_offered}
@@ -26,11 +26,6 @@ use Rattle.program_names.proofs.Building.{HasOldRow, IsBuilt, IsBuiltUnit, defin
 use Rattle.program_names.proofs.Offers.{offered_there}
 use Rattle.program_names.proofs.SettingUp.{set_up, these_units}
 use Rattle.program_names.proofs.Staying.{built_stays}
-
-at_or_is : {X : Type 0} (other : X) (xs : List X) (k : ℕ) (x : X) → slice_get xs k ≡ Some x → at_or other xs k ≡ x
-at_or_is other [] k x e = absurd (none-some x e)
-at_or_is other (y ∷ ys) zero x e = same_Some y x e
-at_or_is other (y ∷ ys) (suc k) x e = at_or_is other ys k x e
 
 -- the order of a tracker's dylib
 abbrev dylib_order : List Dylib → Option Track → List OrderItem
@@ -68,7 +63,7 @@ defined_row gs m b name k s e = (
     within = ap (slice_get old.is.graph.symbols) (sym old.place) ∙ old.is.within
 
     at : at_or no_symbol old.is.graph.symbols s ≡ old.is.symbol
-    at = at_or_is no_symbol old.is.graph.symbols s old.is.symbol within
+    at = at_or_there no_symbol old.is.graph.symbols s old.is.symbol within
 
 of_objects : (gs : List LinkGraph) (m : Plain) → IsBuilt gs m → IsOfObjects gs m
 of_objects gs m b = record {

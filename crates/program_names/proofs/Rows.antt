@@ -1,15 +1,15 @@
 -- The row of a name, and the verdict on a definition of it.
-use Rattle.std.proofs.Common.{◌≡◌, ℕ, zero, suc, ◌+◌, Bool, true, false, not, ◌&&◌, ◌||◌, ◌==◌, nat_eq, List, [], ◌∷◌, slice_get, ◌⊎◌, inl, inr, arith, sym, refl, ap, ◌∙◌, Option, Some, None}
+use Rattle.std.proofs.Common.{◌≡◌, ℕ, suc, ◌+◌, Bool, true, false, not, ◌&&◌, ◌||◌, ◌==◌, nat_eq, List, [], ◌∷◌, slice_get, ◌⊎◌, inl, inr, arith, sym, refl, ap, ◌∙◌, Option, Some, None}
 use Rattle.std.specs.Bool.{if◌then◌else◌}
 use Rattle.std.specs.List.{list_any}
 use Rattle.std.specs.Option.{option_map_or}
 use Rattle.std.proofs.lemmas.Bool.{both_ways, and_parts, and_from, eqb-true, eq-eqb, or_cases}
 use Rattle.std.proofs.lemmas.Option.{none-some, same_Some}
+use Rattle.model_laws.proofs.FirstRows.{first_found}
 use Rattle.orc_ids.specs.declared.flags.SymFlags.{SymFlags}
 use Rattle.orc_ids.specs.declared.ids.NameId.{NameId}
 use Rattle.session_model.specs.Answer.{clash}
 use Rattle.session_model.specs.Change.{is_strong, replaced_by, verdict_on}
-use Rattle.session_model.specs.Lists.{first_some, or_else}
 use Rattle.session_model.specs.Match.{first_row, row_of}
 use Rattle.session_model.specs.Plain.{unsearched_at}
 use Rattle.session_model.specs.declared.rows.InstRow.{InstRow}
@@ -27,16 +27,6 @@ any_parts {X} test (x ∷ xs) e = split (or_cases (test x) (list_any test xs) e)
     split : (test x ≡ true) ⊎ (list_any test xs ≡ true) → (list_any test xs ≡ true → (j : ℕ) × (y : X) × (slice_get xs j ≡ Some y) × (test y ≡ true)) → (j : ℕ) × (y : X) × (slice_get (x ∷ xs) j ≡ Some y) × (test y ≡ true)
     split (inl t) rest = (0, x, refl, t)
     split (inr t) rest = let p = rest t in (suc p.0, p.1, p.2, p.3)
-
--- where no element has something to choose, each has nothing
-pub none_chosen : {X Y : Type 0} (f : X → Option Y) (xs : List X) → first_some f xs ≡ None → (i : ℕ) (x : X) → slice_get xs i ≡ Some x → f x ≡ None
-none_chosen f [] e i x t = absurd (none-some x t)
-none_chosen {X} {Y} f (y ∷ ys) e i x t = split (f y) refl e (none_chosen f ys) i t
-  where
-    split : (o : Option Y) → f y ≡ o → or_else o (first_some f ys) ≡ None → (first_some f ys ≡ None → (i : ℕ) (x : X) → slice_get ys i ≡ Some x → f x ≡ None) → (i : ℕ) → slice_get (y ∷ ys) i ≡ Some x → f x ≡ None
-    split (Some z) is g rest i t = absurd (none-some z (sym g))
-    split None is g rest zero t = ap f (sym (same_Some y x t)) ∙ is
-    split None is g rest (suc i) t = rest g i x t
 
 -- Rows
 
@@ -85,15 +75,6 @@ pub row_parts : (rows : List InstRow) (d name : ℕ) (row : Row) → row_of rows
 row_parts rows d name row e =
     let p = first_parts (is_present_as d name) 0 rows row e in
     record { inst = p.2; there = ap (slice_get rows) (omega (arith, p.1)) ∙ p.3; named = p.4; flags = p.5 }
-
-first_found : (test : InstRow → Bool) (k : ℕ) (rows : List InstRow) (i : ℕ) (r : InstRow) → slice_get rows i ≡ Some r → test r ≡ true → (x : Row) × (first_row test k rows ≡ Some x)
-first_found test k [] i r e t = absurd (none-some r e)
-first_found test k (q ∷ qs) i r e t = split (test q) refl i e (λ n f. first_found test (k + 1) qs n r f t)
-  where
-    split : (b : Bool) → test q ≡ b → (i : ℕ) → slice_get (q ∷ qs) i ≡ Some r → ((n : ℕ) → slice_get qs n ≡ Some r → (x : Row) × (first_row test (k + 1) qs ≡ Some x)) → (x : Row) × ((if b then Some (record { inst = record { 0 = k }; flags = q.flags }) else first_row test (k + 1) qs) ≡ Some x)
-    split true is i e later = (record { inst = record { 0 = k }; flags = q.flags }, refl)
-    split false is zero e later = absurd (both_ways (test q) is (ap test (same_Some q r e) ∙ t))
-    split false is (suc n) e later = later n e
 
 -- a name that an instance is present as has a row
 pub row_found : (rows : List InstRow) (d name i : ℕ) (r : InstRow) → slice_get rows i ≡ Some r → is_present_as d name r ≡ true → (row : Row) × (row_of rows d name ≡ Some row)

@@ -3,6 +3,7 @@ use Rattle.std.proofs.Common.{◌≡◌, ℕ, suc, ◌+◌, ◌<◌, Bool, true,
 use Rattle.std.specs.Prelude.{All, count_by, nat_le, nat_lt, ◌||◌, unwrap_or}
 use Rattle.std.proofs.lemmas.List.Elements.{All-head, All-tail}
 use Rattle.std.proofs.lemmas.Option.{none-some}
+use Rattle.model_laws.proofs.Choices.{none_chosen}
 use Rattle.orc_ids.specs.declared.flags.SymFlags.{SymFlags}
 use Rattle.orc_ids.specs.declared.ids.DylibId.{DylibId}
 use Rattle.orc_ids.specs.declared.ids.NameId.{NameId}
@@ -44,7 +45,6 @@ use Rattle.program_names.specs.Programs.{AreUnits, first_dylib, first_tracker, i
 use Rattle.program_names.proofs.Building.{IsBuilt, IsNext, next_built, next_untouched, defines_own}
 use Rattle.program_names.proofs.Definitions.{one_symbol}
 use Rattle.program_names.proofs.Offers.{offer_of, offered_parts, offers_before}
-use Rattle.program_names.proofs.Rows.{none_chosen}
 
 -- Units of graphs, one by one
 

@@ -2,6 +2,7 @@
 use Rattle.std.proofs.Common.{◌≡◌, ◌⊎◌, inl, inr, ⊎_elim, ℕ, Bool, true, false, Option, Some, None, List, [], ◌∷◌, ◌++◌, refl, ap, sym, ◌∙◌, cond, subst}
 use Rattle.std.specs.Prelude.{◌==◌, ◌||◌, ◌&&◌, not, is_some, slice_get}
 use Rattle.std.specs.List.{filter_map}
+use Rattle.std.proofs.lemmas.Bool.{and_parts, or_right, or_parts, or_cases}
 use Rattle.orc_ids.specs.declared.ids.InstId.{InstId}
 use Rattle.orc_ids.specs.declared.lookup.Level.{Level}
 use Rattle.orc_ids.specs.declared.lookup.Level.TheVariants.{Resolved, Ready}
@@ -9,7 +10,6 @@ use Rattle.session_model.specs.Query.{Stand}
 use Rattle.session_model.specs.declared.rows.Query.{Query}
 use Rattle.query_book.specs.Stands.{at_level, is_lost, all_at, first_lost, is_met, is_matched, is_among, missing, missing_of}
 use Rattle.query_book.specs.Ledger.{Ledger, nobody, without_due, without_first_of, IsSeen, IsAwaited, IsCurrent, IsChange, IsTold, IsToldOf}
-use Rattle.query_book.proofs.Drains.{or_cases, or_neither, or_right, and_both}
 use Rattle.query_book.proofs.Settling.{among_step, is_same, met_from, at_of, lost_some, lost_of}
 
 level_same : (s t : ℕ → Stand) (level : Level) (i : ℕ) → t i ≡ s i → at_level t level i ≡ at_level s level i
@@ -60,7 +60,7 @@ at_both false e = sym e
 told_of : (changed : List InstId) (s t : ℕ → Stand) (q : Query) → IsChangeOf changed s t q → is_met s q ≡ false → IsToldOf t changed (missing s q) q
 told_of changed s t q c unmet = record {
   came = λ i missed at. among_changed changed i (is_among i changed) refl (λ e.
-      let both = and_both (is_matched i q.matched) (not (at_level s q.level i)) (sym (among_missing s q.level i q.matched) ∙ missed) in
+      let both = and_parts (is_matched i q.matched) (not (at_level s q.level i)) (sym (among_missing s q.level i q.matched) ∙ missed) in
       let before : at_level s q.level i ≡ true = sym (level_same s t q.level i (c.others i both.0 e)) ∙ at in
       let no : false ≡ true = sym (ap not before) ∙ both.1 in absurd cc);
   lost = λ i m l. among_changed changed i (is_among i changed) refl (λ e.
@@ -105,7 +105,7 @@ first_current s l is = record { decided = is.decided; waits = is.waits }
 among_neither : (i : ℕ) (first rest : List InstId) → is_among i (first ++ rest) ≡ false → (is_among i first ≡ false) × (is_among i rest ≡ false)
 among_neither i [] rest e = (refl, e)
 among_neither i (j ∷ first) rest e =
-    let n = or_neither (j.0 == i) (is_among i (first ++ rest)) e in
+    let n = or_parts (j.0 == i) (is_among i (first ++ rest)) e in
     let r = among_neither i first rest n.1 in
     (ap (λ b. b || is_among i first) n.0 ∙ r.0, r.1)
 

@@ -2,6 +2,7 @@
 use Rattle.std.proofs.Common.{◌≡◌, ◌≢◌, ◌⊎◌, inl, inr, ⊎_elim, ℕ, Bool, true, false, ◌+◌, ◌-◌, ◌<◌, ◌≤◌, List, [], ◌∷◌, length, set, zero, suc, refl, ap, sym, ◌∙◌, subst, arith}
 use Rattle.std.specs.Prelude.{◌==◌, ◌||◌, ◌&&◌}
 use Rattle.std.proofs.lemmas.Bool.Decides.{eqb_tells}
+use Rattle.std.proofs.lemmas.Bool.{and_parts, or_parts, or_cases, or_left}
 use Rattle.query_book.specs.Counts.{count, total, list_at}
 use Rattle.query_book.specs.Marks.{Marking, left_at, found_at, one_if}
 use Rattle.query_book.specs.Board.{Arriving, Losing}
@@ -37,25 +38,6 @@ pub has_list : (ls : List (List ℕ)) (at k : ℕ) (rest : List ℕ) → list_at
 has_list [] at k rest is = absurd cc
 has_list (l ∷ ls) zero k rest is = omega arith
 has_list (l ∷ ls) (suc at) k rest is = let h : at < length ls = has_list ls at k rest is in omega (arith, h)
-
-pub or_left : (a b : Bool) → a ≡ true → (a || b) ≡ true
-or_left a b e = ap (λ x. x || b) e
-
-pub or_cases : (a b : Bool) → (a || b) ≡ true → (a ≡ true) ⊎ (b ≡ true)
-or_cases true b e = inl refl
-or_cases false b e = inr e
-
-pub or_right : (a b : Bool) → b ≡ true → (a || b) ≡ true
-or_right true b e = refl
-or_right false b e = e
-
-pub or_neither : (a b : Bool) → (a || b) ≡ false → (a ≡ false) × (b ≡ false)
-or_neither true b e = absurd cc
-or_neither false b e = (refl, e)
-
-pub and_both : (a b : Bool) → (a && b) ≡ true → (a ≡ true) × (b ≡ true)
-and_both true b e = (refl, e)
-and_both false b e = absurd cc
 
 pub is_zero : (n : ℕ) → (n == 0) ≡ true → n ≡ 0
 is_zero n e = ⊎_elim (λ (f : ((n == 0) ≡ true) × (n ≡ 0)). f.1) (λ (f : ((n == 0) ≡ false) × (n ≢ 0)). let g : false ≡ true = sym f.0 ∙ e in absurd cc) (eqb_tells n 0)
@@ -104,9 +86,9 @@ arriving_more at query old cur new before mid after a first rest o = record {
   kept = λ k f. o.founds k ∙ or_left (found_at mid.marks k) _ (a.kept k f);
   found = λ k f. ⊎_elim (λ (e : found_at mid.marks k ≡ true).
       ⊎_elim (λ (g : found_at before.marks k ≡ true). inl g) (λ (g : left_at mid.marks k ≡ 0). inr (omega (arith, g, one_left query k mid after o))) (a.found k e))
-      (λ (e : (query == k && left_at after.marks k == 0) ≡ true). inr (is_zero (left_at after.marks k) (and_both (query == k) (left_at after.marks k == 0) e).1))
+      (λ (e : (query == k && left_at after.marks k == 0) ≡ true). inr (is_zero (left_at after.marks k) (and_parts (query == k) (left_at after.marks k == 0) e).1))
       (or_cases (found_at mid.marks k) _ (sym (o.founds k) ∙ f));
-  waits = λ k w f. still k (or_neither (found_at mid.marks k) _ (sym (o.founds k) ∙ f)) (a.waits k w);
+  waits = λ k w f. still k (or_parts (found_at mid.marks k) _ (sym (o.founds k) ∙ f)) (a.waits k w);
   met = λ k. omega (arith, a.met k, o.met k);
 }
   where

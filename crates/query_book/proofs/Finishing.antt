@@ -4,6 +4,9 @@ use Rattle.std.specs.Prelude.{◌==◌, nat_le, is_some, slice_get, option_to_li
 use Rattle.std.specs.List.{filter_map}
 use Rattle.std.specs.Option.{option_map_or}
 use Rattle.std.proofs.lemmas.Bool.Decides.{eqb_tells, leb_tells}
+use Rattle.std.proofs.lemmas.Option.{slice_get_within}
+use Rattle.list_laws.proofs.Lists.{some_below, set_there}
+use Rattle.list_laws.proofs.Bools.{bool_same}
 use Rattle.orc_ids.specs.declared.ids.InstId.{InstId}
 use Rattle.orc_ids.specs.declared.lookup.Level.{Level}
 use Rattle.session_model.specs.Query.{Stand}
@@ -17,11 +20,11 @@ use Rattle.query_book.specs.Board.{waiting, Watches}
 use Rattle.query_book.specs.Rows.{Account, ended_one, ended_all, unit_of}
 use Rattle.query_book.specs.Ledger.{settles, settling, IsSeen}
 use Rattle.query_book.specs.Kept.{waited, ledger, ended_at, IsKept}
-use Rattle.query_book.proofs.Parts.{within, there, get_same, count_same}
+use Rattle.query_book.proofs.Parts.{count_same}
 use Rattle.query_book.proofs.Marking.{found_past}
 use Rattle.query_book.proofs.Endings.{ended_other}
 use Rattle.query_book.proofs.Rising.{settles_at, exactly, Rising}
-use Rattle.query_book.proofs.Settling.{IsSettling, found_is_met, met_is_found, both_ways, still_missing, decided_at, waits_at}
+use Rattle.query_book.proofs.Settling.{IsSettling, found_is_met, met_is_found, still_missing, decided_at, waits_at}
 
 settles_there : (s : ℕ → Stand) (k : ℕ) (qs : List Query) (ends : List (Option QueryEnd)) (q : Query) (e : Option QueryEnd) → slice_get qs k ≡ Some q → slice_get ends k ≡ Some e → settles_at s k qs ends ≡ settles s q e
 settles_there s k [] ends q e a b = absurd cc
@@ -66,7 +69,7 @@ counted s changed a b c k t = ⊎_elim (λ (e : (nat_le (suc k) (length a.querie
     known : (q : Query) (e : Option QueryEnd) → slice_get a.queries k ≡ Some q → slice_get a.ends k ≡ Some e → count k c.marks.met ≡ one_if (settles s q e)
     known q None here end =
         let z : ended_at a.ends k ≡ 0 = at_end a.ends k None end in
-        let f : one_if (found_at c.marks.marks k) ≡ one_if (is_met s q) = ap one_if (both_ways (found_at c.marks.marks k) (is_met s q) (λ x. found_is_met s changed a b c k q t here end x) (λ x. met_is_found s changed a b c k q t here end x)) in
+        let f : one_if (found_at c.marks.marks k) ≡ one_if (is_met s q) = ap one_if (bool_same (found_at c.marks.marks k) (is_met s q) (λ x. found_is_met s changed a b c k q t here end x) (λ x. met_is_found s changed a b c k q t here end x)) in
         omega (arith, m, z, f)
     known q (Some x) here end =
         let z : ended_at a.ends k ≡ 1 = at_end a.ends k (Some x) end in
@@ -75,13 +78,13 @@ counted s changed a b c k t = ⊎_elim (λ (e : (nat_le (suc k) (length a.querie
 
     inside : suc k ≤ length a.queries → count k c.marks.met ≡ one_if (settles_at s k a.queries a.ends)
     inside less =
-        let q = there a.queries k less in
-        let e = there a.ends k (omega (arith, less, t.kept.ends)) in
+        let q = some_below a.queries k less in
+        let e = some_below a.ends k (omega (arith, less, t.kept.ends)) in
         known q.0 e.0 q.1 e.1 ∙ sym (ap one_if (settles_there s k a.queries a.ends q.0 e.0 q.1 e.1))
 
 -- a query that is listed is open
 pub listed_is_open : {N : Type 0} (s : ℕ → Stand) (changed : List InstId) (a : Account N) (b c : Board) (k : ℕ) → IsSettling s changed a b c → 0 < count k c.marks.met → slice_get a.ends k ≡ Some None
-listed_is_open s changed a b c k t pos = ⊎_elim (λ (e : (nat_le (suc k) (length a.ends) ≡ true) × (suc k ≤ length a.ends)). let x = there a.ends k e.1 in step x.0 x.1) (λ (e : (nat_le (suc k) (length a.ends) ≡ false) × (length a.ends < suc k)). absurd (outside (omega (arith, e.1)))) (leb_tells (suc k) (length a.ends))
+listed_is_open s changed a b c k t pos = ⊎_elim (λ (e : (nat_le (suc k) (length a.ends) ≡ true) × (suc k ≤ length a.ends)). let x = some_below a.ends k e.1 in step x.0 x.1) (λ (e : (nat_le (suc k) (length a.ends) ≡ false) × (length a.ends < suc k)). absurd (outside (omega (arith, e.1)))) (leb_tells (suc k) (length a.ends))
   where
     m : count k c.marks.met + ended_at a.ends k ≡ one_if (found_at c.marks.marks k)
     m = met_eq s changed a b c k t
@@ -111,7 +114,7 @@ all_queries at s (k ∷ ks) a = let r = all_queries at s ks (ended_one at s k a)
 ended_here : {N : Type 0} (at : ℕ) (s : ℕ → Stand) (k : ℕ) (a : Account N) (q : Query) → slice_get a.queries k ≡ Some q → k < length a.ends → ended_at (ended_one at s k a).ends k ≡ 1
 ended_here {N} at s k a q here less =
     let e : ended_one at s k a ≡ record { queries = a.queries; ends = set a.ends k (Some (record { at = at; end = ending s q })); armed = set a.armed k None; due = a.due ++ option_to_list (unit_of q) } = ap (λ (x : Option Query). option_map_or (λ q. record { queries = a.queries; ends = set a.ends k (Some (record { at = at; end = ending s q })); armed = set a.armed k None; due = a.due ++ option_to_list (unit_of q) }) x a) here in
-    ap (λ (x : Account N). ended_at x.ends k) e ∙ at_end (set a.ends k (Some (record { at = at; end = ending s q }))) k (Some (record { at = at; end = ending s q })) (get_same a.ends k (Some (record { at = at; end = ending s q })) less)
+    ap (λ (x : Account N). ended_at x.ends k) e ∙ at_end (set a.ends k (Some (record { at = at; end = ending s q }))) k (Some (record { at = at; end = ending s q })) (set_there a.ends k (Some (record { at = at; end = ending s q })) less)
 
 -- each of some open queries has ended, and no other
 pub all_ended : {N : Type 0} (at : ℕ) (s : ℕ → Stand) (ks : List ℕ) (a : Account N) (j : ℕ) → length a.ends ≡ length a.queries → ((k : ℕ) → count k ks ≤ 1) → ((k : ℕ) → 0 < count k ks → slice_get a.ends k ≡ Some None) → ended_at (ended_all at s ks a).ends j ≡ ended_at a.ends j + count j ks
@@ -119,8 +122,8 @@ all_ended at s [] a j same once unended = omega arith
 all_ended at s (k ∷ ks) a j same once unended =
     let o = one_queries at s k a in
     let first : slice_get a.ends k ≡ Some None = unended k (let c : count k (k ∷ ks) ≡ suc (count k ks) = count_same k ks in omega (arith, c)) in
-    let less : k < length a.ends = within a.ends k None first in
-    let q = there a.queries k (omega (arith, less, same)) in
+    let less : k < length a.ends = slice_get_within a.ends k None first in
+    let q = some_below a.queries k (omega (arith, less, same)) in
     let rest : ended_at (ended_all at s ks (ended_one at s k a)).ends j ≡ ended_at (ended_one at s k a).ends j + count j ks =
     all_ended at s ks (ended_one at s k a) j (o.1 ∙ same ∙ ap length (sym o.0)) (λ i. let h : count i (k ∷ ks) ≤ 1 = once i in omega (arith, h))
     (λ i pos. ended_other at s k i a (λ f. let d : count i (k ∷ ks) ≡ suc (count i ks) = subst (λ x. count i (x ∷ ks) ≡ suc (count i ks)) (sym f) (count_same i ks) in let h : count i (k ∷ ks) ≤ 1 = once i in omega (arith, d, h, pos)) ∙ unended i (omega (arith, pos))) in
@@ -190,10 +193,10 @@ open_before {N} at s changed a a' b c d xs k f is = (no_one (found_at c.marks.ma
     zero_found = sym (ends_of at s changed a a' b c d xs k f) ∙ at_end a'.ends k None is
 
     less : k < length a.ends
-    less = let h : k < length a'.ends = within a'.ends k None is in let l : length a'.ends ≡ length a.ends = ap (λ (x : Account N). length x.ends) f.rows ∙ (all_queries at s xs a).1 in omega (arith, h, l)
+    less = let h : k < length a'.ends = slice_get_within a'.ends k None is in let l : length a'.ends ≡ length a.ends = ap (λ (x : Account N). length x.ends) f.rows ∙ (all_queries at s xs a).1 in omega (arith, h, l)
 
     x : (e : Option QueryEnd) × (slice_get a.ends k ≡ Some e)
-    x = there a.ends k less
+    x = some_below a.ends k less
 
     step : (e : Option QueryEnd) → slice_get a.ends k ≡ Some e → slice_get a.ends k ≡ Some None
     step None here = here
@@ -203,7 +206,7 @@ pub finished_seen : {N : Type 0} (at : ℕ) (s : ℕ → Stand) (changed : List 
 finished_seen {N} at s changed a a' b c d xs f = record {
   unmet = λ k q here is.
       let o = open_before at s changed a a' b c d xs k f is in
-      both_ways (is_met s q) false (λ e. sym o.0 ∙ met_is_found s changed a b c k q f.settling_of (old k q here) o.1 e) (λ (e : false ≡ true). absurd cc);
+      bool_same (is_met s q) false (λ e. sym o.0 ∙ met_is_found s changed a b c k q f.settling_of (old k q here) o.1 e) (λ (e : false ≡ true). absurd cc);
   undecided = λ k q here is. decided_at d.marks.marks k (less k q here) ∙ ap (λ (v : Bool). Some v) (new k is);
   waiting = λ k q here is.
       waits_at 0 k k d a'.queries q (omega arith) here ∙ ap (λ v. Some (cond v [] (filter_map (waited (waiting d q.level) k) q.matched))) (new k is)
@@ -218,7 +221,7 @@ finished_seen {N} at s changed a a' b c d xs f = record {
     old k q here = subst (λ l. slice_get l k ≡ Some q) qs here
 
     less : (k : ℕ) (q : Query) → slice_get a'.queries k ≡ Some q → k < length d.marks.marks
-    less k q here = let h : k < length a.queries = within a.queries k q (old k q here) in let m : length d.marks.marks ≡ length c.marks.marks = ap length f.marks in omega (arith, h, m, f.settling_of.heard.hearing.watches.size)
+    less k q here = let h : k < length a.queries = slice_get_within a.queries k q (old k q here) in let m : length d.marks.marks ≡ length c.marks.marks = ap length f.marks in omega (arith, h, m, f.settling_of.heard.hearing.watches.size)
 
     new : (k : ℕ) → slice_get a'.ends k ≡ Some None → found_at d.marks.marks k ≡ false
     new k is = ap (λ ms. found_at ms k) f.marks ∙ (open_before at s changed a a' b c d xs k f is).0

@@ -2,6 +2,7 @@
 use Rattle.std.proofs.Common.{◌≡◌, ◌≢◌, ◌⊎◌, inl, inr, ⊎_elim, ℕ, Bool, true, false, Some, ◌+◌, ◌<◌, ◌≤◌, List, [], ◌∷◌, ◌++◌, zero, suc, refl, ap, sym, ◌∙◌, subst, arith}
 use Rattle.std.specs.Prelude.{◌==◌, ◌||◌, nat_le, slice_get}
 use Rattle.std.proofs.lemmas.Bool.Decides.{eqb_tells, leb_tells}
+use Rattle.std.proofs.lemmas.Bool.{or_right, or_cases}
 use Rattle.orc_ids.specs.declared.lookup.Level.{Level}
 use Rattle.orc_ids.specs.declared.lookup.Level.TheVariants.{Resolved, Ready}
 use Rattle.session_model.specs.Query.{Stand}
@@ -13,7 +14,6 @@ use Rattle.query_book.specs.Marks.{left_at, found_at, one_if}
 use Rattle.query_book.specs.Board.{waiting, Arriving, Losing, Watches, Hears, IsHearing, IsHeard, AreHeard}
 use Rattle.orc_ids.specs.declared.ids.InstId.{InstId}
 use Rattle.query_book.proofs.Parts.{total_least}
-use Rattle.query_book.proofs.Drains.{or_cases, or_right}
 
 pub hears_nothing : (s : ℕ → Stand) (qs : List Query) (b : Board) → Hears s qs b b
 hears_nothing s qs b = record {

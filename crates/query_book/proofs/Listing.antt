@@ -110,10 +110,6 @@ none_missing s level (Some i ∷ os) = step (at_level s level i.0) (none_missing
     step true ih = ih
     step false ih = ⊎_elim (λ (e : ((suc (length (filter_map (missing_of s level) os)) == 0) ≡ true) × (suc (length (filter_map (missing_of s level) os)) ≡ 0)). absurd (omega (arith, e.1))) (λ (e : ((suc (length (filter_map (missing_of s level) os)) == 0) ≡ false) × (suc (length (filter_map (missing_of s level) os)) ≢ 0)). e.0) (eqb_tells (suc (length (filter_map (missing_of s level) os))) 0)
 
-pub length_map : {X Y : Type 0} (f : X → Y) (xs : List X) → length (map f xs) ≡ length xs
-length_map f [] = refl
-length_map f (x ∷ xs) = ap suc (length_map f xs)
-
 pub byte_of : (b : Bool) → bool_byte b ≡ cond b 1 0
 byte_of true = refl
 byte_of false = refl

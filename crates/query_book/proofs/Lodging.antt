@@ -5,6 +5,10 @@ use Rattle.std.specs.List.{filter_map, cons_option}
 use Rattle.std.specs.Option.{option_map_or}
 use Rattle.std.proofs.lemmas.Bool.Decides.{eqb_tells}
 use Rattle.std.proofs.lemmas.List.{map-append, length-map}
+use Rattle.std.proofs.lemmas.Option.{slice_get_within}
+use Rattle.std.proofs.lemmas.Bool.{and_parts, or_cases}
+use Rattle.list_laws.proofs.Bools.{bool_same}
+use Rattle.list_laws.proofs.Lists.{appended_below, pushed_last}
 use Rattle.orc_ids.specs.declared.ids.InstId.{InstId}
 use Rattle.orc_ids.specs.declared.lookup.Level.{Level}
 use Rattle.orc_ids.specs.declared.lookup.Level.TheVariants.{Resolved, Ready}
@@ -23,12 +27,11 @@ use Rattle.notifiers.specs.declared.notice.Unheard.{Unheard}
 use Rattle.query_book.specs.Rows.{Account, with_query, without_first}
 use Rattle.query_book.specs.Ledger.{lodged, waits_of, IsCurrent}
 use Rattle.query_book.specs.Kept.{waited, waits_from, ledger, ended_at, IsKept}
-use Rattle.query_book.proofs.Parts.{list_here, list_other, total_set, count_same, count_apart, within, get_left, get_new, get_push, total_none, count-push}
-use Rattle.query_book.proofs.Drains.{or_cases, and_both}
+use Rattle.query_book.proofs.Parts.{list_here, list_other, total_set, count_same, count_apart, get_push, total_none, count-push}
 use Rattle.query_book.proofs.Endings.{length_first}
 use Rattle.query_book.proofs.Marking.{found_read, left_read, found_push, found_past}
 use Rattle.query_book.proofs.Listing.{has_same, has_missing, none_missing}
-use Rattle.query_book.proofs.Settling.{both_ways, filter_same, positive, is_positive}
+use Rattle.query_book.proofs.Settling.{filter_same, positive, is_positive}
 
 pub same_watches : (qs : List Query) (b c : Board) → Watches qs b → IsSame b c → Watches qs c
 same_watches qs b c w e = record {
@@ -169,7 +172,7 @@ watched_total s query q b c l k w has apart =
     (λ (e : waiting c l ≡ waiting b l). ap (λ ls. total k ls) e) (w.other l)
 
 no_query : (qs : List Query) (p : Query) → slice_get qs (length qs) ≡ Some p → ⊥
-no_query qs p is = let h : length qs < length qs = within qs (length qs) p is in omega (arith, h)
+no_query qs p is = let h : length qs < length qs = slice_get_within qs (length qs) p is in omega (arith, h)
 
 zero_or : (n : ℕ) → (0 < n → ⊥) → n ≡ 0
 zero_or zero never = refl
@@ -190,7 +193,7 @@ watched s qs query q b c old number has hasall w = record {
     m0 = record { left = length (missing s q); found = is_met s q }
 
     mark_here : slice_get c.marks.marks query ≡ Some m0
-    mark_here = ap (λ ms. slice_get ms query) w.marks ∙ ap (λ n. slice_get (b.marks.marks ++ m0 ∷ []) n) (number ∙ sym old.size) ∙ get_new b.marks.marks m0
+    mark_here = ap (λ ms. slice_get ms query) w.marks ∙ ap (λ n. slice_get (b.marks.marks ++ m0 ∷ []) n) (number ∙ sym old.size) ∙ pushed_last b.marks.marks m0
 
     mark_other : (k : ℕ) → k ≢ query → slice_get c.marks.marks k ≡ slice_get b.marks.marks k
     mark_other k apart = ap (λ ms. slice_get ms k) w.marks ∙ get_push b.marks.marks m0 k (λ e. apart (sym e ∙ old.size ∙ sym number))
@@ -199,13 +202,13 @@ watched s qs query q b c old number has hasall w = record {
     query_other k p apart here = sym (get_push qs q k (λ e. apart (sym e ∙ sym number))) ∙ here
 
     query_here : (k : ℕ) (p : Query) → k ≡ query → slice_get (qs ++ q ∷ []) k ≡ Some p → p ≡ q
-    query_here k p e here = let x : Some p ≡ Some q = sym here ∙ ap (λ n. slice_get (qs ++ q ∷ []) n) (e ∙ number) ∙ get_new qs q in cc
+    query_here k p e here = let x : Some p ≡ Some q = sym here ∙ ap (λ n. slice_get (qs ++ q ∷ []) n) (e ∙ number) ∙ pushed_last qs q in cc
 
     queried : slice_get (qs ++ q ∷ []) query ≡ Some q
-    queried = ap (λ n. slice_get (qs ++ q ∷ []) n) number ∙ get_new qs q
+    queried = ap (λ n. slice_get (qs ++ q ∷ []) n) number ∙ pushed_last qs q
 
     more : (k : ℕ) (p : Query) → slice_get qs k ≡ Some p → slice_get (qs ++ q ∷ []) k ≡ Some p
-    more k p here = get_left qs (q ∷ []) k (within qs k p here) ∙ here
+    more k p here = appended_below qs (q ∷ []) k (slice_get_within qs k p here) ∙ here
 
     no_old : (p : Query) → slice_get qs query ≡ Some p → ⊥
     no_old p is = no_query qs p (subst (λ n. slice_get qs n ≡ Some p) number is)
@@ -301,7 +304,7 @@ pub same_waits : (b c : Board) (qs : List Query) → IsSame b c → waits_from 0
 same_waits b c qs e = waits_same 0 b c qs (λ k i l less. ap (λ xs. count k xs) (e.lists l i)) (λ k less. ap (λ ms. found_at ms k) e.marks)
 
 new_waits : (s : ℕ → Stand) (qs : List Query) (query : ℕ) (q : Query) (b c : Board) → Watches qs b → query ≡ length qs → HasLists (waiting b q.level) q.matched → IsWatched s query q b c → filter_map (waited (waiting c q.level) query) q.matched ≡ missing s q
-new_waits s qs query q b c old number has w = filter_same s q.level (waiting c q.level) query q.matched (λ i m. both_ways (nat_lt 0 (count query (list_at (waiting c q.level) i))) (not (at_level s q.level i)) (λ p. out i m p) (λ n. in_it i m n))
+new_waits s qs query q b c old number has w = filter_same s q.level (waiting c q.level) query q.matched (λ i m. bool_same (nat_lt 0 (count query (list_at (waiting c q.level) i))) (not (at_level s q.level i)) (λ p. out i m p) (λ n. in_it i m n))
   where
     none : (i : ℕ) → count query (list_at (waiting b q.level) i) ≡ 0
     none i = zero_or (count query (list_at (waiting b q.level) i)) (λ pos. let o = old.own_waiting q.level query i pos in no_query qs o.0 (subst (λ n. slice_get qs n ≡ Some o.0) number o.1))
@@ -312,7 +315,7 @@ new_waits s qs query q b c old number has w = filter_same s q.level (waiting c q
     out : (i : ℕ) → is_matched i q.matched ≡ true → nat_lt 0 (count query (list_at (waiting c q.level) i)) ≡ true → not (at_level s q.level i) ≡ true
     out i m p =
         let pos : 0 < count query (list_at (listed query (map (missing_of s q.level) q.matched) (waiting b q.level)) i) = subst (λ ls. 0 < count query (list_at ls i)) w.here (is_positive (count query (list_at (waiting c q.level) i)) p) in
-        (and_both (is_matched i q.matched) (not (at_level s q.level i)) (sym (missing_matched s q.level q.matched i) ∙ listed_only query (map (missing_of s q.level) q.matched) (waiting b q.level) i hasm (none i) pos)).1
+        (and_parts (is_matched i q.matched) (not (at_level s q.level i)) (sym (missing_matched s q.level q.matched i) ∙ listed_only query (map (missing_of s q.level) q.matched) (waiting b q.level) i hasm (none i) pos)).1
 
     in_it : (i : ℕ) → is_matched i q.matched ≡ true → not (at_level s q.level i) ≡ true → nat_lt 0 (count query (list_at (waiting c q.level) i)) ≡ true
     in_it i m n =
@@ -405,10 +408,10 @@ lodging_seen {N} s query q o a a' b r c l =
 
     before : waits_from 0 c a.queries ≡ waits_from 0 r a.queries
     before = waits_same 0 r c a.queries (λ k i v less. watched_count s query q r c v k i l.watched has (λ e. omega (arith, less, e, l.number)))
-        (λ k less. ap (λ ms. found_at ms k) l.watched.marks ∙ ap (λ (x : Option Mark). option_map_or (λ m. m.found) x false) (get_left r.marks.marks (record { left = length (missing s q); found = is_met s q } ∷ []) k (omega (arith, less, size))))
+        (λ k less. ap (λ ms. found_at ms k) l.watched.marks ∙ ap (λ (x : Option Mark). option_map_or (λ m. m.found) x false) (appended_below r.marks.marks (record { left = length (missing s q); found = is_met s q } ∷ []) k (omega (arith, less, size))))
 
     found : found_at c.marks.marks query ≡ is_met s q
-    found = ap (λ ms. found_at ms query) l.watched.marks ∙ found_read (r.marks.marks ++ record { left = length (missing s q); found = is_met s q } ∷ []) query (record { left = length (missing s q); found = is_met s q }) (ap (λ n. slice_get (r.marks.marks ++ record { left = length (missing s q); found = is_met s q } ∷ []) n) (l.number ∙ sym size) ∙ get_new r.marks.marks (record { left = length (missing s q); found = is_met s q }))
+    found = ap (λ ms. found_at ms query) l.watched.marks ∙ found_read (r.marks.marks ++ record { left = length (missing s q); found = is_met s q } ∷ []) query (record { left = length (missing s q); found = is_met s q }) (ap (λ n. slice_get (r.marks.marks ++ record { left = length (missing s q); found = is_met s q } ∷ []) n) (l.number ∙ sym size) ∙ pushed_last r.marks.marks (record { left = length (missing s q); found = is_met s q }))
 
     waits : waits_from 0 c (a.queries ++ q ∷ []) ≡ waits_from 0 b a.queries ++ waits_of s q ∷ []
     waits = waits_push 0 c a.queries q query (let n = l.number in omega (arith, n))
@@ -425,9 +428,9 @@ push_known : {X : Type 0} (f : Query → X) (qs : List Query) (ends : List (Opti
     ((j : ℕ) (r : Query) → slice_get qs j ≡ Some r → slice_get ends j ≡ Some None → slice_get xs j ≡ Some (f r)) → slice_get (qs ++ q ∷ []) k ≡ Some p → slice_get (ends ++ None ∷ []) k ≡ Some None → slice_get (xs ++ f q ∷ []) k ≡ Some (f p)
 push_known f qs ends xs q p k same_ends same known here unended =
     ⊎_elim (λ (e : ((length qs == k) ≡ true) × (length qs ≡ k)).
-    let new : slice_get (qs ++ q ∷ []) k ≡ Some q = subst (λ j. slice_get (qs ++ q ∷ []) j ≡ Some q) e.1 (get_new qs q) in
+    let new : slice_get (qs ++ q ∷ []) k ≡ Some q = subst (λ j. slice_get (qs ++ q ∷ []) j ≡ Some q) e.1 (pushed_last qs q) in
     let one : Some q ≡ Some p = sym new ∙ here in let is : q ≡ p = cc in
-    subst (λ j. slice_get (xs ++ f q ∷ []) j ≡ Some (f q)) (same ∙ e.1) (get_new xs (f q)) ∙ ap (λ r. Some (f r)) is)
+    subst (λ j. slice_get (xs ++ f q ∷ []) j ≡ Some (f q)) (same ∙ e.1) (pushed_last xs (f q)) ∙ ap (λ r. Some (f r)) is)
     (λ (e : ((length qs == k) ≡ false) × (length qs ≢ k)).
     get_push xs (f q) k (λ x. e.1 (sym same ∙ x)) ∙ known k p (sym (get_push qs q k e.1) ∙ here) (sym (get_push ends None k (λ x. e.1 (sym same_ends ∙ x))) ∙ unended))
     (eqb_tells (length qs) k)
@@ -460,7 +463,7 @@ if_err (Err e) p = p
 -- the query that was added last
 pub the_new : {N : Type 0} (a a' : Account N) (q p : Query) (o : Option (Unheard N)) (k : ℕ) → a' ≡ with_query a q o → k ≡ length a.queries → slice_get a'.queries k ≡ Some p → p ≡ q
 the_new {N} a a' q p o k rows number here =
-    let e : Some p ≡ Some q = sym here ∙ ap (λ (x : Account N). slice_get x.queries k) rows ∙ ap (λ n. slice_get (a.queries ++ q ∷ []) n) number ∙ get_new a.queries q in cc
+    let e : Some p ≡ Some q = sym here ∙ ap (λ (x : Account N). slice_get x.queries k) rows ∙ ap (λ n. slice_get (a.queries ++ q ∷ []) n) number ∙ pushed_last a.queries q in cc
 
 pub kept_first : {N : Type 0} (a a' : Account N) (b : Board) → IsKept a b → a' ≡ record { queries = a.queries; ends = a.ends; armed = without_first a.armed; due = a.due } → IsKept a' b
 kept_first {N} a a' b k e = subst (λ (x : Account N). IsKept x b) (sym e) (record { ends = k.ends; armed = length_first a.armed ∙ k.armed; watches = k.watches; met = k.met })

@@ -6,10 +6,11 @@ use Rattle.std.specs.List.Sorted.{IsPermutation}
 use Rattle.std.proofs.lemmas.Bool.Decides.{eqb_tells, leb_tells}
 use Rattle.std.proofs.lemmas.List.Sums.{sum_by-cons}
 use Rattle.std.proofs.lemmas.List.Sorted.{sum_by-IsPermutation}
+use Rattle.list_laws.proofs.Lists.{pushed_last}
 use Rattle.query_book.specs.declared.marks.Mark.{Mark}
 use Rattle.query_book.specs.Counts.{count}
 use Rattle.query_book.specs.Marks.{left_at, found_at, one_if, IsMarked}
-use Rattle.query_book.proofs.Parts.{get_set, count-push, length_few, count_same, count_apart, get_new, get_push}
+use Rattle.query_book.proofs.Parts.{get_set, count-push, length_few, count_same, count_apart, get_push}
 
 pub left_set : (marks : List Mark) (at k : ℕ) (m : Mark) → at < length marks → left_at (set marks at m) k ≡ cond (at == k) m.left (left_at marks k)
 left_set marks at k m less = ap (λ (o : Option Mark). option_map_or (λ m. m.left) o 0) (get_set marks at k m less) ∙ step (at == k)
@@ -129,7 +130,7 @@ found_already marks at k is_found =
 pub found_push : (marks : List Mark) (m : Mark) (k : ℕ) → found_at (marks ++ m ∷ []) k ≡ (found_at marks k || (length marks == k && m.found))
 found_push marks m k =
     ⊎_elim (λ (e : ((length marks == k) ≡ true) × (length marks ≡ k)).
-    subst (λ j. found_at (marks ++ m ∷ []) j ≡ m.found) e.1 (found_read (marks ++ m ∷ []) (length marks) m (get_new marks m))
+    subst (λ j. found_at (marks ++ m ∷ []) j ≡ m.found) e.1 (found_read (marks ++ m ∷ []) (length marks) m (pushed_last marks m))
     ∙ sym (ap (λ b. b || (length marks == k && m.found)) (found_past marks k (omega (arith, e.1))) ∙ ap (λ b. b && m.found) e.0))
     (λ (e : ((length marks == k) ≡ false) × (length marks ≢ k)).
     ap (λ (o : Option Mark). option_map_or (λ m. m.found) o false) (get_push marks m k e.1)

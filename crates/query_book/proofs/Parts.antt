@@ -2,34 +2,16 @@
 use Rattle.std.proofs.Common.{◌≡◌, ◌≢◌, ◌⊎◌, inl, inr, ⊎_elim, ℕ, true, false, Option, Some, None, ◌+◌, ◌<◌, ◌≤◌, List, [], ◌∷◌, ◌++◌, length, get_or, set, map, replicate, take, drop, zero, suc, refl, ap, sym, ◌∙◌, cond, subst, arith}
 use Rattle.std.specs.Prelude.{◌==◌, slice_get}
 use Rattle.std.proofs.lemmas.Bool.Decides.{eqb_tells}
+use Rattle.list_laws.proofs.Lists.{set_there}
 use Rattle.orc_ids.specs.declared.ids.InstId.{InstId}
 use Rattle.query_book.specs.Counts.{count, total, list_at}
 use Rattle.query_book.specs.Lists.{HasLists}
-
-pub get_left : {X : Type 0} (xs ys : List X) (k : ℕ) → k < length xs → slice_get (xs ++ ys) k ≡ slice_get xs k
-get_left [] ys k less = absurd (omega arith)
-get_left (x ∷ xs) ys zero less = refl
-get_left (x ∷ xs) ys (suc k) less = get_left xs ys k (omega (arith, less))
-
-pub get_new : {X : Type 0} (xs : List X) (x : X) → slice_get (xs ++ x ∷ []) (length xs) ≡ Some x
-get_new [] x = refl
-get_new (y ∷ xs) x = get_new xs x
 
 pub get_push : {X : Type 0} (xs : List X) (x : X) (k : ℕ) → length xs ≢ k → slice_get (xs ++ x ∷ []) k ≡ slice_get xs k
 get_push [] x zero apart = absurd (apart refl)
 get_push [] x (suc k) apart = refl
 get_push (y ∷ xs) x zero apart = refl
 get_push (y ∷ xs) x (suc k) apart = get_push xs x k (λ e. apart (ap suc e))
-
-pub there : {X : Type 0} (xs : List X) (k : ℕ) → k < length xs → (x : X) × (slice_get xs k ≡ Some x)
-there [] k less = absurd (omega arith)
-there (x ∷ xs) zero less = (x, refl)
-there (x ∷ xs) (suc k) less = there xs k (omega (arith, less))
-
-pub within : {X : Type 0} (xs : List X) (k : ℕ) (x : X) → slice_get xs k ≡ Some x → k < length xs
-within [] k x is = absurd cc
-within (y ∷ xs) zero x is = omega arith
-within (y ∷ xs) (suc k) x is = let h : k < length xs = within xs k x is in omega arith
 
 pub list_here : (ls : List (List ℕ)) (i : ℕ) (l : List ℕ) → i < length ls → list_at (set ls i l) i ≡ l
 list_here [] i l less = absurd (omega arith)
@@ -79,11 +61,6 @@ total_none k (l ∷ ls) none =
     let rest : total k ls ≡ 0 = total_none k ls (λ i. none (suc i)) in
     omega arith
 
-pub get_same : {X : Type 0} (xs : List X) (i : ℕ) (v : X) → i < length xs → slice_get (set xs i v) i ≡ Some v
-get_same [] i v less = absurd (omega arith)
-get_same (x ∷ xs) zero v less = refl
-get_same (x ∷ xs) (suc i) v less = get_same xs i v (omega (arith, less))
-
 pub get_other : {X : Type 0} (xs : List X) (i j : ℕ) (v : X) → i ≢ j → slice_get (set xs i v) j ≡ slice_get xs j
 get_other [] i j v apart = refl
 get_other (x ∷ xs) zero zero v apart = absurd (apart refl)
@@ -94,7 +71,7 @@ get_other (x ∷ xs) (suc i) (suc j) v apart = get_other xs i j v (λ e. apart (
 -- what stands at j after a write to i
 pub get_set : {X : Type 0} (xs : List X) (i j : ℕ) (v : X) → i < length xs → slice_get (set xs i v) j ≡ cond (i == j) (Some v) (slice_get xs j)
 get_set xs i j v less =
-    ⊎_elim (λ (e : ((i == j) ≡ true) × (i ≡ j)). subst (λ n. slice_get (set xs i v) n ≡ Some v) e.1 (get_same xs i v less) ∙ sym (ap (λ b. cond b (Some v) (slice_get xs j)) e.0))
+    ⊎_elim (λ (e : ((i == j) ≡ true) × (i ≡ j)). subst (λ n. slice_get (set xs i v) n ≡ Some v) e.1 (set_there xs i v less) ∙ sym (ap (λ b. cond b (Some v) (slice_get xs j)) e.0))
     (λ (e : ((i == j) ≡ false) × (i ≢ j)). get_other xs i j v e.1 ∙ sym (ap (λ b. cond b (Some v) (slice_get xs j)) e.0))
     (eqb_tells i j)
 

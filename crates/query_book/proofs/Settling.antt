@@ -3,6 +3,9 @@ use Rattle.std.proofs.Common.{◌≡◌, ◌≢◌, ◌⊎◌, inl, ⊎_elim, �
 use Rattle.std.specs.Prelude.{◌==◌, ◌||◌, ◌&&◌, not, nat_lt, nat_le, is_some, slice_get}
 use Rattle.std.specs.List.{filter_map, cons_option}
 use Rattle.std.proofs.lemmas.Bool.Decides.{eqb_tells, leb_tells}
+use Rattle.std.proofs.lemmas.Option.{slice_get_within}
+use Rattle.std.proofs.lemmas.Bool.{and_parts, or_right, or_cases}
+use Rattle.list_laws.proofs.Bools.{bool_same}
 use Rattle.orc_ids.specs.declared.ids.InstId.{InstId}
 use Rattle.orc_ids.specs.declared.lookup.Level.{Level}
 use Rattle.session_model.specs.Lists.{or_else, only_if}
@@ -17,13 +20,7 @@ use Rattle.query_book.specs.Board.{waiting, AreHeard}
 use Rattle.query_book.specs.Rows.{Account}
 use Rattle.query_book.specs.Ledger.{IsTold, IsToldOf}
 use Rattle.query_book.specs.Kept.{waited, waits_from, ledger, IsKept}
-use Rattle.query_book.proofs.Parts.{within, there, total_none, total_least}
-use Rattle.query_book.proofs.Drains.{or_cases, or_right, and_both}
-
-pub both_ways : (x y : Bool) → (x ≡ true → y ≡ true) → (y ≡ true → x ≡ true) → x ≡ y
-both_ways true y there back = sym (there refl)
-both_ways false true there back = back refl
-both_ways false false there back = refl
+use Rattle.query_book.proofs.Parts.{total_none, total_least}
 
 pub positive : (n : ℕ) → 0 < n → nat_lt 0 n ≡ true
 positive zero pos = absurd (omega (arith, pos))
@@ -72,7 +69,7 @@ pub at_of : (s : ℕ → Stand) (level : Level) (matched : List (Option InstId))
 at_of s level [] i all m = absurd cc
 at_of s level (None ∷ matched) i all m = at_of s level matched i all m
 at_of s level (Some j ∷ matched) i all m =
-    let both = and_both (at_level s level j.0) (all_at s level matched) all in
+    let both = and_parts (at_level s level j.0) (all_at s level matched) all in
     ⊎_elim (λ (e : (j.0 == i) ≡ true). subst (λ n. at_level s level n ≡ true) (is_same j.0 i e) both.0) (λ (e : is_matched i matched ≡ true). at_of s level matched i both.1 e) (or_cases (j.0 == i) (is_matched i matched) m)
 
 else_some : (l : Bool) (j : InstId) (F : Option InstId) → is_some F ≡ true → is_some (or_else (only_if l j) F) ≡ true
@@ -128,7 +125,7 @@ pub record IsSettling {N : Type 0} (s : ℕ → Stand) (changed : List InstId) (
 
 pub waits_told : {N : Type 0} (s : ℕ → Stand) (changed : List InstId) (a : Account N) (b c : Board) (k : ℕ) (q : Query) → IsSettling s changed a b c → slice_get a.queries k ≡ Some q → slice_get a.ends k ≡ Some None → found_at b.marks.marks k ≡ false → IsToldOf s changed (filter_map (waited (waiting b q.level) k) q.matched) q
 waits_told s changed a b c k q t here unended new =
-    let less : k < length b.marks.marks = let h : k < length a.queries = within a.queries k q here in omega (arith, h, t.kept.watches.size) in
+    let less : k < length b.marks.marks = let h : k < length a.queries = slice_get_within a.queries k q here in omega (arith, h, t.kept.watches.size) in
     t.told.waits k q (filter_map (waited (waiting b q.level) k) q.matched) here unended (decided_at b.marks.marks k less ∙ ap (λ (f : Bool). Some f) new)
     (waits_at 0 k k b a.queries q (omega arith) here ∙ ap (λ f. Some (cond f [] (filter_map (waited (waiting b q.level) k) q.matched))) new)
 
@@ -140,11 +137,11 @@ pub found_is_met : {N : Type 0} (s : ℕ → Stand) (changed : List InstId) (a :
 found_is_met s changed a b c k q t here unended f = step (found_at b.marks.marks k) refl
   where
     less : k < length b.marks.marks
-    less = let h : k < length a.queries = within a.queries k q here in omega (arith, h, t.kept.watches.size)
+    less = let h : k < length a.queries = slice_get_within a.queries k q here in omega (arith, h, t.kept.watches.size)
 
     one : (w : IsToldOf s changed (filter_map (waited (waiting b q.level) k) q.matched) q) → left_at c.marks.marks k ≡ 0 → (i : ℕ) → is_matched i q.matched ≡ true → (v : Bool) → is_among i (filter_map (waited (waiting b q.level) k) q.matched) ≡ v → (at_level s q.level i ≡ true) ⊎ (is_lost s i ≡ true)
     one w z i m true e =
-        let pos : 0 < count k (list_at (waiting b q.level) i) = is_positive (count k (list_at (waiting b q.level) i)) (and_both (is_matched i q.matched) (nat_lt 0 (count k (list_at (waiting b q.level) i))) (sym (among_waited (waiting b q.level) k i q.matched) ∙ e)).1 in
+        let pos : 0 < count k (list_at (waiting b q.level) i) = is_positive (count k (list_at (waiting b q.level) i)) (and_parts (is_matched i q.matched) (nat_lt 0 (count k (list_at (waiting b q.level) i))) (sym (among_waited (waiting b q.level) k i q.matched) ∙ e)).1 in
         let tot : total k (waiting c q.level) ≡ 0 = sym (t.heard.hearing.watches.left k q here) ∙ z in
         let least : count k (list_at (waiting c q.level) i) ≤ total k (waiting c q.level) = total_least k (waiting c q.level) i in
         inl (t.heard.hearing.hears.came q.level k i (omega (arith, pos, tot, least)))
@@ -188,7 +185,7 @@ met_is_found s changed a b c k q t here unended met = step (found_at c.marks.mar
     no f =
         ⊎_elim (λ (all : all_at s q.level q.matched ≡ true).
         let z : total k (waiting c q.level) ≡ 0 = total_none k (waiting c q.level) (λ i. none f all i (count k (list_at (waiting c q.level) i)) refl) in
-        let l : 0 < left_at c.marks.marks k = t.heard.hearing.watches.waits k (within a.queries k q here) f in
+        let l : 0 < left_at c.marks.marks k = t.heard.hearing.watches.waits k (slice_get_within a.queries k q here) f in
         let g : left_at c.marks.marks k ≡ total k (waiting c q.level) = t.heard.hearing.watches.left k q here in
         omega (arith, z, l, g))
         (λ (l : is_some (first_lost s q.matched) ≡ true).
@@ -205,7 +202,7 @@ met_is_found s changed a b c k q t here unended met = step (found_at c.marks.mar
 
 -- an open query that isn't found waits for exactly what isn't at its level
 pub still_missing : {N : Type 0} (s : ℕ → Stand) (changed : List InstId) (a : Account N) (b c : Board) (k : ℕ) (q : Query) → IsSettling s changed a b c → slice_get a.queries k ≡ Some q → slice_get a.ends k ≡ Some None → found_at c.marks.marks k ≡ false → filter_map (waited (waiting c q.level) k) q.matched ≡ missing s q
-still_missing s changed a b c k q t here unended f = filter_same s q.level (waiting c q.level) k q.matched (λ i m. both_ways (nat_lt 0 (count k (list_at (waiting c q.level) i))) (not (at_level s q.level i)) (λ p. not_at i m (at_level s q.level i) refl p) (λ n. listed i m (at_level s q.level i) refl n))
+still_missing s changed a b c k q t here unended f = filter_same s q.level (waiting c q.level) k q.matched (λ i m. bool_same (nat_lt 0 (count k (list_at (waiting c q.level) i))) (not (at_level s q.level i)) (λ p. not_at i m (at_level s q.level i) refl p) (λ n. listed i m (at_level s q.level i) refl n))
   where
     not_at : (i : ℕ) → is_matched i q.matched ≡ true → (v : Bool) → at_level s q.level i ≡ v → nat_lt 0 (count k (list_at (waiting c q.level) i)) ≡ true → not (at_level s q.level i) ≡ true
     not_at i m true e p = absurd (listed_is_missing s changed a b c k i q t here unended f m (is_positive (count k (list_at (waiting c q.level) i)) p) e)
@@ -218,7 +215,7 @@ still_missing s changed a b c k q t here unended f = filter_same s q.level (wait
     old = found_before s changed a b c k (found_at b.marks.marks k) t f refl
 
     known : (i : ℕ) → is_matched i q.matched ≡ true → at_level s q.level i ≡ false → (v : Bool) → is_among i (filter_map (waited (waiting b q.level) k) q.matched) ≡ v → 0 < count k (list_at (waiting b q.level) i)
-    known i m e true g = is_positive (count k (list_at (waiting b q.level) i)) (and_both (is_matched i q.matched) (nat_lt 0 (count k (list_at (waiting b q.level) i))) (sym (among_waited (waiting b q.level) k i q.matched) ∙ g)).1
+    known i m e true g = is_positive (count k (list_at (waiting b q.level) i)) (and_parts (is_matched i q.matched) (nat_lt 0 (count k (list_at (waiting b q.level) i))) (sym (among_waited (waiting b q.level) k i q.matched) ∙ g)).1
     known i m e false g = absurd (⊎_elim (λ (x : at_level s q.level i ≡ true). let h : true ≡ false = sym x ∙ e in cc) (λ (x : is_lost s i ≡ true). unmet (or_right (all_at s q.level q.matched) (is_some (first_lost s q.matched)) (lost_some s q.matched i m x))) ((waits_told s changed a b c k q t here unended old).stays i m g))
 
     enough : (i x y : ℕ) → count k (list_at (waiting c q.level) i) ≡ x → count k (list_at (waiting b q.level) i) ≡ y → at_level s q.level i ≡ false → y ≤ x

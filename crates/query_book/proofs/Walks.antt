@@ -7,8 +7,10 @@ use Rattle.query_book.specs.Counts.{list_at}
 use Rattle.query_book.specs.Lists.{walk, walks, IsChained}
 use Rattle.std.proofs.lemmas.List.{map-set, append-nil, map-append}
 use Rattle.std.proofs.Common.{length-append}
+use Rattle.std.proofs.lemmas.Option.{slice_get_within}
+use Rattle.list_laws.proofs.Lists.{some_below, appended_below, pushed_last, set_there}
 use Rattle.query_book.specs.Counts.{total}
-use Rattle.query_book.proofs.Parts.{get_left, get_new, there, within, get_same, get_after_set, list_of, more_lists, more_total}
+use Rattle.query_book.proofs.Parts.{get_after_set, list_of, more_lists, more_total}
 
 abbrev pub Falls : List Node → Type 0
 Falls nodes = (m j : ℕ) (n : Node) → slice_get nodes m ≡ Some n → n.next ≡ Some j → j < m
@@ -34,8 +36,8 @@ walk_same nodes more (suc f) zero None falls bf bg bn = refl
 walk_same nodes more (suc f) zero (Some m) falls bf bg bn = absurd (omega (arith, bg))
 walk_same nodes more (suc f) (suc g) None falls bf bg bn = refl
 walk_same nodes more (suc f) (suc g) (Some m) falls bf bg bn =
-    let n = there nodes m bn in
-    let e : slice_get (nodes ++ more) m ≡ Some n.0 = get_left nodes more m bn ∙ n.1 in
+    let n = some_below nodes m bn in
+    let e : slice_get (nodes ++ more) m ≡ Some n.0 = appended_below nodes more m bn ∙ n.1 in
     ap (λ (o : Option Node). option_map_or (λ n. n.query ∷ walk f nodes n.next) o []) n.1
     ∙ ap (λ l. n.0.query ∷ l) (walk_same nodes more f g n.0.next falls (below_next nodes m f n.0 n.0.next falls n.1 refl bf) (below_next nodes m g n.0 n.0.next falls n.1 refl bg) (below_all nodes m n.0 n.0.next falls n.1 refl bn))
     ∙ sym (ap (λ (o : Option Node). option_map_or (λ n. n.query ∷ walk g (nodes ++ more) n.next) o []) e)
@@ -50,7 +52,7 @@ walk_first nodes zero m n falls is less = absurd (omega (arith, less))
 walk_first nodes (suc f) m n falls is less =
     let bf : Below f n.next = below_next nodes m f n n.next falls is refl less in
     ap (λ (o : Option Node). option_map_or (λ n. n.query ∷ walk f nodes n.next) o []) is
-    ∙ ap (λ l. n.query ∷ l) (walk_far nodes f (suc f) n.next falls bf (below_more f n.next bf) (below_all nodes m n n.next falls is refl (within nodes m n is)))
+    ∙ ap (λ l. n.query ∷ l) (walk_far nodes f (suc f) n.next falls bf (below_more f n.next bf) (below_all nodes m n n.next falls is refl (slice_get_within nodes m n is)))
   where
     below_more : (f : ℕ) (link : Option ℕ) → Below f link → Below (suc f) link
     below_more f None b = tt
@@ -84,7 +86,7 @@ walks_add nodes firsts at query next chained is =
     let low : Below (length nodes) next = begins_below nodes firsts at next chained is in
     let head : walk (length more) more (Some (length nodes)) ≡ query ∷ list_at (walks nodes firsts) at =
     ap (λ f. walk f more (Some (length nodes))) len
-    ∙ ap (λ (o : Option Node). option_map_or (λ n. n.query ∷ walk (length nodes) more n.next) o []) (get_new nodes n)
+    ∙ ap (λ (o : Option Node). option_map_or (λ n. n.query ∷ walk (length nodes) more n.next) o []) (pushed_last nodes n)
     ∙ ap (λ l. query ∷ l) (sym (walk_same nodes (n ∷ []) (length nodes) (length nodes) next chained.falls low low low) ∙ sym (list_of (walk (length nodes) nodes) firsts at next is)) in
     set_both (walk (length nodes) nodes) (walk (length more) more) firsts at (Some (length nodes)) (query ∷ list_at (walks nodes firsts) at)
     (λ i f there. let low : Below (length nodes) f = begins_below nodes firsts i f chained there in
@@ -100,12 +102,12 @@ walks_pop nodes firsts at m n chained is node =
     let F : Option ℕ → List ℕ = walk (length nodes) nodes in
     list_of F firsts at (Some m) is
     ∙ walk_first nodes (length nodes) m n chained.falls node (chained.begins at m is)
-    ∙ ap (λ l. n.query ∷ l) (sym (list_of F (set firsts at n.next) at n.next (get_same firsts at n.next (within firsts at (Some m) is))))
+    ∙ ap (λ l. n.query ∷ l) (sym (list_of F (set firsts at n.next) at n.next (set_there firsts at n.next (slice_get_within firsts at (Some m) is))))
 
 pub walks_rest : (nodes : List Node) (firsts : List (Option ℕ)) (at : ℕ) (next : Option ℕ) → at < length firsts → walks nodes (set firsts at next) ≡ set (walks nodes firsts) at (list_at (walks nodes (set firsts at next)) at)
 walks_rest nodes firsts at next less =
     let F : Option ℕ → List ℕ = walk (length nodes) nodes in
-    map-set F firsts at next ∙ ap (λ l. set (walks nodes firsts) at l) (sym (list_of F (set firsts at next) at next (get_same firsts at next less)))
+    map-set F firsts at next ∙ ap (λ l. set (walks nodes firsts) at l) (sym (list_of F (set firsts at next) at next (set_there firsts at next less)))
 
 pub walks_none : (nodes : List Node) (firsts : List (Option ℕ)) (at : ℕ) → option_and_then (λ f. f) (slice_get firsts at) ≡ None → list_at (walks nodes firsts) at ≡ []
 walks_none nodes [] at none = refl
@@ -134,7 +136,7 @@ chained_pop nodes firsts at m n chained node = record {
 }
   where
     low : (j : ℕ) → n.next ≡ Some j → j < length nodes
-    low j e = let h : j < m = chained.falls m j n node e in let g : m < length nodes = within nodes m n node in omega (arith, h, g)
+    low j e = let h : j < m = chained.falls m j n node e in let g : m < length nodes = slice_get_within nodes m n node in omega (arith, h, g)
 
 -- empty chains at the end
 walks_more : (nodes : List Node) (firsts : List (Option ℕ)) (n : ℕ) → walks nodes (firsts ++ replicate n None) ≡ walks nodes firsts ++ replicate n []

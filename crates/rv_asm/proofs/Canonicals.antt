@@ -7,6 +7,7 @@ use Rattle.std.proofs.lemmas.Bool.Decides.{nat_tests}
 use Rattle.std.proofs.lemmas.List.{append-nil, map-append}
 use Rattle.std.proofs.lemmas.List.Elements.{All-map, All-weaker, filter_passes, filter-append}
 use Rattle.std.proofs.lemmas.Map.Keys.{apart_from_distinct}
+use Rattle.std.proofs.lemmas.Bool.{or_from}
 use Rattle.orc_words.specs.Bits.{bits_at}
 use Rattle.elf_read.specs.declared.object.ElfObject.{ElfObject}
 use Rattle.elf_read.specs.declared.object.Section.{Section}
@@ -39,18 +40,14 @@ use Rattle.rv_asm.proofs.SoundTexts.{SoundKnown}
 byte_good : (b : ℕ) → is_symbol_byte b ≡ true → (nat_lt b 0x21 || b == 0x7f) ≡ false
 byte_good b h = grind (arith, nat_tests, h)
 
-neither : (t u : Bool) → t ≡ false → u ≡ false → (t || u) ≡ false
-neither true u h k = h
-neither false u h k = k
-
 bytes_good : (bs : List ℕ) → list_all is_symbol_byte bs ≡ true → list_any (λ b. nat_lt b 0x21 || b == 0x7f) bs ≡ false
 bytes_good [] h = refl
-bytes_good (b ∷ bs) h = neither (nat_lt b 0x21 || b == 0x7f) (list_any (λ b. nat_lt b 0x21 || b == 0x7f) bs) (byte_good b (and_left (is_symbol_byte b) (list_all is_symbol_byte bs) h)) (bytes_good bs (and_right (is_symbol_byte b) (list_all is_symbol_byte bs) h))
+bytes_good (b ∷ bs) h = or_from (nat_lt b 0x21 || b == 0x7f) (list_any (λ b. nat_lt b 0x21 || b == 0x7f) bs) (byte_good b (and_left (is_symbol_byte b) (list_all is_symbol_byte bs) h)) (bytes_good bs (and_right (is_symbol_byte b) (list_all is_symbol_byte bs) h))
 
 name_good : (name : List ℕ) → is_symbol name ≡ true → is_bad_name name ≡ false
 unfolding is_symbol is_bad_name
 name_good [] h = absurd (cc h)
-name_good (b ∷ bs) h = neither (length (b ∷ bs) == 0) (list_any (λ b. nat_lt b 0x21 || b == 0x7f) (b ∷ bs)) (nonzero (length bs)) (bytes_good (b ∷ bs) (and_right (not (is_digit b)) (list_all is_symbol_byte (b ∷ bs)) h))
+name_good (b ∷ bs) h = or_from (length (b ∷ bs) == 0) (list_any (λ b. nat_lt b 0x21 || b == 0x7f) (b ∷ bs)) (nonzero (length bs)) (bytes_good (b ∷ bs) (and_right (not (is_digit b)) (list_all is_symbol_byte (b ∷ bs)) h))
 
 name_text : (name : List ℕ) → is_symbol name ≡ true → IsText name
 unfolding is_symbol

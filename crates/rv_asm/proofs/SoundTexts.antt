@@ -19,9 +19,10 @@ use Rattle.asm_state.specs.Sections.{Made, Sections, fresh, is_bss, with_bytes, 
 use Rattle.asm_state.specs.Names.{has}
 use Rattle.asm_text.specs.declared.reading.BadLine.{BadLine}
 use Rattle.asm_text.specs.Known.{Known, nothing_known}
-use Rattle.asm_text.specs.Refusals.{padding, fits, takes_section, refusal, takes_name, label_refusal, misfit}
+use Rattle.asm_text.specs.Refusals.{padding, fits, takes_section, refusal, label_refusal}
 use Rattle.asm_text.specs.Said as said
 use Rattle.asm_text.specs.Texts as texts
+use Rattle.asm_text.proofs.Rooms.{not_refused}
 use Rattle.rv_asm.proofs.Named.{IsName, Fine, Fixes, Itemized, Labels, fine, labels}
 use Rattle.rv_asm.proofs.SoundSections.{SoundSections, Adds, sound_none, sound_entered, grows_entered, opening, sound_in_current, grows_in_current, sound_aligned}
 use Rattle.rv_asm.proofs.SoundSymbols.{SoundSymbols, symbols_none, symbols_more, symbols_mentioning, symbols_remarked, symbols_common, symbols_labelled, keeps_global, keeps_weak, keeps_hidden}
@@ -209,14 +210,6 @@ room_labelled (statement.Zero n) label k sound room = tt
 room_labelled (statement.Align align) label k sound room = tt
 room_labelled (statement.Code insn fixup) label k sound room = tt
 room_labelled (statement.Call first second symbol) label k sound room = tt
-
-not_refused : (label : Option (List ℕ)) (s : Statement) (k : Known) → refusal label s k ≡ None → fits s k ≡ true
-unfolding refusal
-not_refused label s k is = chosen (takes_name label s k) (fits s k) is where
-  chosen : (t u : Bool) → (if t then Some why.Name else if u then None else Some (misfit s k)) ≡ None → u ≡ true
-  chosen true u h = absurd (cc h)
-  chosen false true h = refl
-  chosen false false h = absurd (cc h)
 
 unless_sound : (o : Option AsmWhy) (k : Known) (next : Known × Option AsmWhy) → SoundKnown k → (o ≡ None → SoundKnown next.0) → SoundKnown (texts.unless o k next).0
 unless_sound None k next sound h = h refl

@@ -4,6 +4,7 @@ use Rattle.std.specs.Prelude.{⊤, All, IfSome, flat_map, option_map, slice_get}
 use Rattle.std.proofs.lemmas.List.{map-append, take-map}
 use Rattle.std.proofs.lemmas.Option.{slice_get-map}
 use Rattle.std.proofs.lemmas.List.Elements.{All-nil, All-cons, All-head, All-tail}
+use Rattle.list_laws.proofs.Each.{all_front, all_back}
 use Rattle.orc_ids.specs.declared.limits.TheConstants.{ORDER_LIMIT, WANTED_LIMIT}
 use Rattle.orc_ids.specs.declared.lookup.Outcome.{Outcome}
 use Rattle.script_calls.specs.Dylibs.{dylib_names}
@@ -17,7 +18,6 @@ use Rattle.session_model.specs.Meaning.{Meaning}
 use Rattle.session_model.specs.declared.entry.Event.{Event}
 use Rattle.session_model.specs.declared.entry.Event.TheVariants as event
 use Rattle.script_plan.specs.Notes.{watch_of, watches_of}
-use Rattle.script_plan.proofs.Lists.{all_front, all_back}
 
 -- an event of a set-up, where so many dylibs are made
 abbrev pub CanHappen : ℕ → Event Meaning → Type 0

@@ -4,6 +4,7 @@ use Rattle.std.specs.Prelude.{All}
 use Rattle.std.specs.List.{range_with_len}
 use Rattle.std.proofs.lemmas.List.{length-map}
 use Rattle.std.proofs.lemmas.List.Elements.{All-same}
+use Rattle.list_laws.proofs.Each.{all_front, all_back}
 use Rattle.orc_ids.specs.declared.lookup.Outcome.{Outcome}
 use Rattle.script_calls.specs.Dylibs.{DifferentNames, dylib_names}
 use Rattle.script_calls.specs.Plans.{CanRun, event_of, line_of}
@@ -15,7 +16,6 @@ use Rattle.session_script.specs.WellFormed.{IsWellFormed, IsSetupLine, IsClientL
 use Rattle.script_plan.proofs.Asking.{all_can_happen, all_can_do}
 use Rattle.script_plan.proofs.Calls.{AllCanHappen, CanDo, can_set_up_each, can_all}
 use Rattle.script_plan.proofs.Dylibs.{different, named}
-use Rattle.script_plan.proofs.Lists.{all_front, all_back}
 use Rattle.script_plan.proofs.Numbers.{plan_has_notes}
 use Rattle.script_plan.proofs.Taken.{taken_in_order}
 use Rattle.session_model.specs.Meaning.{Meaning}

@@ -1,7 +1,8 @@
 -- A script's session keeps its promises.
-use Rattle.std.proofs.Common.{arith, ◌≡◌, ℕ, suc, ◌+◌, Bool, true, false, ◌==◌, List, [], ◌∷◌, ◌++◌, All, slice_get, take, Option, None, Some, refl, subst}
+use Rattle.std.proofs.Common.{arith, ◌≡◌, ℕ, suc, ◌+◌, Bool, true, false, ◌==◌, List, [], ◌∷◌, ◌++◌, slice_get, take, Option, None, Some, refl, subst}
 use Rattle.std.specs.Bool.{if◌then◌else◌}
-use Rattle.std.proofs.lemmas.List.Elements.{All-cons, All-head, All-nil, All-tail}
+use Rattle.std.proofs.lemmas.List.Elements.{All-cons, All-head, All-nil}
+use Rattle.list_laws.proofs.Each.{all_front, all_back}
 use Rattle.orc_ids.specs.declared.lookup.Stop.{Stop}
 use Rattle.exec_run.specs.declared.ran.RunEnd.{RunEnd}
 use Rattle.run_laws.specs.Ended.{AreMemory}
@@ -51,15 +52,6 @@ numbered_are s m (e ∷ es) h at = by (e.seat.0 == s) here (numbered_are s (m + 
 
 calls_of : (s : ℕ) (h : List (Entry Meaning)) → AreCallsOf h (numbered_calls s 1 h)
 calls_of s h = numbered_are s 1 h h (λ k e there. (k, omega arith, there))
-
--- of two lists behind each other each has what all have
-all_first : {X : Type 0} (P : X → Type 0) (xs ys : List X) → All P (xs ++ ys) → All P xs
-all_first P [] ys all = All-nil P
-all_first P (x ∷ xs) ys all = All-cons P x xs (All-head P x (xs ++ ys) all) (all_first P xs ys (All-tail P x (xs ++ ys) all))
-
-all_second : {X : Type 0} (P : X → Type 0) (xs ys : List X) → All P (xs ++ ys) → All P ys
-all_second P [] ys all = all
-all_second P (x ∷ xs) ys all = all_second P xs ys (All-tail P x (xs ++ ys) all)
 
 -- One line
 
@@ -126,7 +118,7 @@ module _ (jmax : ℕ) (h : List (Entry Meaning)) (legal : IsLegal jmax h) where
   lines_kept _ _ _ _ of (AtEnd given) = tt
   lines_kept _ _ _ _ of (Goes given line lines end ends now later is rest) =
       let P : ℕ × Entry Meaning → Type 0 = λ c. (n : ℕ) × (c.0 ≡ n + 1) × (slice_get h n ≡ Some c.1) in
-      (line_kept given line end now (all_first P now later of) is, lines_kept (given_by line end ++ given) lines ends later (all_second P now later of) rest)
+      (line_kept given line end now (all_front P now later of) is, lines_kept (given_by line end ++ given) lines ends later (all_back P now later of) rest)
   lines_kept _ _ _ _ of (Stops given line lines st skipped now stopped skips) = (stop_kept given line st, skipped_kept (given_by line (Stopped st) ++ given) lines skipped skips)
 
   went_kept : (script : Script) (ends : List (List LineEnd)) (setup later : List (Entry Meaning)) (stopped : Option Stop) → Went jmax script ends h setup later stopped →

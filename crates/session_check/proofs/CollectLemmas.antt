@@ -12,15 +12,10 @@ use Rattle.session_model.specs.declared.entry.Reply.{Reply}
 use Rattle.session_model.specs.declared.entry.Reply.TheVariants as reply
 use Rattle.session_model.specs.declared.rows.Ending.TheVariants.{Found, Lost}
 use Rattle.session_model.specs.declared.rows.Query.{Query}
-use Rattle.session_laws.proofs.Choosing.{reply_is_determined}
+use Rattle.session_laws.proofs.Choosing.{reply_is_determined, collect_unplaced}
 use Rattle.session_laws.proofs.Elements.{element_below}
 use Rattle.session_laws.proofs.Ending.{open_has_no_end}
-use Rattle.session_laws.specs.Replies.{is_placed}
 use Rattle.session_past.specs.Taking.{IsCollected}
-
-not_placed : (past : List (Entry Meaning)) (m : Plain) (q : ℕ) (r : Reply) → AnswersCollect past m q r → is_placed r ≡ false
-not_placed past m q (reply.Placed base) a = absurd a
-not_placed past m q r a = refl
 
 -- an answer other than Open is the reply of an entry
 closed_right : (past : List (Entry Meaning)) (m : Plain) (q : ℕ) (known : Reply) → IsCollected past m q known → (known ≡ reply.Open → ⊥) → AnswersCollect past m q known
@@ -47,7 +42,7 @@ by_reply past q known r c = (λ p. subst (AnswersCollect past (state past) q) (s
     back : AnswersCollect past (state past) q r → (known ≡ reply.Open → ⊥) × (r ≡ known)
     back a = let n : known ≡ reply.Open → ⊥ = right_closed past q known r c a in
         let k : AnswersCollect past (state past) q known = closed_right past (state past) q known c n in
-        (n, reply_is_determined 0 past 0 (event.Collect query) r known a k (not_placed past (state past) q r a) (not_placed past (state past) q known k))
+        (n, reply_is_determined 0 past 0 (event.Collect query) r known a k (collect_unplaced past (state past) q r a) (collect_unplaced past (state past) q known k))
 
 -- where the query is open, no reply is right
 pub collected_open : (past : List (Entry Meaning)) (m : Plain) (q : ℕ) (known r : Reply) → m ≡ state past → IsCollected past m q known → known ≡ reply.Open → IsTrue false ↔ AnswersCollect past m q r

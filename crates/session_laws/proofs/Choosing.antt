@@ -2,6 +2,7 @@
 use Rattle.std.proofs.Common.{◌≡◌, ℕ, ◌≤◌, true, false, List, [], ◌∷◌, slice_get, length, subst, sym, refl, ap, ap₂, ◌∙◌, Some, arith}
 use Rattle.std.proofs.lemmas.Bool.{both_ways}
 use Rattle.std.proofs.lemmas.Option.{same_Some}
+use Rattle.model_laws.proofs.Units.{call_one}
 use Rattle.orc_ids.specs.declared.ids.InstId.{InstId}
 use Rattle.orc_ids.specs.declared.ids.QueryId.{QueryId}
 use Rattle.orc_ids.specs.declared.ids.UnitId.{UnitId}
@@ -9,7 +10,7 @@ use Rattle.orc_ids.specs.declared.place.Shape.{Shape}
 use Rattle.session_model.specs.Meaning.{Meaning, Bindings}
 use Rattle.session_model.specs.Plain.{Plain, UnitRow, unit_shape}
 use Rattle.session_model.specs.State.{state, IsEnd}
-use Rattle.session_model.specs.Answer.{AnswersCall, AnswersTake, AnswersFinish, AnswersCollect, AnswersPlace, AnswersEmit, HasCause, LinkEnded, called, Called, Gone, Wrong, Right, answer_link, can_place, can_resolve, can_link, can_emit}
+use Rattle.session_model.specs.Answer.{AnswersTake, AnswersFinish, AnswersCollect, AnswersPlace, AnswersEmit, HasCause, LinkEnded, called, answer_link, can_place, can_resolve, can_link, can_emit}
 use Rattle.session_model.specs.declared.entry.Entry.{Entry}
 use Rattle.session_model.specs.declared.entry.Event.TheVariants as event
 use Rattle.session_model.specs.declared.entry.Finishing.TheVariants as finishing
@@ -94,12 +95,19 @@ take_one h m [] a b x y = absurd x
 take_one h m (job.Start u ∷ js) a b x y = x ∙ sym y
 take_one h m (job.Finish u ∷ js) a b x y = finish_one h m u.0 a b x y
 
--- Calls on a unit
+-- Replies that aren't places
 
-call_one : (c : Called) (u : UnitId) (Q : UnitRow → Reply → Type 0) (a b : Reply) → ((x : UnitRow) → Q x a → Q x b → a ≡ b) → AnswersCall c u (λ x. Q x a) a → AnswersCall c u (λ x. Q x b) b → a ≡ b
-call_one Gone u Q a b h x y = x ∙ sym y
-call_one Wrong u Q a b h x y = x ∙ sym y
-call_one (Right r) u Q a b h x y = h r x y
+pub collect_unplaced : (h : List (Entry Meaning)) (m : Plain) (q : ℕ) (r : Reply) → AnswersCollect h m q r → is_placed r ≡ false
+collect_unplaced h m q (reply.Placed base) a = absurd a
+collect_unplaced h m q _ a = refl
+
+pub take_unplaced : (h : List (Entry Meaning)) (m : Plain) (jobs : List Job) (r : Reply) → AnswersTake h m jobs r → is_placed r ≡ false
+take_unplaced h m [] r a = absurd a
+take_unplaced h m (job.Start u ∷ js) r a = ap is_placed a
+take_unplaced h m (job.Finish u ∷ js) (reply.Placed base) a = absurd a
+take_unplaced h m (job.Finish u ∷ js) _ a = refl
+
+-- Calls on a unit
 
 no_room : (m : Plain) (shape : Shape) (a : Reply) → is_placed a ≡ false → AnswersPlace m shape a → a ≡ reply.NoRoom shape.need
 no_room m shape (reply.Placed base) n x = absurd (both_ways true n refl)

@@ -7,7 +7,7 @@ use Rattle.session_laws.specs.Sound.{LinkQuery, is_held_phase}
 use Rattle.session_laws.proofs.Elements.{changed_elsewhere, changed_some, pushed_last}
 use Rattle.session_laws.proofs.Ending.{all_claimed_queries}
 use Rattle.session_laws.proofs.Invariant.{sound_changed, empty_sound}
-use Rattle.session_laws.proofs.Losing.{numbers_all, all_more}
+use Rattle.session_laws.proofs.Losing.{numbers_all}
 use Rattle.session_laws.proofs.Replies.{GoodMatches}
 use Rattle.session_laws.proofs.RowStages.{linkable_held}
 use Rattle.session_laws.proofs.Settling.{settled_rows, settled_queries}
@@ -18,6 +18,8 @@ use Rattle.std.specs.List.{AllByRecursion}
 use Rattle.std.specs.Option.{option_map_or}
 use Rattle.std.proofs.lemmas.Bool.{both_ways, cases_Bool, eq-eqb, eqb-true, and_parts, and_from}
 use Rattle.std.proofs.lemmas.Option.{none-some, same_Some, slice_get_past}
+use Rattle.model_laws.proofs.Phases.{waiting_stage}
+use Rattle.list_laws.proofs.Each.{each_weaker}
 use Rattle.orc_ids.specs.declared.ids.InstId.{InstId}
 use Rattle.orc_ids.specs.declared.ids.UnitId.{UnitId}
 use Rattle.graph_walks.specs.Walks as walks
@@ -36,7 +38,6 @@ use Rattle.session_model.specs.declared.change.Change.TheVariants.{Link}
 use Rattle.session_model.specs.declared.entry.Entry.{Entry}
 use Rattle.session_model.specs.declared.entry.Reply.TheVariants as reply
 use Rattle.session_model.specs.declared.rows.InstRow.{InstRow}
-use Rattle.session_model.specs.declared.rows.UnitPhase.{UnitPhase}
 use Rattle.session_model.specs.declared.rows.UnitPhase.TheVariants as stage
 use Rattle.session_laws.specs.Chains.{Ends, Stops, AllEnd, ChainsEnd, ComingIsTested}
 use Rattle.session_laws.specs.Sound.{IsSound}
@@ -84,10 +85,6 @@ pub record Follows (rows : List InstRow) (units : List UnitRow) (queries : List 
   pub query : Query
   pub asked : slice_get queries number ≡ Some query
   pub matched : Contains (matched_instances query.matched) j
-
-pub waiting_stage : (p : UnitPhase) → is_waiting p ≡ true → p ≡ stage.Waiting
-waiting_stage stage.Waiting e = refl
-waiting_stage _ e = absurd (both_ways false refl e)
 
 none_in : (j : ℕ) → Contains [] j → ⊥
 none_in j c = not-suc-le-zero c.1
@@ -279,7 +276,7 @@ linked_end m u x found s t c is uncycled good all i = ends_more next old mine ot
         uncoming : (l : ℕ) → Contains (matched_instances found) l → comes_to_unit m.rows m.units m.queries u l ≡ false
         uncoming l c = matched_from (λ k. comes_to_unit m.rows m.units m.queries u k ≡ false) found
             (subst (λ os. AllByRecursion (λ (k : InstId). comes_to_unit m.rows m.units m.queries u k.0 ≡ false) (filter_map (λ (o : Option InstId). o) os)) (sym is)
-            (all_more (λ (k : InstId). only_if (comes_to_unit m.rows m.units m.queries u k.0) (reply.AliasCycle k) ≡ None) (λ (k : InstId). comes_to_unit m.rows m.units m.queries u k.0 ≡ false) passed (filter_map (λ (o : Option InstId). o) (link_matches m x))
+            (each_weaker (λ (k : InstId). only_if (comes_to_unit m.rows m.units m.queries u k.0) (reply.AliasCycle k) ≡ None) (λ (k : InstId). comes_to_unit m.rows m.units m.queries u k.0 ≡ false) passed (filter_map (λ (o : Option InstId). o) (link_matches m x))
             (none_of_first (λ (k : InstId). only_if (comes_to_unit m.rows m.units m.queries u k.0) (reply.AliasCycle k)) (filter_map (λ (o : Option InstId). o) (link_matches m x)) listed))) l c
 
 -- Along a history

@@ -13,6 +13,7 @@ use Rattle.session_model.specs.declared.rows.Job.TheVariants as job
 use Rattle.session_model.specs.declared.rows.UnitPhase.TheVariants as stage
 use Rattle.orc_ids.specs.declared.groups.Group.{Group}
 use Rattle.std.proofs.Common.{flat_map}
+use Rattle.model_laws.proofs.Phases.{started_stage}
 use Rattle.session_model.specs.Lists.{only_if}
 use Rattle.session_model.specs.Answer.{bad_dep}
 use Rattle.session_laws.proofs.Elements.{same_element, none_there}
@@ -31,7 +32,7 @@ use Rattle.orc_ids.specs.declared.place.Shape.{Shape}
 use Rattle.session_model.specs.Change.{change_of, link_matches, linked_matches}
 use Rattle.session_model.specs.Answer.{Answers, AnswersCall, AnswersTake, AnswersFinish, AnswersPlace, AnswersEmit, HasCause, called, Gone, Wrong, Right, is_held, is_stage, answer_link, can_place, can_resolve, can_link, can_emit, alias_cycle}
 use Rattle.session_model.specs.Plain.{unit_shape}
-use Rattle.session_laws.proofs.RowStages.{started_stage, emittable}
+use Rattle.session_laws.proofs.RowStages.{emittable}
 use Rattle.session_model.specs.declared.entry.Entry.{Entry}
 use Rattle.session_model.specs.declared.entry.Event.{Event}
 use Rattle.session_model.specs.declared.entry.Event.TheVariants as event

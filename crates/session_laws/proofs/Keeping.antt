@@ -1,5 +1,5 @@
 -- Other seats leave a held unit as it is, but for a removal.
-use Rattle.session_laws.proofs.Living.{and_kept, unreplaced_at, live_kept}
+use Rattle.session_laws.proofs.Living.{unreplaced_at, live_kept}
 use Rattle.session_model.specs.Change.{verdicts, unreplaced_row, new_unit, linked, claimed_row, listed_unit, started_unit, finishing_unit, placed_unit, resolved_unit, resolved_row, waiting_unit, emitted_row, done_unit, failed_unit, removed_unit, moved_unit, moved_generator, gone_tracker, let_go_unit, linked_unit}
 use Rattle.session_model.specs.declared.rows.Verdict.{Verdict}
 use Rattle.session_laws.specs.Sound.{row_stage}
@@ -19,6 +19,7 @@ use Rattle.session_model.specs.declared.rows.Phase.{Phase}
 use Rattle.session_model.specs.declared.rows.Phase.TheVariants as phase
 use Rattle.session_model.specs.declared.rows.UnitPhase.TheVariants as stage
 use Rattle.std.proofs.Common.{arith}
+use Rattle.list_laws.proofs.Bools.{and_kept}
 use Rattle.session_model.specs.Plain.{phase_address}
 use Rattle.session_model.specs.Change.{deps_in, hits_failed, tracker_roots, is_unit_of, settled, finish_listed, waits_for, claimed}
 use Rattle.session_model.specs.Plain.{is_owned_at}

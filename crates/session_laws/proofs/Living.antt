@@ -4,6 +4,7 @@ use Rattle.std.specs.Bool.{if◌then◌else◌}
 use Rattle.std.specs.List.{list_any}
 use Rattle.std.specs.Option.{option_map_or}
 use Rattle.std.proofs.lemmas.Bool.{both_ways, eqb-true, and_parts, or_cases, false_from_ne_true}
+use Rattle.list_laws.proofs.Bools.{and_kept}
 use Rattle.orc_ids.specs.declared.flags.SymFlags.{SymFlags}
 use Rattle.orc_ids.specs.declared.ids.NameId.{NameId}
 use Rattle.session_model.specs.Lists.{numbered}
@@ -49,10 +50,6 @@ any_flag (false ∷ bs) e = let p = any_flag bs e in (suc p.0, p.1)
 pub numbered_same : {X : Type 0} (f : ℕ → X → X) → ((k : ℕ) (x : X) → f k x ≡ x) → (k : ℕ) (xs : List X) → numbered f k xs ≡ xs
 numbered_same f h k [] = refl
 numbered_same f h k (x ∷ xs) = ap₂ (λ y ys. y ∷ ys) (h k x) (numbered_same f h (k + 1) xs)
-
-pub and_kept : (b c : Bool) → c ≡ false → (b && not c) ≡ b
-and_kept true c e = ap not e
-and_kept false c e = refl
 
 -- its present instances were searched
 pub row_searched : (m : Plain) (u : ℕ) (x : UnitRow) (i : ℕ) (r : InstRow) → IsSound m → slice_get m.units u ≡ Some x → (x.phase ≡ stage.Unclaimed → ⊥) → slice_get m.rows i ≡ Some r → r.present ≡ true → r.unit.0 ≡ u → is_unsearched r.phase ≡ false

@@ -32,6 +32,7 @@ use Rattle.session_laws.proofs.Settling.{chosen}
 use Rattle.session_laws.proofs.Steps.{stepped}
 use Rattle.session_laws.specs.Sound.{row_stage, Sound, IsSound, RowFits, UnitFits, LinkQuery, is_sure, sure_at, searched_at, is_underway, fits, is_held_phase, due_at, due, its_jobs}
 use Rattle.std.proofs.lemmas.Bool.{or_parts, and_cases}
+use Rattle.list_laws.proofs.Each.{each_weaker}
 use Rattle.session_laws.proofs.Changes.{own_jobs, rephased, rephased_step, owned_parts, owned_from}
 use Rattle.session_model.specs.declared.rows.Query.{Query}
 use Rattle.session_model.specs.Change.{emitted_row, done_unit, failed_unit, removed_row, removed_unit}
@@ -51,10 +52,6 @@ none_of_first {X} {Y} f (x ∷ xs) e = split (f x) refl e (none_of_first f xs)
 pub all_appended : {X : Type 0} (P : X → Type 0) (xs ys : List X) → AllByRecursion P (xs ++ ys) → AllByRecursion P xs × AllByRecursion P ys
 all_appended P [] ys a = (tt, a)
 all_appended P (x ∷ xs) ys a = let p = all_appended P xs ys a.1 in ((a.0, p.0), p.1)
-
-pub all_more : {X : Type 0} (P Q : X → Type 0) → ((x : X) → P x → Q x) → (xs : List X) → AllByRecursion P xs → AllByRecursion Q xs
-all_more P Q f [] a = tt
-all_more P Q f (x ∷ xs) a = (f x a.0, all_more P Q f xs a.1)
 
 pub deps_in_groups : (P : InstId → Type 0) (groups : List Group) (i : ℕ) → AllByRecursion P (flat_map (λ (g : Group). g.deps) groups) → AllByRecursion P (deps_in groups i)
 deps_in_groups P [] i a = tt
@@ -85,7 +82,7 @@ good_dep rows i e = by_tests (or_parts (failed_at rows i.0 || not (present_at ro
         (not_from_false (is_failed r.0.phase) (sym (test_is (λ (x : InstRow). is_failed x.phase) rows i.0 r.0 r.1) ∙ q.0)))
 
 pub good_deps : (rows : List InstRow) (groups : List Group) → bad_dep rows groups ≡ None → AllByRecursion (λ (i : InstId). sure_at rows i.0 ≡ true) (flat_map (λ (g : Group). g.deps) groups)
-good_deps rows groups e = all_more (λ (i : InstId). only_if (failed_at rows i.0 || not (present_at rows i.0) || unsearched_at rows i.0) (reply.BadDep i) ≡ None) (λ (i : InstId). sure_at rows i.0 ≡ true) (good_dep rows) (flat_map (λ (g : Group). g.deps) groups)
+good_deps rows groups e = each_weaker (λ (i : InstId). only_if (failed_at rows i.0 || not (present_at rows i.0) || unsearched_at rows i.0) (reply.BadDep i) ≡ None) (λ (i : InstId). sure_at rows i.0 ≡ true) (good_dep rows) (flat_map (λ (g : Group). g.deps) groups)
     (none_of_first (λ (i : InstId). only_if (failed_at rows i.0 || not (present_at rows i.0) || unsearched_at rows i.0) (reply.BadDep i)) (flat_map (λ (g : Group). g.deps) groups) e)
 
 pub sound_emitted : (rows : List InstRow) (units : List UnitRow) (queries : List Query) (jobs : List Job) (u : ℕ) (groups : List Group) (x : UnitRow) → Sound rows units queries jobs → slice_get units u ≡ Some x → x.phase ≡ stage.Finishing → bad_dep rows groups ≡ None →

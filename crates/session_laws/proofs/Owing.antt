@@ -7,11 +7,11 @@ use Rattle.session_laws.specs.Chains.{Ends, Stops, AllEnd}
 use Rattle.session_laws.specs.Sound.{LinkQuery, is_unbased, row_stage}
 use Rattle.session_laws.proofs.Following.{next_from, chains_end}
 use Rattle.session_laws.proofs.RowStages.{stage_of}
-use Rattle.std.proofs.Common.{◌≡◌, ℕ, zero, suc, ◌+◌, Bool, true, false, not, ◌&&◌, ◌==◌, nat_eq, cond, List, [], ◌∷◌, length, slice_get, ◌⊎◌, inl, inr, subst, sym, refl, ap, ◌∙◌, Option, Some, None, is_some}
+use Rattle.std.proofs.Common.{◌≡◌, ℕ, zero, suc, ◌+◌, Bool, true, false, not, ◌&&◌, ◌==◌, cond, List, [], ◌∷◌, length, slice_get, ◌⊎◌, inl, inr, subst, sym, refl, ap, ◌∙◌, Option, Some, None, is_some}
 use Rattle.std.specs.Bool.{if◌then◌else◌}
 use Rattle.std.specs.List.{list_any}
 use Rattle.std.specs.Option.{option_map_or}
-use Rattle.std.proofs.lemmas.Bool.{both_ways, cases_Bool, eq-eqb, and_parts, and_from, or_left, or_right, not-true, not-false, not_from_false, false_from_ne_true}
+use Rattle.std.proofs.lemmas.Bool.{both_ways, cases_Bool, and_parts, and_from, or_left, or_right, not-true, not-false, not_from_false, false_from_ne_true}
 use Rattle.std.proofs.lemmas.Option.{none-some, same_Some}
 use Rattle.orc_ids.specs.declared.ids.InstId.{InstId}
 use Rattle.session_model.specs.Plain.{Plain, UnitRow, is_unsearched, is_failed, is_emitted, is_defunct, emitted_at}
@@ -54,6 +54,7 @@ use Rattle.session_model.specs.Query.{at_level, is_lost, first_lost}
 use Rattle.session_laws.proofs.Ending.{query_was_asked}
 use Rattle.std.proofs.Common.{sum_by}
 use Rattle.std.proofs.lemmas.List.Sums.{sum_by-cons}
+use Rattle.model_laws.proofs.Units.{waiting_from}
 use Rattle.session_model.specs.Change.{settled_one}
 use Rattle.session_model.specs.Owed.{IsOwed}
 use Rattle.session_laws.proofs.Defining.{waiting_parts}
@@ -64,14 +65,6 @@ use Rattle.session_laws.specs.Work.{WorkIsOwed, IdleHasNoOpenQuery, NoneWaitsFor
 use Rattle.session_model.specs.declared.rows.Query.{Query}
 
 -- No unit waits for a query that is met
-
-waiting_from : (m : Plain) (u k : ℕ) (x : UnitRow) → slice_get m.units u ≡ Some x → x.phase ≡ stage.Waiting → x.query ≡ Some k → waits_for m u k ≡ true
-waiting_from m u k x e p q = subst (λ o. option_map_or (λ (y : UnitRow). option_map_or (nat_eq k) y.query false && is_waiting y.phase) o false ≡ true) (sym e)
-    (and_from (option_map_or (nat_eq k) x.query false) (is_waiting x.phase) (ap (λ o. option_map_or (nat_eq k) o false) q ∙ eq-eqb k k refl) (ap is_waiting p))
-  where
-    is_waiting : UnitPhase → Bool
-    is_waiting stage.Waiting = true
-    is_waiting _ = false
 
 listing_keeps : (u k v : ℕ) (m : Plain) → waits_for m u k ≡ false → waits_for (finish_listed v m) u k ≡ false
 listing_keeps u k v m n = false_from_ne_true (waits_for (finish_listed v m) u k) (λ w. clash (waiting_parts (finish_listed v m) u k w))
@@ -99,7 +92,7 @@ one_ends u k q m e met = subst (λ o. waits_for (option_map_or (λ v. if is_met 
     (λ b. listing_ends u k m (and_parts (is_met m.rows q) (waits_for m u k) b).1)
     (λ b. false_from_ne_true (waits_for m u k) (λ w. both_ways (is_met m.rows q && waits_for m u k) b (and_from (is_met m.rows q) (waits_for m u k) met w))))
 
-one_rows : (k : ℕ) (q : Query) (m : Plain) → (settled_one k q m).rows ≡ m.rows
+pub one_rows : (k : ℕ) (q : Query) (m : Plain) → (settled_one k q m).rows ≡ m.rows
 one_rows k q m = settled_one_keeps (λ n. n.rows ≡ m.rows) (λ u l p n r w b e. r) k q m refl
 
 settling_ends : (u j i n : ℕ) (qs : List Query) (q : Query) (m : Plain) → n ≡ j + i → slice_get qs i ≡ Some q → q.unit ≡ Some u → is_met m.rows q ≡ true → waits_for (settled_from j qs m) u n ≡ false

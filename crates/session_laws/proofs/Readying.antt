@@ -14,6 +14,7 @@ use Rattle.session_model.specs.declared.rows.InstRow.{InstRow}
 use Rattle.session_model.specs.declared.rows.Phase.{Phase}
 use Rattle.session_model.specs.declared.rows.Phase.TheVariants as phase
 use Rattle.std.proofs.Common.{append_assoc, append-nil}
+use Rattle.model_laws.proofs.Phases.{emitted_unfailed}
 use Rattle.session_model.specs.Plain.{phase_address}
 use Rattle.session_model.specs.Change.{deps_in, hits_failed, tracker_roots, is_unit_of, claimed}
 use Rattle.session_model.specs.Plain.{is_owned_at}
@@ -46,13 +47,6 @@ use Rattle.session_laws.proofs.Invariant.{sound_after, legal_is_sound, good_here
 use Rattle.session_laws.proofs.Settling.{settled_rows}
 use Rattle.session_laws.proofs.Elements.{numbered_some}
 use Rattle.session_laws.specs.Readiness.{phase_at, EmittedReachesNoFailed, ReadyStaysReady}
-
-emitted_unfailed : (p : Phase) → is_emitted p ≡ true → is_failed p ≡ false
-emitted_unfailed (phase.Emitted a ds) e = refl
-emitted_unfailed phase.Unsearched e = refl
-emitted_unfailed phase.Claimed e = refl
-emitted_unfailed (phase.Resolved a) e = refl
-emitted_unfailed phase.Failed e = absurd (both_ways false refl e)
 
 pub sure_unfailed : (rows : List InstRow) (i : ℕ) → sure_at rows i ≡ true → failed_at rows i ≡ false
 sure_unfailed rows i e = let p = test_parts is_sure rows i e in

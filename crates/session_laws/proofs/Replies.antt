@@ -1,5 +1,5 @@
 -- What a right reply tells of the session before it, by the change that it makes.
-use Rattle.std.proofs.Common.{◌≡◌, ℕ, suc, ◌+◌, Bool, true, false, not, ◌&&◌, ◌||◌, ◌==◌, List, [], ◌∷◌, length, slice_get, subst, sym, refl, ap, ◌∙◌, Option, Some, None, option_map, unwrap_or}
+use Rattle.std.proofs.Common.{◌≡◌, ℕ, ◌+◌, Bool, true, false, not, ◌&&◌, ◌||◌, ◌==◌, List, [], ◌∷◌, length, slice_get, subst, sym, refl, ap, ◌∙◌, Option, Some, None, option_map, unwrap_or}
 use Rattle.std.specs.Bool.{⊤, if◌then◌else◌}
 use Rattle.std.specs.Option.{option_map_or}
 use Rattle.std.proofs.lemmas.Bool.{both_ways, and_parts}
@@ -32,13 +32,15 @@ use Rattle.orc_ids.specs.declared.lookup.Wanted.{Wanted}
 use Rattle.orc_ids.specs.declared.lookup.Level.{Level}
 use Rattle.session_model.specs.Meaning.{Meaning}
 use Rattle.session_model.specs.declared.rows.Row.{Row}
-use Rattle.session_model.specs.Match.{row_of, first_row, match_in, match_of, sees, offered_by}
+use Rattle.session_model.specs.Match.{row_of, match_in, match_of, sees, offered_by}
 use Rattle.session_model.specs.Change.{verdict, verdicts, generated, matched, instance_of, link_matches}
 use Rattle.orc_ids.specs.declared.ids.DylibId.{DylibId}
 use Rattle.orc_ids.specs.declared.ids.GenId.{GenId}
 use Rattle.orc_ids.specs.declared.ids.TrackId.{TrackId}
 use Rattle.std.specs.Prelude.{is_none, nat_lt, nat_le}
 use Rattle.std.specs.List.{position_from}
+use Rattle.model_laws.proofs.Choices.{or_else_parts, some_of_first}
+use Rattle.model_laws.proofs.FirstRows.{row_passes}
 use Rattle.session_model.specs.Query.{all_at}
 use Rattle.session_model.specs.Change.{link_order}
 use Rattle.session_model.specs.declared.change.Change.{Change}
@@ -111,10 +113,6 @@ replies_or P (Some r) last a p = a
 pub replies_else : (P : Reply → Type 0) (o other : Option Reply) → AllReplies P o → AllReplies P other → AllReplies P (or_else o other)
 replies_else P None other a b = b
 replies_else P (Some r) other a b = a
-
-else_none : {X : Type 0} (o other : Option X) → or_else o other ≡ None → (o ≡ None) × (other ≡ None)
-else_none None other e = (refl, e)
-else_none (Some x) other e = absurd (none-some x (sym e))
 
 -- where the last reply is given, none before it is
 pub none_given : (test : Reply → Bool) (o : Option Reply) (last : Reply) → AllReplies (λ r. test r ≡ false) o → test (unwrap_or o last) ≡ true → (o ≡ None) × (test last ≡ true)
@@ -208,7 +206,7 @@ error_other test h m (Some (Offered g)) = tt
 error_other test h m (Some (Instance i)) = replies_only (λ r. test r ≡ false) (failed_at m.rows i.0) (reply.InError i) (h i)
 
 -- a lookup's refusals, where the test is false of each
-refusals_other : (test : Reply → Bool) → ((g : GenId) → test (reply.Offer g) ≡ false) → ((i : InstId) → test (reply.InError i) ≡ false) → ((n : NameId) → test (reply.Missing n) ≡ false) →
+pub refusals_other : (test : Reply → Bool) → ((g : GenId) → test (reply.Offer g) ≡ false) → ((i : InstId) → test (reply.InError i) ≡ false) → ((n : NameId) → test (reply.Missing n) ≡ false) →
     (m : Plain) (order : List OrderItem) (wanted : List Wanted) → AllReplies (λ r. test r ≡ false) (refused_lookup m order wanted)
 refusals_other test o f n m order wanted = replies_else (λ r. test r ≡ false) (first_some (λ (w : Wanted). offer_of (match_of m order w.name.0)) wanted) _
     (replies_first (λ r. test r ≡ false) (λ (w : Wanted). offer_of (match_of m order w.name.0)) (λ w. offer_other test o (match_of m order w.name.0)) wanted)
@@ -218,8 +216,8 @@ refusals_other test o f n m order wanted = replies_else (λ r. test r ≡ false)
 
 -- where nothing is refused, no match failed
 unrefused_errors : (m : Plain) (order : List OrderItem) (wanted : List Wanted) → refused_lookup m order wanted ≡ None → first_some (λ (w : Wanted). error_of m (match_of m order w.name.0)) wanted ≡ None
-unrefused_errors m order wanted e = (else_none (first_some (λ (w : Wanted). error_of m (match_of m order w.name.0)) wanted) (first_some (missing_of m order) wanted)
-    (else_none (first_some (λ (w : Wanted). offer_of (match_of m order w.name.0)) wanted) _ e).1).0
+unrefused_errors m order wanted e = (or_else_parts (first_some (λ (w : Wanted). error_of m (match_of m order w.name.0)) wanted) (first_some (missing_of m order) wanted)
+    (or_else_parts (first_some (λ (w : Wanted). offer_of (match_of m order w.name.0)) wanted) _ e).1).0
 
 lodged_plain : (m : Plain) (lev : Level) (found : List (Option InstId)) → NotDefunct (lodged_reply m lev found)
 lodged_plain m lev found = chosen NotDefunct (all_at m.rows lev found) (reply.Done (record { 0 = length m.queries })) (reply.Pending (record { 0 = length m.queries })) (λ b. refl) (λ b. refl)
@@ -227,7 +225,7 @@ lodged_plain m lev found = chosen NotDefunct (all_at m.rows lev found) (reply.Do
 pub lookup_plain : (m : Plain) (order : List OrderItem) (wanted : List Wanted) (lev : Level) → NotDefunct (answer_lookup m order wanted lev)
 lookup_plain m order wanted lev = replies_or NotDefunct (refused_lookup m order wanted) (lodged_reply m lev (matched m order wanted)) (refusals_other is_defunct_reply (λ g. refl) (λ i. refl) (λ n. refl) m order wanted) (lodged_plain m lev (matched m order wanted))
 
-cycles_other : (test : Reply → Bool) → ((i : InstId) → test (reply.AliasCycle i) ≡ false) → (m : Plain) (u : ℕ) (x : UnitRow) → AllReplies (λ r. test r ≡ false) (alias_cycle m u x)
+pub cycles_other : (test : Reply → Bool) → ((i : InstId) → test (reply.AliasCycle i) ≡ false) → (m : Plain) (u : ℕ) (x : UnitRow) → AllReplies (λ r. test r ≡ false) (alias_cycle m u x)
 cycles_other test h m u x = replies_first (λ r. test r ≡ false) (λ (i : InstId). only_if (comes_to_unit m.rows m.units m.queries u i.0) (reply.AliasCycle i))
     (λ i. replies_only (λ r. test r ≡ false) (comes_to_unit m.rows m.units m.queries u i.0) (reply.AliasCycle i) (h i)) (if is_alias x then filter_map (λ (o : Option InstId). o) (link_matches m x) else [])
 
@@ -239,27 +237,10 @@ link_plain m u x = replies_or NotDefunct (or_else (refused_lookup m (link_order 
 
 -- a match that is an instance is a present one
 
-row_there : (test : InstRow → Bool) (k : ℕ) (rows : List InstRow) (r : Row) → first_row test k rows ≡ Some r → (n : ℕ) × (r.inst.0 ≡ k + n) × (x : InstRow) × (slice_get rows n ≡ Some x) × (test x ≡ true)
-row_there test k [] r e = absurd (none-some r e)
-row_there test k (y ∷ ys) r e = chosen (λ o. o ≡ Some r → (n : ℕ) × (r.inst.0 ≡ k + n) × (x : InstRow) × (slice_get (y ∷ ys) n ≡ Some x) × (test x ≡ true)) (test y) (Some (record { inst = record { 0 = k }; flags = y.flags })) (first_row test (k + 1) ys)
-    (λ b h. let is : record { inst = record { 0 = k }; flags = y.flags } ≡ r = same_Some (record { inst = record { 0 = k }; flags = y.flags }) r h in (0, sym (ap (λ (z : Row). z.inst.0) is) ∙ omega arith, y, refl, b))
-    (λ b h. later (row_there test (k + 1) ys r h)) e
-  where
-    later : (n : ℕ) × (r.inst.0 ≡ k + 1 + n) × (x : InstRow) × (slice_get ys n ≡ Some x) × (test x ≡ true) → (n : ℕ) × (r.inst.0 ≡ k + n) × (x : InstRow) × (slice_get (y ∷ ys) n ≡ Some x) × (test x ≡ true)
-    later p = (suc p.0, (omega (arith, p.1)), p.2, p.3, p.4)
-
 pub row_here : (rows : List InstRow) (d name : ℕ) (r : Row) → row_of rows d name ≡ Some r → IsHere rows r.inst.0
-row_here rows d name r e = let p = row_there (λ (y : InstRow). y.present && y.dylib.0 == d && y.name.0 == name) 0 rows r e in
+row_here rows d name r e = let p = row_passes (λ (y : InstRow). y.present && y.dylib.0 == d && y.name.0 == name) 0 rows r e in
     test_from (λ (y : InstRow). y.present) rows r.inst.0 p.2 (ap (slice_get rows) (omega (arith, p.1)) ∙ p.3)
     (and_parts p.2.present (p.2.dylib.0 == d) (and_parts (p.2.present && p.2.dylib.0 == d) (p.2.name.0 == name) p.4).0).0
-
-some_of_first : {X Y : Type 0} (Q : Y → Type 0) (f : X → Option Y) → ((x : X) (y : Y) → f x ≡ Some y → Q y) → (xs : List X) (y : Y) → first_some f xs ≡ Some y → Q y
-some_of_first Q f h [] y e = absurd (none-some y e)
-some_of_first {X} {Y} Q f h (x ∷ xs) y e = split (f x) refl e (some_of_first Q f h xs y)
-  where
-    split : (o : Option Y) → f x ≡ o → or_else o (first_some f xs) ≡ Some y → (first_some f xs ≡ Some y → Q y) → Q y
-    split None is g rest = rest g
-    split (Some z) is g rest = h x y (is ∙ g)
 
 match_here : (m : Plain) (order : List OrderItem) (name : ℕ) (i : InstId) → match_of m order name ≡ Some (Instance i) → IsHere m.rows i.0
 match_here m order name i e = some_of_first (λ y. (j : InstId) → y ≡ Instance j → IsHere m.rows j.0) (match_in m name) in_item order (Instance i) e i refl
@@ -306,7 +287,7 @@ pub link_good : (m : Plain) (u : ℕ) (x : UnitRow) → is_lodged_reply (answer_
 link_good m u x e =
     let order = link_order m x in
     let wanted = x.meaning.externals x.live in
-    let p = else_none (refused_lookup m order wanted) (alias_cycle m u x) (none_given is_lodged_reply (or_else (refused_lookup m order wanted) (alias_cycle m u x)) (lodged_reply m level.Resolved (link_matches m x))
+    let p = or_else_parts (refused_lookup m order wanted) (alias_cycle m u x) (none_given is_lodged_reply (or_else (refused_lookup m order wanted) (alias_cycle m u x)) (lodged_reply m level.Resolved (link_matches m x))
     (replies_else (λ r. is_lodged_reply r ≡ false) (refused_lookup m order wanted) (alias_cycle m u x) (refusals_other is_lodged_reply (λ g. refl) (λ i. refl) (λ n. refl) m order wanted) (cycles_other is_lodged_reply (λ i. refl) m u x)) e).0 in
     (p.1, unrefused_good m order wanted p.0)
 

@@ -6,11 +6,10 @@ use Rattle.session_model.specs.Plain.{is_alias}
 use Rattle.session_model.specs.declared.rows.Verdict.{Verdict}
 use Rattle.session_laws.specs.Sound.{row_stage, is_held_phase}
 use Rattle.session_laws.proofs.RowStages.{resolvable, linkable, linkable_held, unclaimed_row}
-use Rattle.std.proofs.Common.{◌≡◌, ℕ, zero, suc, ◌+◌, true, false, ◌==◌, map, List, [], ◌∷◌, ◌++◌, length, drop, slice_get, ◌⊎◌, inl, inr, subst, sym, refl, ap, ◌∙◌, Option, Some, None}
+use Rattle.std.proofs.Common.{◌≡◌, ℕ, ◌+◌, true, false, ◌==◌, map, List, [], ◌∷◌, ◌++◌, length, drop, slice_get, ◌⊎◌, inl, inr, subst, sym, refl, ap, ◌∙◌, Option, Some, None}
 use Rattle.std.specs.Bool.{if◌then◌else◌}
 use Rattle.std.specs.Option.{option_map_or}
 use Rattle.std.proofs.lemmas.Bool.{both_ways, cases_eq}
-use Rattle.std.proofs.lemmas.Option.{none-some, same_Some}
 use Rattle.orc_ids.specs.declared.ids.InstId.{InstId}
 use Rattle.orc_ids.specs.declared.ids.UnitId.{UnitId}
 use Rattle.session_model.specs.Lists.{changed_at, numbered}
@@ -52,6 +51,7 @@ use Rattle.session_laws.proofs.Elements.{numbered_some}
 use Rattle.std.proofs.Common.{take, ◌≤◌, le_refl}
 use Rattle.std.proofs.lemmas.Bool.{cases_order}
 use Rattle.std.proofs.lemmas.List.{take-take}
+use Rattle.list_laws.proofs.Lists.{taken_more}
 use Rattle.session_laws.proofs.Readying.{state_from_joined, legal_rest}
 use Rattle.session_laws.proofs.Ending.{front_legal, front_and_rest}
 use Rattle.session_laws.proofs.Defining.{waiting_parts}
@@ -214,13 +214,6 @@ phases_rise jmax h more l u x t = let p = from_rises jmax h (state h) more (lega
 
 -- Jobs that are handed out
 
-entry_taken : (h : List (Entry Meaning)) (k : ℕ) (e : Entry Meaning) → slice_get h k ≡ Some e → take (k + 1) h ≡ take k h ++ e ∷ []
-entry_taken [] k e t = absurd (none-some e t)
-entry_taken (f ∷ fs) zero e t = ap (λ x. x ∷ []) (same_Some f e t)
-entry_taken (f ∷ fs) (suc k) e t =
-    let next : suc k + 1 ≡ suc (k + 1) = omega arith in
-    ap (λ n. take n (f ∷ fs)) next ∙ ap (λ l. f ∷ l) (entry_taken fs k e t)
-
 -- a given entry's step
 pub record EntryStep (jmax : ℕ) (h : List (Entry Meaning)) (k : ℕ) (e : Entry Meaning) : Type 0 where
   pub sound : IsSound (state (take k h))
@@ -230,8 +223,8 @@ pub record EntryStep (jmax : ℕ) (h : List (Entry Meaning)) (k : ℕ) (e : Entr
 pub entry_step : (jmax : ℕ) (h : List (Entry Meaning)) (k : ℕ) (e : Entry Meaning) → IsLegal jmax h → slice_get h k ≡ Some e → EntryStep jmax h k e
 entry_step jmax h k e l t = record {
   sound = legal_is_sound jmax (take k h) (front_legal jmax h k l);
-  answers = (one_more_legal jmax (take k h) e).1 (subst (IsLegal jmax) (entry_taken h k e t) (front_legal jmax h (k + 1) l));
-  leads = ap state (entry_taken h k e t) ∙ state_from_push empty (take k h) e;
+  answers = (one_more_legal jmax (take k h) e).1 (subst (IsLegal jmax) (taken_more h k e t) (front_legal jmax h (k + 1) l));
+  leads = ap state (taken_more h k e t) ∙ state_from_push empty (take k h) e;
 }
 
 -- a unit's phase at two numbers of a history

@@ -4,6 +4,7 @@ use Rattle.std.proofs.Common.{◌≡◌, ℕ, Bool, true, false, ◌&&◌, ◌||
 use Rattle.std.specs.Prelude.{is_none}
 use Rattle.std.specs.Bool.{if◌then◌else◌}
 use Rattle.std.proofs.lemmas.Bool.{both_ways, and_parts, or_cases}
+use Rattle.model_laws.proofs.Phases.{started_stage, linking_stage}
 use Rattle.session_model.specs.Answer.{is_stage, can_resolve, can_link, can_emit}
 use Rattle.session_model.specs.Change.{resolved_unit, waiting_unit, target_address}
 use Rattle.session_model.specs.Plain.{UnitRow, is_alias, unit_shape}
@@ -15,17 +16,9 @@ use Rattle.session_laws.specs.Sound.{until_based, is_unbased, row_stage, is_earl
 
 -- Phases that a test names
 
-pub started_stage : (p : UnitPhase) → is_stage stage.Started p ≡ true → p ≡ stage.Started
-started_stage stage.Started e = refl
-started_stage _ e = absurd (both_ways false refl e)
-
 pub placed_stage : (p : UnitPhase) → is_stage stage.Placed p ≡ true → p ≡ stage.Placed
 placed_stage stage.Placed e = refl
 placed_stage _ e = absurd (both_ways false refl e)
-
-pub linking_stage : (p : UnitPhase) → is_stage stage.Linking p ≡ true → p ≡ stage.Linking
-linking_stage stage.Linking e = refl
-linking_stage _ e = absurd (both_ways false refl e)
 
 pub finishing_stage : (p : UnitPhase) → is_stage stage.Finishing p ≡ true → p ≡ stage.Finishing
 finishing_stage stage.Finishing e = refl

@@ -1,10 +1,12 @@
 -- What a unit looks up, and where.
-use Rattle.std.proofs.Common.{◌≡◌, ℕ, zero, suc, ◌+◌, ◌∙◌, add-one, append_assoc, ap, refl, sym, subst, List, [], ◌∷◌, ◌++◌, drop, get_or, true, Bool, slice_get, Option, Some, None, Result, IfOk, option_and_then, filter_map, is_some}
+use Rattle.std.proofs.Common.{◌≡◌, ℕ, suc, ◌+◌, ◌∙◌, add-one, append_assoc, ap, sym, subst, List, [], ◌∷◌, ◌++◌, drop, get_or, true, Bool, slice_get, Option, Some, None, Result, IfOk, option_and_then, filter_map, is_some}
 use Rattle.std.specs.Bool.{if◌then◌else◌}
 use Rattle.std.specs.Option.{option_map_or}
 use Rattle.std.proofs.lemmas.Result.{IfOk-weaker}
 use Rattle.std.specs.declared.alloc.AllocError.{AllocError}
-use Rattle.std.proofs.lemmas.Option.{none-some, same_Some, slice_get-get_or}
+use Rattle.std.proofs.lemmas.Option.{same_Some, slice_get-get_or}
+use Rattle.model_laws.proofs.Choices.{or_else_none}
+use Rattle.list_laws.proofs.Lists.{drop_some_suc}
 use Rattle.orc_ids.specs.declared.ids.DylibId.{DylibId}
 use Rattle.orc_ids.specs.declared.ids.InstId.{InstId}
 use Rattle.orc_ids.specs.declared.ids.UnitId.{UnitId}
@@ -66,10 +68,6 @@ unit_is means p m u y x a kept there = same_Some (unit_row means (tracker_at m.u
 no_cycle : (m : Plain) (u : ℕ) (x : UnitRow) → x.meaning.source ≡ None → alias_cycle m u x ≡ None
 no_cycle m u x own = ap (λ o. first_some (λ (i : InstId). only_if (comes_to_unit m.rows m.units m.queries u i.0) (AliasCycle i)) (if is_some o then filter_map (λ (p : Option InstId). p) (link_matches m x) else [])) own
 
-alone : {X : Type 0} (o : Option X) → or_else o None ≡ o
-alone None = refl
-alone (Some x) = refl
-
 -- what a unit that is no alias matches is all that it is linked to
 pub own_linked : {U N : Type 0} (means : U → Meaning) (p : Parts U N) (m : Plain) (u : UnitId) (y : OneUnit U) (x : UnitRow) (order : List OrderItem) (wanted : List Wanted) → AreParts means p m → slice_get p.units.units u.0 ≡ Some y → slice_get m.units u.0 ≡ Some x → (means y.unit).source ≡ None →
     order ≡ option_map_or (λ (d : Dylib). d.order) (slice_get p.dylibs.dylibs y.dylib.0) [] → wanted ≡ (means y.unit).externals y.live →
@@ -77,7 +75,7 @@ pub own_linked : {U N : Type 0} (means : U → Meaning) (p : Parts U N) (m : Pla
 own_linked {U} means p m u y x order wanted a kept there own ordered externals l f =
     subst (λ z. IsLinked m u z l) (unit_is means p m u.0 y x a kept there)
     (linked_from m u row l
-    (subst (λ o. IsFound o (link_matches m row) l) (sym (ap (or_else (refused_lookup m (link_order m row) (row.meaning.externals row.live))) (no_cycle m u.0 row own) ∙ alone (refused_lookup m (link_order m row) (row.meaning.externals row.live))))
+    (subst (λ o. IsFound o (link_matches m row) l) (sym (ap (or_else (refused_lookup m (link_order m row) (row.meaning.externals row.live))) (no_cycle m u.0 row own) ∙ or_else_none (refused_lookup m (link_order m row) (row.meaning.externals row.live))))
     (subst (λ ws. IsFound (refused_lookup m (link_order m row) ws) (matched m (link_order m row) ws) l) externals
     (subst (λ os. IsFound (refused_lookup m os wanted) (matched m os wanted) l) (ordered ∙ own_order means p m u.0 y a kept own) f))))
   where
@@ -105,10 +103,5 @@ source_is u s o e f = sym e ∙ f
 
 -- One external more
 
-drop_some : {X : Type 0} (xs : List X) (k : ℕ) (x : X) → slice_get xs k ≡ Some x → drop k xs ≡ x ∷ drop (suc k) xs
-drop_some [] k x h = absurd (none-some x h)
-drop_some (y ∷ ys) zero x h = ap (λ z. z ∷ ys) (same_Some y x h)
-drop_some (y ∷ ys) (suc k) x h = drop_some ys k x h
-
 pub one_more : {X : Type 0} (all : List X) (k : ℕ) (x : X) (some : List X) → slice_get all k ≡ Some x → some ++ drop k all ≡ all → (some ++ x ∷ []) ++ drop (k + 1) all ≡ all
-one_more all k x some h e = rw (add-one k) (append_assoc some (x ∷ []) (drop (suc k) all) ∙ (ap (λ xs. some ++ xs) (sym (drop_some all k x h)) ∙ e))
+one_more all k x some h e = rw (add-one k) (append_assoc some (x ∷ []) (drop (suc k) all) ∙ (ap (λ xs. some ++ xs) (sym (drop_some_suc all k x h)) ∙ e))

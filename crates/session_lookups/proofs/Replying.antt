@@ -3,6 +3,7 @@ use Rattle.std.proofs.Common.{◌≡◌, ℕ, ◌≤◌, ◌∙◌, true, false,
 use Rattle.std.specs.Prelude.{unwrap_or}
 use Rattle.std.proofs.lemmas.Bool.{both_ways}
 use Rattle.std.proofs.lemmas.Option.{none-some, same_Some}
+use Rattle.model_laws.proofs.Choices.{or_else_parts}
 use Rattle.orc_ids.specs.declared.ids.UnitId.{UnitId}
 use Rattle.orc_ids.specs.declared.limits.TheConstants.{ORDER_LIMIT, WANTED_LIMIT}
 use Rattle.orc_ids.specs.declared.lookup.Level.{Level}
@@ -28,10 +29,6 @@ use Rattle.session_lookups.proofs.Comparing.{matched_same, refused_same}
 use Rattle.session_lookups.proofs.Sights.{IsSightOf, no_dylib_shown, fail_shown, order_shown, home_shown}
 
 -- Replies that are tried in order
-
-both_none : {X : Type 0} (a b : Option X) → or_else a b ≡ None → (a ≡ None) × (b ≡ None)
-both_none None b e = (refl, e)
-both_none (Some x) b e = absurd (none-some x (sym e))
 
 first_given : (a b : Option Reply) (last r : Reply) → or_else a b ≡ Some r → unwrap_or a (unwrap_or b last) ≡ r
 first_given None None last r e = absurd (none-some r e)
@@ -86,7 +83,7 @@ order_refused means s m is order wanted = ap (λ o. or_else o (refused_lookup (s
 order_found : {U : Type 0} (means : U → Meaning) (s : Sight U) (m : Plain) → IsSightOf means s m → (order : List OrderItem) (wanted : List Wanted) (l : Looked) →
     IsFound (order_refusal (shown means s) order wanted) (matched (shown means s) order wanted) l → IsFound (order_refusal m order wanted) (matched m order wanted) l
 order_found means s m is order wanted (Matched found) f = let none = sym (order_refused means s m is order wanted) ∙ f.0 in
-    (none, f.1 ∙ matched_same (shown means s) m order (order_shown means s m is order (both_none (no_dylib m (order_dylibs order)) (refused_lookup m order wanted) none).0) wanted)
+    (none, f.1 ∙ matched_same (shown means s) m order (order_shown means s m is order (or_else_parts (no_dylib m (order_dylibs order)) (refused_lookup m order wanted) none).0) wanted)
 order_found means s m is order wanted (Refused r) f = (sym (order_refused means s m is order wanted) ∙ f.0, f.1)
 
 pub asked_shown : {U : Type 0} (means : U → Meaning) (s : Sight U) (m : Plain) → IsSightOf means s m → (order : List OrderItem) (wanted : List Wanted) → length order ≤ ORDER_LIMIT → length wanted ≤ WANTED_LIMIT → (l : Looked) →

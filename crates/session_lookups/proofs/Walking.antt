@@ -3,13 +3,14 @@ use Rattle.std.proofs.Common.{◌≡◌, ℕ, zero, suc, ◌+◌, ◌-◌, ◌<�
 use Rattle.std.specs.Bool.{if◌then◌else◌}
 use Rattle.std.specs.List.{list_any}
 use Rattle.std.specs.Option.{option_map_or}
-use Rattle.std.proofs.lemmas.Bool.{both_ways, or_left, and_parts}
+use Rattle.std.proofs.lemmas.Bool.{both_ways, and_parts}
 use Rattle.std.proofs.lemmas.List.{length-map}
 use Rattle.std.proofs.lemmas.Option.{none-some, same_Some, option_and_then_some}
 use Rattle.orc_ids.specs.declared.ids.DylibId.{DylibId}
 use Rattle.orc_ids.specs.declared.ids.InstId.{InstId}
 use Rattle.orc_ids.specs.declared.ids.QueryId.{QueryId}
 use Rattle.graph_walks.specs.Walks.{within}
+use Rattle.graph_walks.proofs.Paths.{within_base, within_zero}
 use Rattle.mat_unit.specs.Rows.{unit_row}
 use Rattle.mat_unit.specs.declared.unit.Unit.{Unit as OneUnit}
 use Rattle.session_model.specs.Answer.{alias_cycle}
@@ -116,11 +117,6 @@ query_matched means p m i y q query lawful l some its asked =
 
 -- Walks along one next instance each
 
-found_within : (n : ℕ) (next : ℕ → List ℕ) (test : ℕ → Bool) (i : ℕ) → test i ≡ true → within n next test i ≡ true
-unfolding within
-found_within zero next test i e = e
-found_within (suc n) next test i e = or_left (test i) (list_any (within n next test) (next i)) e
-
 ends_within : (n : ℕ) (next : ℕ → List ℕ) (test : ℕ → Bool) (i : ℕ) → test i ≡ false → next i ≡ [] → within n next test i ≡ false
 unfolding within
 ends_within zero next test i e none = e
@@ -134,10 +130,6 @@ goes_within n next test i j e one = ap (λ b. b || list_any (within n next test)
     or_false true = refl
     or_false false = refl
 
-here_within : (next : ℕ → List ℕ) (test : ℕ → Bool) (i : ℕ) → within 0 next test i ≡ test i
-unfolding within
-here_within next test i = refl
-
 -- after k steps from an instance the chain is at another, and what is left of it comes to the unit if all of it does
 abbrev pub ComesAlong : Plain → ℕ → ℕ → ℕ → ℕ → Type 0
 ComesAlong m u k at from = within (length m.rows - k) (chain_next m.rows m.units m.queries) (is_of_unit u m.rows) at ≡ comes_to_unit m.rows m.units m.queries u from
@@ -147,7 +139,7 @@ pub tested : (m : Plain) (u at : ℕ) (rows : List InstRow) (b c : Bool) → row
 tested m u at rows b c is e f = ap (λ rs. is_of_unit u rs at) (sym is) ∙ (sym e ∙ f)
 
 pub along_found : (m : Plain) (u k at from : ℕ) → is_of_unit u m.rows at ≡ true → ComesAlong m u k at from → true ≡ comes_to_unit m.rows m.units m.queries u from
-along_found m u k at from e along = sym (found_within (length m.rows - k) (chain_next m.rows m.units m.queries) (is_of_unit u m.rows) at e) ∙ along
+along_found m u k at from e along = sym (within_base (length m.rows - k) (chain_next m.rows m.units m.queries) (is_of_unit u m.rows) at e) ∙ along
 
 pub along_ends : (m : Plain) (u k at from : ℕ) → is_of_unit u m.rows at ≡ false → IsNext m at None → ComesAlong m u k at from → false ≡ comes_to_unit m.rows m.units m.queries u from
 along_ends m u k at from e none along = sym (ends_within (length m.rows - k) (chain_next m.rows m.units m.queries) (is_of_unit u m.rows) at e none) ∙ along
@@ -157,7 +149,7 @@ along_next m u k at from j h e next along = sym (goes_within (length m.rows - (k
     ∙ (ap (λ n. within n (chain_next m.rows m.units m.queries) (is_of_unit u m.rows) at) (omega (arith, h)) ∙ along)
 
 last_here : (m : Plain) (u k at from : ℕ) → length m.rows ≤ k → ComesAlong m u k at from → is_of_unit u m.rows at ≡ comes_to_unit m.rows m.units m.queries u from
-last_here m u k at from h along = sym (here_within (chain_next m.rows m.units m.queries) (is_of_unit u m.rows) at)
+last_here m u k at from h along = sym (within_zero (chain_next m.rows m.units m.queries) (is_of_unit u m.rows) at)
     ∙ (ap (λ n. within n (chain_next m.rows m.units m.queries) (is_of_unit u m.rows) at) (omega (arith, h)) ∙ along)
 
 pub along_last : (m : Plain) (u k at from : ℕ) (rows : List InstRow) (b : Bool) → rows ≡ m.rows → b ≡ is_of_unit u rows at → length rows ≤ k → ComesAlong m u k at from → b ≡ comes_to_unit m.rows m.units m.queries u from

@@ -1,7 +1,6 @@
 -- The units of what a lookup matched are asked for, one after the other.
-use Rattle.std.proofs.Common.{◌≡◌, ℕ, zero, suc, ◌+◌, ◌≤◌, true, List, [], ◌∷◌, drop, length, slice_get, Option, Some, None, refl, ap, sym, subst, ◌∙◌, arith}
+use Rattle.std.proofs.Common.{◌≡◌, ℕ, ◌≤◌, true, List, [], ◌∷◌, length, Option, Some, None, refl, ap, sym, subst, ◌∙◌, arith}
 use Rattle.std.proofs.lemmas.Bool.{both_ways, false_from_ne_true}
-use Rattle.std.proofs.lemmas.Option.{none-some, same_Some}
 use Rattle.orc_ids.specs.declared.ids.InstId.{InstId}
 use Rattle.session_model.specs.Meaning.{Meaning}
 use Rattle.session_model.specs.Plain.{Plain, present_at}
@@ -71,8 +70,3 @@ one_claimed means m all rest i start now new c claims tells only = record {
 
 pub all_done : {U N : Type 0} (means : U → Meaning) (m : Plain) (all rest : List (Option InstId)) (start now : Parts U N) → rest ≡ [] → Claiming means m all rest start now → AreParts means now (all_claimed all m)
 all_done means m all rest start now e c = subst (AreParts means now) (ap (λ os. all_claimed os c.session) (sym e) ∙ c.same) c.parts
-
-pub next_of : {X : Type 0} (xs : List X) (k : ℕ) (x : X) → slice_get xs k ≡ Some x → drop k xs ≡ x ∷ drop (k + 1) xs
-next_of [] k x e = absurd (none-some x e)
-next_of (y ∷ ys) zero x e = ap (λ z. z ∷ ys) (same_Some y x e)
-next_of (y ∷ ys) (suc k) x e = next_of ys k x e ∙ ap (λ n. x ∷ drop n (y ∷ ys)) (let same : suc (k + 1) ≡ suc k + 1 = omega arith in same)

@@ -5,39 +5,26 @@ use Rattle.std.specs.Prelude.{option_map, option_to_list}
 use Rattle.std.specs.Option.{option_map_or}
 use Rattle.std.proofs.lemmas.Bool.{both_ways, eq-eqb, false_from_ne_true}
 use Rattle.std.proofs.lemmas.Option.{none-some, same_Some}
+use Rattle.model_laws.proofs.Units.{waiting_from}
+use Rattle.model_laws.proofs.Phases.{waiting_stage}
 use Rattle.query_book.specs.Rows.{unit_of}
 use Rattle.orc_ids.specs.declared.ids.UnitId.{UnitId}
 use Rattle.session_model.specs.Plain.{Plain, UnitRow, is_waiting}
 use Rattle.session_model.specs.Query.{is_met, ending}
 use Rattle.session_model.specs.Change.{settled, settled_from, settled_one, finish_listed, waits_for}
 use Rattle.session_model.specs.declared.rows.Query.{Query}
-use Rattle.session_model.specs.declared.rows.UnitPhase.{UnitPhase}
 use Rattle.session_model.specs.declared.rows.UnitPhase.TheVariants as stage
 use Rattle.session_laws.specs.Sound.{IsSound}
 use Rattle.session_laws.proofs.Defining.{waiting_parts}
-use Rattle.session_laws.proofs.Owing.{NoMetWaits}
-use Rattle.session_laws.proofs.Settling.{settled_one_keeps}
+use Rattle.session_laws.proofs.Owing.{NoMetWaits, one_rows}
 use Rattle.query_book.specs.declared.ends.QueryEnd.{QueryEnd}
 use Rattle.session_parts.specs.Dues.{dues, waits_at, linked_due, all_linked, WaitsOpen, WaitsOwn}
 use Rattle.session_parts.specs.Ends.{noted, noted_end}
-use Rattle.session_parts.proofs.Waiting.{none_waits, one_waits, one_calm, waiting_here, settled_waits_less}
+use Rattle.session_parts.proofs.Waiting.{none_waits, one_waits, one_calm, settled_waits_less}
 
 all_linked_both : (ds es : List UnitId) (m : Plain) → all_linked (ds ++ es) m ≡ all_linked es (all_linked ds m)
 all_linked_both [] es m = refl
 all_linked_both (d ∷ ds) es m = all_linked_both ds es (linked_due d m)
-
-waiting_phase : (p : UnitPhase) → is_waiting p ≡ true → p ≡ stage.Waiting
-waiting_phase stage.Waiting e = refl
-waiting_phase stage.Unclaimed e = absurd (both_ways false refl e)
-waiting_phase stage.Listed e = absurd (both_ways false refl e)
-waiting_phase stage.Started e = absurd (both_ways false refl e)
-waiting_phase stage.Placed e = absurd (both_ways false refl e)
-waiting_phase stage.Linking e = absurd (both_ways false refl e)
-waiting_phase stage.Linked e = absurd (both_ways false refl e)
-waiting_phase stage.Finishing e = absurd (both_ways false refl e)
-waiting_phase stage.Done e = absurd (both_ways false refl e)
-waiting_phase stage.Failed e = absurd (both_ways false refl e)
-waiting_phase stage.Defunct e = absurd (both_ways false refl e)
 
 -- the unit of a query waits for it, if it waits
 waits_for_it : (m : Plain) (k u : ℕ) → ((x : UnitRow) → slice_get m.units u ≡ Some x → x.phase ≡ stage.Waiting → x.query ≡ Some k) → waits_for m u k ≡ waits_at m.units u
@@ -52,7 +39,7 @@ waits_for_it m k u own = split (slice_get m.units u) refl
         and_false false = refl
 
         by_test : (b : Bool) → is_waiting x.phase ≡ b → (option_map_or (nat_eq k) x.query false && is_waiting x.phase) ≡ is_waiting x.phase
-        by_test true t = ap (λ o. option_map_or (nat_eq k) o false && is_waiting x.phase) (own x e (waiting_phase x.phase t)) ∙ ap (λ b. b && is_waiting x.phase) (eq-eqb k k refl)
+        by_test true t = ap (λ o. option_map_or (nat_eq k) o false && is_waiting x.phase) (own x e (waiting_stage x.phase t)) ∙ ap (λ b. b && is_waiting x.phase) (eq-eqb k k refl)
         by_test false f = ap (λ b. option_map_or (nat_eq k) x.query false && b) f ∙ (and_false (option_map_or (nat_eq k) x.query false) ∙ sym f)
 
 -- one query that is met
@@ -64,9 +51,6 @@ one_due k q m own = split (is_met m.rows q) q.unit refl
     split false None e = refl
     split true (Some u) e = ap (λ b. if b then finish_listed u m else m) (sym (waits_for_it m k u (λ x. own u x e)))
     split false (Some u) e = refl
-
-one_rows : (k : ℕ) (q : Query) (m : Plain) → (settled_one k q m).rows ≡ m.rows
-one_rows k q m = settled_one_keeps (λ n. n.rows ≡ m.rows) (λ u l p n r w b e. r) k q m refl
 
 dues_settle_from : (j : ℕ) (qs : List Query) (ends : List (Option QueryEnd)) (m : Plain) → length ends ≡ length qs →
     ((i n u : ℕ) (e : QueryEnd) → n ≡ j + i → slice_get ends i ≡ Some (Some e) → waits_for m u n ≡ false) →
@@ -114,4 +98,4 @@ waits_stay_open m n ends rows queries units sound calm w u y k t p its =
     let number = same_Some q.number k (sym q.its ∙ its) in
     let there = ap (slice_get n.queries) (sym number) ∙ q.there in
     noted_none n n.queries ends k q.query there open_now
-    (false_from_ne_true (is_met n.rows q.query) (λ met. both_ways (waits_for n u k) (calm u k q.query there q.links met) (waiting_here n u k y t p its)))
+    (false_from_ne_true (is_met n.rows q.query) (λ met. both_ways (waits_for n u k) (calm u k q.query there q.links met) (waiting_from n u k y t p its)))

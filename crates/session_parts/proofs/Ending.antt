@@ -12,15 +12,11 @@ use Rattle.session_model.specs.declared.entry.Entry.{Entry}
 use Rattle.session_model.specs.declared.rows.Query.{Query}
 use Rattle.session_laws.proofs.Along.{state_from_push}
 use Rattle.std.proofs.lemmas.Option.{none-some}
+use Rattle.list_laws.proofs.Lists.{some_below}
 use Rattle.session_laws.proofs.Elements.{pushed_cases, same_element, element_below, none_past}
 use Rattle.session_laws.proofs.Ending.{entries_are, after_query, end_stays, query_was_asked, NewQuery}
 use Rattle.query_book.specs.declared.ends.QueryEnd.{QueryEnd}
 use Rattle.session_parts.specs.Ends.{noted, noted_end, kept_end, IsKept, AreEnds}
-
-below_some : {X : Type 0} (xs : List X) (k : ℕ) → k < length xs → (x : X) × (slice_get xs k ≡ Some x)
-below_some [] k b = absurd (omega (arith, b))
-below_some (x ∷ xs) zero b = (x, refl)
-below_some (x ∷ xs) (suc k) b = below_some xs k (omega (arith, b))
 
 -- the end noted at a place is that of the query there
 pub noted_at : (m : Plain) (qs : List Query) (ends : List (Option QueryEnd)) (k : ℕ) (q : Query) (end : Option QueryEnd) → slice_get qs k ≡ Some q → slice_get (noted m qs ends) k ≡ Some end → end ≡ noted_end m q (kept_end ends k)
@@ -113,7 +109,7 @@ ends_grow h e ends x = record { count = noted_length (state new) (state new).que
           where
             found : (o : Option (Option QueryEnd)) → slice_get ends k ≡ o → IsKept new k q (noted_end (state new) q (option_map_or (λ end. end) o None))
             found (Some o) d = old k q o c d a
-            found None d = absurd (missing (below_some ends k (subst (λ n. k < n) (sym x.count) (element_below (state h).queries k q c))))
+            found None d = absurd (missing (some_below ends k (subst (λ n. k < n) (sym x.count) (element_below (state h).queries k q c))))
               where
                 missing : (o : Option QueryEnd) × (slice_get ends k ≡ Some o) → ⊥
                 missing p = none-some p.0 (sym d ∙ p.1)

@@ -1,9 +1,9 @@
 -- Some instances go, and those of a new unit come.
-use Rattle.std.proofs.Common.{◌≡◌, ℕ, ◌+◌, Bool, cond, true, false, List, [], ◌∷◌, ◌++◌, length, take, slice_get, Some, refl, ap, ap₂, sym, ◌∙◌, arith}
+use Rattle.std.proofs.Common.{◌≡◌, ℕ, ◌+◌, Bool, cond, true, false, List, [], ◌∷◌, ◌++◌, length, refl, ap, ap₂, sym, ◌∙◌, arith}
 use Rattle.std.specs.Prelude.{count_by}
-use Rattle.std.proofs.lemmas.Option.{get_or_from_slice_get, slice_get_within}
-use Rattle.std.proofs.lemmas.List.{length-append, take_more}
+use Rattle.std.proofs.lemmas.List.{length-append}
 use Rattle.std.proofs.lemmas.List.Sums.{sum_by-cons}
+use Rattle.list_laws.proofs.Lists.{list_same}
 use Rattle.orc_ids.specs.declared.flags.SymFlags.{SymFlags}
 use Rattle.orc_ids.specs.declared.ids.InstId.{InstId}
 use Rattle.orc_ids.specs.declared.ids.NameId.{NameId}
@@ -11,15 +11,10 @@ use Rattle.session_model.specs.Lists.{numbered}
 use Rattle.session_model.specs.declared.rows.InstRow.{InstRow}
 use Rattle.session_laws.proofs.Elements.{numbered_at, numbered_length}
 use Rattle.instances.specs.Table.{fresh_rows, replaced_row, AreChanged}
-use Rattle.session_parts.proofs.NewUnits.{same_list}
-
--- one element more of a list
-pub taken_more : {X : Type 0} (xs : List X) (k : ℕ) (x : X) → slice_get xs k ≡ Some x → take (k + 1) xs ≡ take k xs ++ x ∷ []
-taken_more xs k x e = take_more xs k x (slice_get_within xs k x e) ∙ ap (λ y. take k xs ++ y ∷ []) (get_or_from_slice_get xs k x x e)
 
 -- the rows with those gone
 pub rows_gone : (gone : List InstId) (old new : List InstRow) → AreChanged (replaced_row gone) old new → new ≡ numbered (replaced_row gone) 0 old
-rows_gone gone old new h = same_list new (numbered (replaced_row gone) 0 old) (λ i. h i ∙ sym (numbered_at (replaced_row gone) old i))
+rows_gone gone old new h = list_same new (numbered (replaced_row gone) 0 old) (λ i. h i ∙ sym (numbered_at (replaced_row gone) old i))
 
 pub gone_length : (gone : List InstId) (old new : List InstRow) → AreChanged (replaced_row gone) old new → length new ≡ length old
 gone_length gone old new h = ap length (rows_gone gone old new h) ∙ numbered_length (replaced_row gone) 0 old

@@ -52,15 +52,12 @@ one_linked {U} {N} means start now new book u l first rest links only = record {
     due : new.book.due ≡ drop 1 now.book.due
     due = ap (λ (b : Ledger N). b.due) (books ∙ rest)
 
-empty_due : (us : List UnitId) → slice_get us 0 ≡ None → us ≡ []
-empty_due [] e = refl
-empty_due (u ∷ us) e = absurd (none-some u (sym e))
+pub none_is_due : (us : List UnitId) → slice_get us 0 ≡ None → us ≡ []
+none_is_due [] e = refl
+none_is_due (u ∷ us) e = absurd (none-some u (sym e))
 
 pub all_are_linked : {U N : Type 0} (means : U → Meaning) (start now : Parts U N) → Linking means start now → slice_get now.book.due 0 ≡ None → (m : Plain) → AreParts means start m → AreParts means now (all_linked start.book.due m)
-all_are_linked means start now l none m a = let n = l.parts m a in subst (AreParts means now) (ap (λ us. all_linked us n.0) (sym (empty_due now.book.due none)) ∙ n.2) n.1
-
-pub none_is_due : (us : List UnitId) → slice_get us 0 ≡ None → us ≡ []
-none_is_due us e = empty_due us e
+all_are_linked means start now l none m a = let n = l.parts m a in subst (AreParts means now) (ap (λ us. all_linked us n.0) (sym (none_is_due now.book.due none)) ∙ n.2) n.1
 
 -- the instances that changed are told, and the book has gone on
 pub with_told : {U N : Type 0} (means : U → Meaning) (p : Parts U N) (graph : Graph) (book : Ledger N) (m : Plain) → AreParts means p m → graph ≡ record (p.graph) { changed = [] } → AreParts means (record p { graph = graph; book = book }) m

@@ -4,6 +4,8 @@ use Rattle.std.specs.Prelude.{◌==◌}
 use Rattle.std.specs.Option.{option_map_or}
 use Rattle.std.proofs.lemmas.Bool.{cases_eq, ne_eqb, eq-eqb}
 use Rattle.std.proofs.lemmas.Option.{none-some, same_Some}
+use Rattle.list_laws.proofs.Lists.{list_same, lengths_from}
+use Rattle.list_laws.proofs.Bools.{and_kept}
 use Rattle.orc_ids.specs.declared.flags.SymFlags.{SymFlags}
 use Rattle.orc_ids.specs.declared.ids.InstId.{InstId}
 use Rattle.orc_ids.specs.declared.ids.NameId.{NameId}
@@ -14,14 +16,14 @@ use Rattle.session_model.specs.declared.rows.InstRow.{InstRow}
 use Rattle.session_laws.specs.Sound.{IsSound}
 use Rattle.session_laws.proofs.Elements.{changed_there, changed_elsewhere, element_below, numbered_at}
 use Rattle.session_laws.proofs.Facts.{test_is}
-use Rattle.session_laws.proofs.Living.{and_kept, numbered_same, replaced_here}
+use Rattle.session_laws.proofs.Living.{numbered_same, replaced_here}
 use Rattle.instances.specs.Table.{is_among}
 use Rattle.jit_dylib.specs.Rows.{replaced_instances}
 use Rattle.mat_unit.specs.Changes.{without_name}
 use Rattle.mat_unit.specs.Roster.{Roster}
 use Rattle.mat_unit.specs.declared.unit.Unit.{Unit as OneUnit}
 use Rattle.session_parts.specs.Defined.{loses, AreLost, AreOf, unnamed}
-use Rattle.session_parts.proofs.NewUnits.{among_is_replaced, lengths_from, same_list}
+use Rattle.session_parts.proofs.NewUnits.{among_is_replaced}
 use Rattle.session_parts.proofs.OwnerChanges.{any_append}
 
 or_false : (b : Bool) → (b || false) ≡ b
@@ -53,7 +55,7 @@ none_lost {U} rows units u = one (slice_get units u)
 
 -- one name more
 flag_gone : (n : ℕ) (f g : ℕ → Bool) → ((k : ℕ) → g k ≡ (f k || (n == k))) → (live : List Bool) → changed_at n (λ flag. false) (left_flags f live) ≡ left_flags g live
-flag_gone n f g h live = same_list (changed_at n (λ flag. false) (left_flags f live)) (left_flags g live) (λ k. at k (cases_eq k n))
+flag_gone n f g h live = list_same (changed_at n (λ flag. false) (left_flags f live)) (left_flags g live) (λ k. at k (cases_eq k n))
   where
     or_true : (b : Bool) → (b || true) ≡ true
     or_true true = refl

@@ -4,6 +4,7 @@ use Rattle.std.specs.Bool.{if◌then◌else◌}
 use Rattle.std.specs.Prelude.{find, IsSome, IsSomeAnd}
 use Rattle.std.specs.Option.{option_map_or}
 use Rattle.std.proofs.lemmas.Bool.{both_ways, ne_eqb, eqb-true}
+use Rattle.list_laws.proofs.Options.{not_there}
 use Rattle.orc_ids.specs.declared.ids.UnitId.{UnitId}
 use Rattle.orc_ids.specs.declared.place.Shape.{Shape}
 use Rattle.session_model.specs.Lists.{changed_at}
@@ -106,20 +107,17 @@ stored_done_bare units p u x s t e bare = changed_one units p u done_unit x s t 
 
 -- Taking a range away
 
-none_placed : (o : Option ℕ) → o ≡ None → is_some o ≡ true → ⊥
-none_placed o e t = both_ways (is_some o) (ap is_some e) t
-
 pub stored_freed : (units : List UnitRow) (p : List Placement) (u : UnitId) (f : UnitRow → UnitRow) (x : UnitRow) → AreStored units p → slice_get units u.0 ≡ Some x → (f x).base ≡ None → is_placed (f x).phase ≡ false → AreStored (changed_at u.0 f units) (without p u)
 stored_freed units p u f x s t none gone = changed_to units p (without p u) u.0 f x s t (record {
   range = without_own p u ∙ sym (unbased u.0 (f x) none);
-  based = λ a h. absurd (none_placed (f x).base none h);
+  based = λ a h. absurd (not_there (f x).base none h);
   placed = λ h a. absurd (both_ways (is_placed (f x).phase) gone h);
 }) (λ v n. without_other p u (record { 0 = v }) (ne_eqb u.0 v (λ i. n (sym i))))
 
 pub stored_unplaced : (units : List UnitRow) (p : List Placement) (u : ℕ) (f : UnitRow → UnitRow) (x : UnitRow) → AreStored units p → slice_get units u ≡ Some x → HasNoRange x → (f x).base ≡ None → is_placed (f x).phase ≡ false → AreStored (changed_at u f units) p
 stored_unplaced units p u f x s t bare none gone = changed_one units p u f x s t (record {
   range = (s.each u x t).range ∙ (no_range u x bare ∙ sym (unbased u (f x) none));
-  based = λ a h. absurd (none_placed (f x).base none h);
+  based = λ a h. absurd (not_there (f x).base none h);
   placed = λ h a. absurd (both_ways (is_placed (f x).phase) gone h);
 })
 

@@ -6,6 +6,7 @@ use Rattle.std.specs.List.{list_any}
 use Rattle.std.specs.Option.{option_map_or}
 use Rattle.std.proofs.lemmas.Bool.{eq-eqb, ne_eqb, eqb-true}
 use Rattle.std.proofs.lemmas.Bool.Decides.{nat_tests}
+use Rattle.list_laws.proofs.Bools.{bool_same}
 use Rattle.orc_ids.specs.declared.ids.InstId.{InstId}
 use Rattle.orc_ids.specs.declared.ids.NameId.{NameId}
 use Rattle.orc_ids.specs.declared.ids.UnitId.{UnitId}
@@ -66,11 +67,6 @@ one_in first k rows h name i = by (has_name rows name i)
   where
     by : (p : Bool) → (((nat_le first i && nat_lt i k) && p) || (k == i && p)) ≡ ((nat_le first i && nat_lt i (k + 1)) && p)
     by p = grind (arith, nat_tests)
-
-bool_same : (a b : Bool) → (a ≡ true → b ≡ true) → (b ≡ true → a ≡ true) → a ≡ b
-bool_same true b f g = sym (f refl)
-bool_same false true f g = g refl
-bool_same false false f g = refl
 
 pub all_in : (rows : List InstRow) (u first count k : ℕ) → IsSpan rows u first count → k ≡ first + count → (name i : ℕ) → is_spanned first k rows name i ≡ is_named (λ v. u == v) rows name i
 all_in rows u first count k s last name i = by_row (slice_get rows i) refl

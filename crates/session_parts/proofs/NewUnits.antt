@@ -1,5 +1,5 @@
 -- A unit is defined.
-use Rattle.std.proofs.Common.{◌≡◌, ℕ, zero, suc, ◌+◌, ◌<◌, ◌≤◌, ◌⊎◌, inl, inr, Bool, true, false, ◌&&◌, ◌||◌, not, nat_eq, List, [], ◌∷◌, ◌++◌, length, slice_get, Option, Some, None, option_map, is_some, refl, ap, ap₂, sym, subst, ◌∙◌, arith}
+use Rattle.std.proofs.Common.{◌≡◌, ℕ, zero, suc, ◌+◌, ◌<◌, ◌≤◌, ◌⊎◌, inl, inr, Bool, true, false, ◌&&◌, ◌||◌, not, nat_eq, List, [], ◌∷◌, ◌++◌, length, slice_get, Option, Some, None, option_map, refl, ap, ap₂, sym, subst, ◌∙◌, arith}
 use Rattle.std.specs.Bool.{if◌then◌else◌}
 use Rattle.std.specs.Prelude.{◌==◌}
 use Rattle.std.specs.List.{list_any}
@@ -7,6 +7,8 @@ use Rattle.std.specs.Option.{option_map_or}
 use Rattle.std.proofs.lemmas.Bool.{cases_eq, cases_lt, both_ways, ne_eqb, eqb-true, eq-eqb, and_parts, and_from}
 use Rattle.std.proofs.lemmas.Option.{none-some, same_Some}
 use Rattle.std.proofs.lemmas.List.{length-append}
+use Rattle.list_laws.proofs.Lists.{list_same, lengths_from}
+use Rattle.list_laws.proofs.Options.{not_there}
 use Rattle.orc_ids.specs.declared.flags.SymFlags.{SymFlags}
 use Rattle.orc_ids.specs.declared.ids.NameId.{NameId}
 use Rattle.session_model.specs.Lists.{numbered}
@@ -31,13 +33,6 @@ use Rattle.session_parts.specs.Units.{tracker_at, dylib_at, IsReadied, AreUnits}
 use Rattle.session_parts.specs.Stored.{is_placed, IsStored, AreStored}
 use Rattle.session_parts.specs.Defined.{loses, AreLost}
 use Rattle.session_parts.proofs.Storing.{unbased}
-
--- lists with the same elements are the same
-pub same_list : {X : Type 0} (xs ys : List X) → ((i : ℕ) → slice_get xs i ≡ slice_get ys i) → xs ≡ ys
-same_list [] [] h = refl
-same_list [] (y ∷ ys) h = absurd (none-some y (h 0))
-same_list (x ∷ xs) [] h = absurd (none-some x (sym (h 0)))
-same_list (x ∷ xs) (y ∷ ys) h = ap₂ (λ z zs. z ∷ zs) (same_Some x y (h 0)) (same_list xs ys (λ i. h (suc i)))
 
 -- The rows
 
@@ -67,7 +62,7 @@ among_is_replaced i (Replaces j ∷ vs) = ap₂ (λ b c. b || c) (turned j.0 i) 
 
 -- the rows with the replaced ones gone
 pub rows_replaced : (found : List Verdict) (old new : List InstRow) → AreChanged (replaced_row (replaced_instances found)) old new → new ≡ numbered (unreplaced_row found) 0 old
-rows_replaced found old new h = same_list new (numbered (unreplaced_row found) 0 old) (λ i. h i ∙ (one i (slice_get old i) ∙ sym (numbered_at (unreplaced_row found) old i)))
+rows_replaced found old new h = list_same new (numbered (unreplaced_row found) 0 old) (λ i. h i ∙ (one i (slice_get old i) ∙ sym (numbered_at (unreplaced_row found) old i)))
   where
     one : (i : ℕ) (o : Option InstRow) → option_map (replaced_row (replaced_instances found) i) o ≡ option_map (unreplaced_row found i) o
     one i None = refl
@@ -144,12 +139,6 @@ lost_flags rows found u j [] = refl
 lost_flags rows found u j (flag ∷ live) = ap₂ (λ b bs. b ∷ bs) (ap (λ b. flag && not b) (loses_is rows found u j)) (lost_flags rows found u (j + 1) live)
 
 -- The units
-
-pub lengths_from : {X : Type 0} (old new : List X) (f : ℕ → X → X) → ((i : ℕ) → slice_get new i ≡ option_map (f i) (slice_get old i)) → length new ≡ length old
-lengths_from [] [] f h = refl
-lengths_from [] (y ∷ ys) f h = absurd (none-some y (sym (h 0)))
-lengths_from (x ∷ xs) [] f h = absurd (none-some (f 0 x) (h 0))
-lengths_from {X} (x ∷ xs) (y ∷ ys) f h = ap suc (lengths_from xs ys (λ i. f (suc i)) (λ i. h (suc i)))
 
 tracker_stays : (rows : List InstRow) (found : List Verdict) (units : List UnitRow) (u : ℕ) → tracker_at (numbered (without_replaced rows found) 0 units) u ≡ tracker_at units u
 tracker_stays rows found units u = ap (λ o. option_map_or (λ (x : UnitRow). x.tracker) o 0) (numbered_at (without_replaced rows found) units u) ∙ one (slice_get units u)
@@ -255,9 +244,6 @@ stored_lost m d offers p sound s = record { each = each; others = λ u b. s.othe
     asked stage.Failed = inr (λ e. cc)
     asked stage.Defunct = inr (λ e. cc)
 
-    none_placed : (o : Option ℕ) → o ≡ None → is_some o ≡ true → ⊥
-    none_placed o e t = both_ways (is_some o) (ap is_some e) t
-
     each : (u : ℕ) (y : UnitRow) → slice_get (numbered (without_replaced m.rows (verdicts m.rows d offers)) 0 m.units) u ≡ Some y → IsStored p u y
     each u y e = let q = numbered_parts (without_replaced m.rows (verdicts m.rows d offers)) m.units u y e in subst (IsStored p u) (sym q.2) (split q.0 q.1 (s.each u q.0 q.1) (asked q.0.phase))
       where
@@ -265,20 +251,17 @@ stored_lost m d offers p sound s = record { each = each; others = λ u b. s.othe
         split x t before (inr n) = subst (IsStored p u) (sym (live_kept m d offers u x sound t n)) before
         split x t before (inl c) = let none = (sound.units_fit u x t).early (ap Rattle.session_laws.specs.Sound.is_early c) in record {
           range = before.range ∙ (unbased u x none ∙ sym (unbased u (without_replaced m.rows (verdicts m.rows d offers) u x) none));
-          based = λ a h. absurd (none_placed x.base none h);
+          based = λ a h. absurd (not_there x.base none h);
           placed = λ h a. absurd (both_ways (is_placed x.phase) (ap is_placed c) h);
         }
 
 pub stored_pushed : (units : List UnitRow) (p : List Placement) (x : UnitRow) → x.base ≡ None → is_placed x.phase ≡ false → AreStored units p → AreStored (units ++ x ∷ []) p
 stored_pushed units p x none early s = record { each = λ u y e. each u y (pushed_cases units x u y e); others = λ u b. s.others u (omega (arith, b, length-append units (x ∷ []))) }
   where
-    none_placed : (o : Option ℕ) → o ≡ None → is_some o ≡ true → ⊥
-    none_placed o e t = both_ways (is_some o) (ap is_some e) t
-
     each : (u : ℕ) (y : UnitRow) → (slice_get units u ≡ Some y) ⊎ ((u ≡ length units) × (y ≡ x)) → IsStored p u y
     each u y (inl e) = s.each u y e
     each u y (inr e) = subst (IsStored p u) (sym e.1) (record {
       range = s.others u (omega (arith, e.0)) ∙ sym (unbased u x none);
-      based = λ a h. absurd (none_placed x.base none h);
+      based = λ a h. absurd (not_there x.base none h);
       placed = λ h a. absurd (both_ways (is_placed x.phase) early h);
     })

@@ -1,17 +1,17 @@
 -- Dylibs, generators and trackers that are made and changed.
-use Rattle.std.proofs.Common.{◌≡◌, ℕ, suc, ◌+◌, ◌<◌, ◌≤◌, ◌⊎◌, inl, inr, Bool, true, false, ◌&&◌, List, [], ◌∷◌, ◌++◌, length, map, slice_get, Option, Some, None, option_map, refl, ap, sym, subst, ◌∙◌, arith}
-use Rattle.std.specs.Bool.{if◌then◌else◌}
+use Rattle.std.proofs.Common.{◌≡◌, ℕ, ◌+◌, ◌<◌, ◌≤◌, ◌⊎◌, inl, inr, true, false, ◌&&◌, List, [], ◌∷◌, ◌++◌, length, map, slice_get, Option, Some, None, option_map, refl, ap, sym, subst, ◌∙◌, arith}
 use Rattle.std.specs.Prelude.{◌==◌}
 use Rattle.std.specs.Option.{option_map_or}
 use Rattle.std.proofs.lemmas.Bool.{cases_eq, cases_lt, and_parts, false_from_ne_true, eqb-true}
 use Rattle.std.proofs.lemmas.List.{length-append}
+use Rattle.model_laws.proofs.FirstRows.{no_first}
 use Rattle.orc_ids.specs.declared.ids.DylibId.{DylibId}
 use Rattle.orc_ids.specs.declared.ids.GenId.{GenId}
 use Rattle.orc_ids.specs.declared.ids.NameId.{NameId}
 use Rattle.orc_ids.specs.declared.ids.TrackId.{TrackId}
 use Rattle.orc_ids.specs.declared.lookup.OrderItem.{OrderItem}
 use Rattle.session_model.specs.Lists.{changed_at}
-use Rattle.session_model.specs.Match.{row_of, first_row}
+use Rattle.session_model.specs.Match.{row_of}
 use Rattle.session_model.specs.Meaning.{Meaning}
 use Rattle.session_model.specs.Plain.{Plain, UnitRow, GenRow}
 use Rattle.session_model.specs.Change.{changed, new_dylib, ordered_dylib, spent, spent_generator, moved_unit, moved_generator, gone_tracker}
@@ -34,10 +34,6 @@ use Rattle.session_parts.proofs.TrackerChanges.{units_grow, generators_grow, pus
 use Rattle.session_parts.proofs.UnitChanges.{kept_by}
 
 -- A dylib
-
-no_first : (test : InstRow → Bool) (k : ℕ) (rows : List InstRow) → ((i : ℕ) (r : InstRow) → slice_get rows i ≡ Some r → test r ≡ false) → first_row test k rows ≡ None
-no_first test k [] h = refl
-no_first test k (r ∷ rs) h = ap (λ b. if b then Some (record { inst = record { 0 = k }; flags = r.flags }) else first_row test (k + 1) rs) (h 0 r refl) ∙ no_first test (k + 1) rs (λ i. h (suc i))
 
 table_stays : (s : Shelf) (tables : List Rows) (d : ℕ) → tables ≡ s.tables ++ [] ∷ [] → option_map_or (λ (t : Rows). t) (slice_get tables d) [] ≡ table_of s d
 table_stays s tables d e = ap (λ ts. option_map_or (λ (t : Rows). t) (slice_get ts d) []) e ∙ split (cases_lt d (length s.tables))

@@ -24,7 +24,7 @@ use Rattle.tracker.specs.declared.owned.Owned.{Owned}
 use Rattle.tracker.specs.Owners.{Owners, within, change_at, with_unit, with_generator, and_all_of}
 use Rattle.session_parts.specs.Units.{tracker_at, dylib_at, AreUnits, IsOwned, AreOwners}
 use Rattle.session_parts.specs.Tied.{AreGenerators, generator_tracker}
-use Rattle.session_parts.proofs.UnitChanges.{kept_by}
+use Rattle.session_parts.proofs.Removed.{dylib_stays}
 
 -- Lists of owners
 
@@ -312,9 +312,6 @@ owners_moved owners trackers units generators from to more n b its a = record {
 moved_tracker : {X : Type 0} (tracker : X → ℕ) (f : X → X) (t to : ℕ) (xs : List X) → Moves tracker f t to → (i : ℕ) (x : X) → slice_get xs i ≡ Some x → option_map_or tracker (slice_get (map f xs) i) 0 ≡ (if tracker x == t then to else tracker x)
 moved_tracker tracker f t to xs m i x e = ap (λ o. option_map_or tracker o 0) (mapped_at f xs i ∙ ap (option_map f) e) ∙ m.moves x
 
-kept_dylib : (trackers : List Track) (from v : ℕ) → dylib_at (changed_at from gone_tracker trackers) v ≡ dylib_at trackers v
-kept_dylib trackers from v = kept_by (λ (y : Track). y.dylib) 0 from gone_tracker trackers (λ x. refl) v
-
 pub units_moved : {U : Type 0} (means : U → Meaning) (kept : List (OneUnit U)) (units : List UnitRow) (trackers : List Track) (from to : ℕ) → to < length trackers → dylib_at trackers from ≡ dylib_at trackers to → AreUnits means kept units trackers →
     AreUnits means kept (map (moved_unit from to) units) (changed_at from gone_tracker trackers)
 units_moved {U} means kept units trackers from to b same a = record {
@@ -350,7 +347,7 @@ units_moved {U} means kept units trackers from to b same a = record {
         split (inr n) = ap (λ c. dylib_at trackers (if c then to else t)) (ne_eqb t from n)
 
     dylibs : (u : ℕ) (x : OneUnit U) → slice_get kept u ≡ Some x → x.dylib.0 ≡ dylib_at (changed_at from gone_tracker trackers) (tracker_at (map (moved_unit from to) units) u)
-    dylibs u x e = a.dylibs u x e ∙ (sym (by_tracker (tracker_at units u)) ∙ (ap (dylib_at trackers) (sym (tracker_is u x e)) ∙ sym (kept_dylib trackers from (tracker_at (map (moved_unit from to) units) u))))
+    dylibs u x e = a.dylibs u x e ∙ (sym (by_tracker (tracker_at units u)) ∙ (ap (dylib_at trackers) (sym (tracker_is u x e)) ∙ sym (dylib_stays trackers from (tracker_at (map (moved_unit from to) units) u))))
 
 pub generators_moved : {U : Type 0} (means : U → Meaning) (kept : List (Generator U)) (generators : List GenRow) (trackers : List Track) (from to : ℕ) → to < length trackers → AreGenerators means kept generators trackers → AreGenerators means kept (map (moved_generator from to) generators) (changed_at from gone_tracker trackers)
 generators_moved {U} means kept generators trackers from to b a = record {

@@ -8,6 +8,7 @@ use Rattle.std.specs.List.{list_any}
 use Rattle.std.specs.Option.{option_map_or}
 use Rattle.std.proofs.lemmas.Bool.{both_ways, and_parts, eq-eqb}
 use Rattle.std.proofs.lemmas.List.Folds.{list_any_at}
+use Rattle.list_laws.proofs.Lists.{lengths_from}
 use Rattle.orc_ids.specs.declared.ids.TrackId.{TrackId}
 use Rattle.orc_ids.specs.declared.ids.UnitId.{UnitId}
 use Rattle.session_model.specs.Change.{removed, removed_unit, hits_failed, is_unit_of, job_unit}
@@ -40,7 +41,6 @@ use Rattle.session_parts.specs.Units.{tracker_at}
 use Rattle.session_parts.proofs.Memories.{no_range}
 use Rattle.session_parts.proofs.Moves.{tracker_there}
 use Rattle.session_parts.proofs.Names.{left_same, names_of, listed}
-use Rattle.session_parts.proofs.Removed.{lengths_from}
 use Rattle.session_parts.proofs.Steps.{bare_parts, ranged_has_range}
 use Rattle.session_parts.proofs.Ties.{session_unit}
 use Rattle.session_parts.proofs.Whole.{tracker_removed}

@@ -1,10 +1,12 @@
 -- A tracker is removed, with all that it owns.
-use Rattle.std.proofs.Common.{◌≡◌, ℕ, ◌<◌, ◌≤◌, ◌⊎◌, inl, inr, Bool, true, false, ◌||◌, List, [], ◌∷◌, length, map, slice_get, Option, Some, None, option_map, is_some, refl, ap, sym, subst, ◌∙◌, arith, zero, suc}
+use Rattle.std.proofs.Common.{◌≡◌, ℕ, ◌<◌, ◌≤◌, ◌⊎◌, inl, inr, Bool, true, false, ◌||◌, List, [], ◌∷◌, length, map, slice_get, Option, Some, None, option_map, refl, ap, sym, subst, ◌∙◌, arith, zero, suc}
 use Rattle.std.specs.Bool.{if◌then◌else◌}
 use Rattle.std.specs.Prelude.{◌==◌, set, is_none}
 use Rattle.std.specs.Option.{option_map_or}
 use Rattle.std.proofs.lemmas.Bool.{cases_eq, both_ways}
 use Rattle.std.proofs.lemmas.Option.{none-some}
+use Rattle.list_laws.proofs.Options.{not_there}
+use Rattle.list_laws.proofs.Lists.{lengths_from}
 use Rattle.orc_ids.specs.declared.ids.GenId.{GenId}
 use Rattle.orc_ids.specs.declared.ids.TrackId.{TrackId}
 use Rattle.orc_ids.specs.declared.ids.UnitId.{UnitId}
@@ -35,13 +37,7 @@ use Rattle.session_parts.proofs.Storing.{unbased}
 abbrev pub GoesAs : (ℕ → Bool) → List UnitRow → ℕ → Type 0
 GoesAs gone units t = (u : ℕ) → gone u ≡ option_map_or (λ (x : UnitRow). x.tracker == t) (slice_get units u) false
 
-pub lengths_from : {X : Type 0} (old new : List X) (f : ℕ → X → X) → ((i : ℕ) → slice_get new i ≡ option_map (f i) (slice_get old i)) → length new ≡ length old
-lengths_from [] [] f h = refl
-lengths_from [] (y ∷ ys) f h = absurd (none-some y (sym (h 0)))
-lengths_from (x ∷ xs) [] f h = absurd (none-some (f 0 x) (h 0))
-lengths_from {X} (x ∷ xs) (y ∷ ys) f h = ap suc (lengths_from xs ys (λ i. f (suc i)) (λ i. h (suc i)))
-
-dylib_stays : (trackers : List Track) (t v : ℕ) → dylib_at (changed_at t gone_tracker trackers) v ≡ dylib_at trackers v
+pub dylib_stays : (trackers : List Track) (t v : ℕ) → dylib_at (changed_at t gone_tracker trackers) v ≡ dylib_at trackers v
 dylib_stays trackers t v = kept_by (λ (y : Track). y.dylib) 0 t gone_tracker trackers (λ x. refl) v
 
 tracker_stays : (units : List UnitRow) (t u : ℕ) → tracker_at (map (removed_unit t) units) u ≡ tracker_at units u
@@ -128,9 +124,6 @@ generators_removed {U} means old new generators trackers t gone its spent a = re
 
 -- Memory
 
-gone_none : (o : Option ℕ) → o ≡ None → is_some o ≡ true → ⊥
-gone_none o e t = both_ways (is_some o) (ap is_some e) t
-
 pub memory_removed : (old new : List Placement) (units : List UnitRow) (t : ℕ) (gone : List UnitId) → GoesAs (goes gone) units t → AreFreed gone old new → AreStored units old → AreStored (map (removed_unit t) units) new
 memory_removed old new units t gone its freed s = record { each = each; others = others }
   where
@@ -141,7 +134,7 @@ memory_removed old new units t gone its freed s = record { each = each; others =
         split : (x : UnitRow) → IsStored old u x → (b : Bool) → (x.tracker == t) ≡ b → goes gone u ≡ (x.tracker == t) → IsStored new u (removed_unit t x)
         split x before true c g = subst (λ b. IsStored new u (record x { phase = if b then stage.Defunct else x.phase; base = if b then None else x.base })) (sym c) (record {
           range = freed u ∙ (ap (λ b. if b then None else placement_of old (record { 0 = u })) (g ∙ c) ∙ sym (unbased u (record x { phase = stage.Defunct; base = None }) refl));
-          based = λ a h. absurd (gone_none None refl h);
+          based = λ a h. absurd (not_there {X = ℕ} None refl h);
           placed = λ h a. absurd (both_ways false refl h);
         })
         split x before false c g = subst (λ b. IsStored new u (record x { phase = if b then stage.Defunct else x.phase; base = if b then None else x.base })) (sym c) (record {

@@ -1,5 +1,5 @@
 -- Units that are removed one after the other, with their ranges, and generators that are spent.
-use Rattle.std.proofs.Common.{◌≡◌, ◌⊎◌, inl, inr, ℕ, zero, suc, ◌<◌, Bool, true, false, ◌||◌, ◌==◌, List, [], ◌∷◌, length, slice_get, Option, Some, None, option_map, is_some, refl, ap, sym, subst, ◌∙◌, suc-le-suc, arith}
+use Rattle.std.proofs.Common.{◌≡◌, ◌⊎◌, inl, inr, ℕ, zero, suc, ◌<◌, Bool, true, false, ◌||◌, ◌==◌, List, [], ◌∷◌, length, slice_get, Option, Some, None, option_map, is_some, refl, ap, sym, subst, ◌∙◌, arith}
 use Rattle.std.specs.Bool.{if◌then◌else◌}
 use Rattle.std.specs.Prelude.{All, IsSome}
 use Rattle.std.proofs.lemmas.Bool.{cases_eq, eq-eqb, ne_eqb, both_ways}
@@ -130,7 +130,3 @@ still_ranged {U} means units old new u ranged freed v y e = split (cases_eq v u.
 -- the next unit is there
 pub head_there : (n : ℕ) (rest : List UnitId) (u : UnitId) (us : List UnitId) → rest ≡ u ∷ us → All (λ (v : UnitId). v.0 < n) rest → u.0 < n
 head_there n rest u us steps there = subst (λ vs. All (λ (v : UnitId). v.0 < n) vs) steps there 0 u (omega (arith))
-
--- and the others are too
-pub others_there : (n : ℕ) (rest : List UnitId) (u : UnitId) (us : List UnitId) → rest ≡ u ∷ us → All (λ (v : UnitId). v.0 < n) rest → All (λ (v : UnitId). v.0 < n) us
-others_there n rest u us steps there = λ k d b. subst (λ vs. All (λ (v : UnitId). v.0 < n) vs) steps there (suc k) d (suc-le-suc b)

@@ -1,10 +1,11 @@
 -- Which units wait for a query, from one listing of a Finish to the next.
-use Rattle.std.proofs.Common.{◌≡◌, ℕ, ◌⊎◌, inl, inr, Bool, true, false, ◌&&◌, nat_eq, List, slice_get, Option, Some, None, refl, ap, sym, subst, ◌∙◌}
+use Rattle.std.proofs.Common.{◌≡◌, ℕ, ◌⊎◌, inl, inr, Bool, true, false, ◌&&◌, List, slice_get, Option, Some, None, refl, ap, sym, ◌∙◌}
 use Rattle.std.specs.Bool.{if◌then◌else◌}
 use Rattle.std.specs.Option.{option_map_or}
-use Rattle.std.proofs.lemmas.Bool.{both_ways, and_from, eq-eqb, false_from_ne_true}
+use Rattle.std.proofs.lemmas.Bool.{both_ways, false_from_ne_true}
+use Rattle.model_laws.proofs.Units.{waiting_from}
 use Rattle.session_model.specs.Lists.{changed_at}
-use Rattle.session_model.specs.Plain.{Plain, UnitRow, is_waiting}
+use Rattle.session_model.specs.Plain.{Plain, UnitRow}
 use Rattle.session_model.specs.Query.{is_met}
 use Rattle.session_model.specs.Change.{settled, settled_one, finish_listed, waits_for}
 use Rattle.session_model.specs.declared.rows.Query.{Query}
@@ -12,10 +13,6 @@ use Rattle.session_model.specs.declared.rows.UnitPhase.TheVariants as stage
 use Rattle.session_laws.proofs.Defining.{waiting_parts}
 use Rattle.session_laws.proofs.Elements.{changed_cases}
 use Rattle.session_laws.proofs.Settling.{settling_keeps, settled_one_keeps}
-
-pub waiting_here : (m : Plain) (u k : ℕ) (x : UnitRow) → slice_get m.units u ≡ Some x → x.phase ≡ stage.Waiting → x.query ≡ Some k → waits_for m u k ≡ true
-waiting_here m u k x e p q = subst (λ o. option_map_or (λ (y : UnitRow). option_map_or (nat_eq k) y.query false && is_waiting y.phase) o false ≡ true) (sym e)
-    (and_from (option_map_or (nat_eq k) x.query false) (is_waiting x.phase) (ap (λ o. option_map_or (nat_eq k) o false) q ∙ eq-eqb k k refl) (ap is_waiting p))
 
 -- each unit that waits there waits here for the same query
 abbrev pub WaitsNoMore : List UnitRow → List UnitRow → Type 0
@@ -41,7 +38,7 @@ pub none_waits : (m n : Plain) (u k : ℕ) → WaitsNoMore m.units n.units → w
 none_waits m n u k w f = false_from_ne_true (waits_for n u k) (λ b. clash (waiting_parts n u k b))
   where
     clash : (y : UnitRow) × (slice_get n.units u ≡ Some y) × (y.phase ≡ stage.Waiting) × (y.query ≡ Some k) → ⊥
-    clash p = let x = w u p.0 p.1 p.2 in both_ways (waits_for m u k) f (waiting_here m u k x.0 x.1 x.2 (x.3 ∙ p.3))
+    clash p = let x = w u p.0 p.1 p.2 in both_ways (waits_for m u k) f (waiting_from m u k x.0 x.1 x.2 (x.3 ∙ p.3))
 
 listed_waits : (v : ℕ) (m : Plain) → WaitsNoMore m.units (finish_listed v m).units
 listed_waits v m = waits_changed m.units v (λ x. record x { phase = stage.Linked }) (λ x e. absurd cc)

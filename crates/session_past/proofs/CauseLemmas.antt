@@ -2,6 +2,7 @@
 use Rattle.std.proofs.Common.{◌≡◌, ℕ, zero, suc, ◌+◌, List, [], ◌∷◌, ◌++◌, take, map, slice_get, Option, Some, None, ◌⊎◌, inl, inr, ◌↔◌, IsTrue, refl, ap, ◌∙◌, add-one}
 use Rattle.std.specs.Prelude.{Bool, ◌&&◌, not}
 use Rattle.std.proofs.lemmas.Option.{same_Some, none-some}
+use Rattle.model_laws.proofs.Choices.{or_else_assoc}
 use Rattle.session_model.specs.Lists.{or_else, only_if}
 use Rattle.session_model.specs.Meaning.{Meaning}
 use Rattle.session_model.specs.Answer.{last_reply, is_turned_away}
@@ -18,7 +19,6 @@ use Rattle.session_past.specs.declared.ends.Settled.{Settled}
 use Rattle.session_past.specs.Ends.{AreEnds}
 use Rattle.session_past.specs.Taking.{link_end}
 use Rattle.session_past.proofs.TakeLemmas.{link_ended, link_end_is}
-use Rattle.session_plain.proofs.ListLemmas.{or_else_assoc}
 
 or_none : {X : Type 0} (o : Option X) → o ≡ or_else o None
 or_none None = refl

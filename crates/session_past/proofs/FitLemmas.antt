@@ -3,8 +3,9 @@ use Rattle.std.proofs.Common.{◌≡◌, ℕ, zero, suc, ◌+◌, ◌<◌, ◌�
 use Rattle.std.specs.Prelude.{nat_le, nat_lt, nat_eq, not, ◌&&◌, ◌||◌, ◌==◌, if◌then◌else◌, unwrap_or}
 use Rattle.std.specs.Option.{option_map_or}
 use Rattle.std.specs.List.{position_from}
-use Rattle.std.proofs.lemmas.Bool.{leb-false, ltb-false, both_ways}
+use Rattle.std.proofs.lemmas.Bool.{leb-false, ltb-false, both_ways, or_parts}
 use Rattle.std.proofs.lemmas.Option.{same_Some, none-some}
+use Rattle.std.proofs.lemmas.List.{length_push}
 use Rattle.orc_ids.specs.declared.flags.SymFlags.{SymFlags}
 use Rattle.orc_ids.specs.declared.ids.DylibId.{DylibId}
 use Rattle.orc_ids.specs.declared.ids.GenId.{GenId}
@@ -238,9 +239,6 @@ defined_within m d t u found w room = record {
     own : (i : ℕ) (r : InstRow) → slice_get (new_rows d (length m.units) 0 u.offers found) i ≡ Some r → (r.unit.0 ≡ length units) × (r.offer < length u.offers)
     own i r e = let p = new_rows_at d (length m.units) 0 u.offers found i r e in (p.0 ∙ sym (keys_length unit_key m.units units units_keep), (omega (arith, p.1)))
 
-pushed_length : {X : Type 0} (xs : List X) (x : X) → length (xs ++ x ∷ []) ≡ length xs + 1
-pushed_length xs x = length-append xs (x ∷ [])
-
 -- The room that a change needs
 
 abbrev Room : Plain → Change Meaning → Type 0
@@ -288,10 +286,10 @@ moved_within t to m w = chosen Within (t == to) m new (λ b. w) (λ b. within_ke
 
 change_within : (c : Change Meaning) (m : Plain) → Within m → Room m c → Within (changed c m)
 change_within change.Nothing m w r = w
-change_within (change.MakeDylib name) m w r = record { together = w.together; rows = w.rows; units = w.units; generators = w.generators; dylibs = (let h : length (changed (change.MakeDylib name) m).dylibs ≡ length m.dylibs + 1 = pushed_length m.dylibs _ in omega (arith, h, r)); trackers = w.trackers }
-change_within (change.MakeTracker d) m w r = record { together = w.together; rows = w.rows; units = w.units; generators = w.generators; dylibs = w.dylibs; trackers = (let h : length (changed (change.MakeTracker d) m).trackers ≡ length m.trackers + 1 = pushed_length m.trackers _ in omega (arith, h, r)) }
+change_within (change.MakeDylib name) m w r = record { together = w.together; rows = w.rows; units = w.units; generators = w.generators; dylibs = (let h : length (changed (change.MakeDylib name) m).dylibs ≡ length m.dylibs + 1 = length_push m.dylibs _ in omega (arith, h, r)); trackers = w.trackers }
+change_within (change.MakeTracker d) m w r = record { together = w.together; rows = w.rows; units = w.units; generators = w.generators; dylibs = w.dylibs; trackers = (let h : length (changed (change.MakeTracker d) m).trackers ≡ length m.trackers + 1 = length_push m.trackers _ in omega (arith, h, r)) }
 change_within (change.SetOrder d order) m w r = within_kept m (changed (change.SetOrder d order) m) (record { rows = refl; units = refl; generators = refl; dylibs = changed_length d.0 (ordered_dylib d.0 order) m.dylibs; trackers = refl }) w
-change_within (change.Attach d t u) m w r = record { together = w.together; rows = w.rows; units = w.units; generators = (let h : length (changed (change.Attach d t u) m).generators ≡ length m.generators + 1 = pushed_length m.generators _ in omega (arith, h, r)); dylibs = w.dylibs; trackers = w.trackers }
+change_within (change.Attach d t u) m w r = record { together = w.together; rows = w.rows; units = w.units; generators = (let h : length (changed (change.Attach d t u) m).generators ≡ length m.generators + 1 = length_push m.generators _ in omega (arith, h, r)); dylibs = w.dylibs; trackers = w.trackers }
 change_within (change.Define d t u found) m w r = defined_within m d.0 t.0 u found w r
 change_within (change.Generate k found) m w r = split (slice_get m.generators k.0) refl
   where
@@ -355,12 +353,8 @@ no_dylib_none m ds = replies_first NoGrowth (λ (d : DylibId). only_if (not (has
 not_tracker_none : (m : Plain) (d : DylibId) (t : TrackId) → AllReplies NoGrowth (not_tracker_of m d t)
 not_tracker_none m d t = replies_only NoGrowth (not (is_tracker_of m d.0 t.0)) (reply.TrackerGone t) refl
 
-either_false : (a b : Bool) → (a || b) ≡ false → (a ≡ false) × (b ≡ false)
-either_false true b e = absurd (both_ways true e refl)
-either_false false b e = (refl, e)
-
 unit_room : (m : Plain) (d : ℕ) (u : Meaning) → is_growth (answer_unit m d u) ≡ true → UnitRoom m u (verdicts m.rows d u.offers)
-unit_room m d u e = let p = either_false (nat_le UNIT_LIMIT (length m.units)) (nat_lt INSTANCE_LIMIT (length m.rows + length u.offers)) (not_many (nat_le UNIT_LIMIT (length m.units) || nat_lt INSTANCE_LIMIT (length m.rows + length u.offers)) _ e) in
+unit_room m d u e = let p = or_parts (nat_le UNIT_LIMIT (length m.units)) (nat_lt INSTANCE_LIMIT (length m.rows + length u.offers)) (not_many (nat_le UNIT_LIMIT (length m.units) || nat_lt INSTANCE_LIMIT (length m.rows + length u.offers)) _ e) in
     record { units = leb-false UNIT_LIMIT (length m.units) p.0; rows = ltb-false INSTANCE_LIMIT (length m.rows + length u.offers) p.1; judged = mapped_length (verdict m.rows d) u.offers }
 
 generate_room : (m : Plain) (g : GenId) (x : GenRow) (o : Option GenRow) → o ≡ Some x → is_growth (option_map_or (λ y. if y.spent then reply.Spent g else answer_unit m y.dylib y.meaning) o (reply.NoGen g)) ≡ true → UnitRoom m x.meaning (option_map_or (λ y. verdicts m.rows y.dylib y.meaning.offers) o [])

@@ -1,8 +1,9 @@
 -- What a collect and a take are answered is right, and nothing else is.
-use Rattle.std.proofs.Common.{◌≡◌, ℕ, ◌<◌, ◌≤◌, ◌↔◌, List, [], ◌∷◌, length, slice_get, Option, Some, None, option_map, subst, sym, refl, ap, ◌∙◌, arith, zero, suc}
+use Rattle.std.proofs.Common.{◌≡◌, ℕ, ◌≤◌, ◌↔◌, List, [], ◌∷◌, length, slice_get, Option, Some, None, option_map, subst, sym, refl, ap, ◌∙◌, arith, zero, suc}
 use Rattle.std.specs.Prelude.{option_and_then}
 use Rattle.std.specs.Option.{option_map_or}
 use Rattle.std.proofs.lemmas.Option.{same_Some, none-some}
+use Rattle.list_laws.proofs.Lists.{some_below}
 use Rattle.orc_ids.specs.declared.ids.QueryId.{QueryId}
 use Rattle.orc_ids.specs.declared.ids.UnitId.{UnitId}
 use Rattle.session_model.specs.Meaning.{Meaning}
@@ -24,12 +25,6 @@ use Rattle.session_past.specs.declared.ends.Settled.{Settled}
 use Rattle.session_past.specs.Ends.{AreEnds}
 use Rattle.session_past.specs.Taking.{IsCollected, end_reply, collect_reply, its_end, end_at, link_end, finish_reply, job_reply}
 
--- an element at a number below the length
-element_at : {X : Type 0} (xs : List X) (k : ℕ) → k < length xs → (x : X) × (slice_get xs k ≡ Some x)
-element_at [] k b = absurd (omega (arith, b))
-element_at (x ∷ xs) zero b = (x, refl)
-element_at (x ∷ xs) (suc k) b = element_at xs k (omega (arith, b))
-
 -- with no element there, the list is shorter
 past_end : {X : Type 0} (n : ℕ) (xs : List X) (k : ℕ) → slice_get xs k ≡ None → n ≤ length xs → n ≤ k
 past_end n [] k e b = omega (arith, b)
@@ -39,10 +34,10 @@ past_end (suc n) (x ∷ xs) (suc k) e b = let h : n ≤ k = past_end n xs k e (o
 
 -- the query of an end, and the end of a query
 query_of : (past : List (Entry Meaning)) (m : Plain) (ends : List (Option Settled)) (k : ℕ) (o : Option Settled) → AreEnds past m ends → slice_get ends k ≡ Some o → (q : Query) × (slice_get m.queries k ≡ Some q)
-query_of past m ends k o a t = element_at m.queries k (omega (arith, a.inside, element_below ends k o t))
+query_of past m ends k o a t = some_below m.queries k (omega (arith, a.inside, element_below ends k o t))
 
 pub end_of : (past : List (Entry Meaning)) (m : Plain) (ends : List (Option Settled)) (k : ℕ) (q : Query) → AreEnds past m ends → slice_get m.queries k ≡ Some q → (o : Option Settled) × (slice_get ends k ≡ Some o)
-end_of past m ends k q a t = element_at ends k (omega (arith, a.inside, element_below m.queries k q t))
+end_of past m ends k q a t = some_below ends k (omega (arith, a.inside, element_below m.queries k q t))
 
 -- Collecting
 

@@ -3,6 +3,7 @@ use Rattle.std.proofs.Common.{◌≡◌, ℕ, Bool, true, false, List, [], ◌�
 use Rattle.std.specs.Prelude.{slice_get, Some, None, Option, option_map, option_and_then, filter_map, if◌then◌else◌, ◌&&◌}
 use Rattle.std.specs.Option.{option_map_or}
 use Rattle.std.proofs.lemmas.Option.{slice_get-map}
+use Rattle.std.proofs.lemmas.List.{length-map}
 use Rattle.orc_ids.specs.declared.ids.InstId.{InstId}
 use Rattle.session_model.specs.Answer.{alias_cycle}
 use Rattle.session_model.specs.Chain.{chain_next, comes_to_unit, is_of_unit, linked_to, matched_instances}
@@ -15,7 +16,7 @@ use Rattle.session_model.specs.declared.rows.InstRow.{InstRow}
 use Rattle.session_model.specs.declared.rows.Query.{Query}
 use Rattle.session_plain.specs.Chains.{of_unit, instances_in, linked_list, followed_list, chain_list, marked_cycle, MarksChains}
 use Rattle.session_plain.specs.Marks.{mark_at, numbers, edges_at, AreTests, AreWithin}
-use Rattle.session_plain.proofs.MarkLemmas.{length_map, row_tests, within_along}
+use Rattle.session_plain.proofs.MarkLemmas.{row_tests, within_along}
 
 query_follows : (o : Option Query) → numbers (option_map_or (λ (q : Query). instances_in q.matched) o []) ≡ option_map_or (λ (q : Query). matched_instances q.matched) o []
 query_follows None = refl
@@ -43,7 +44,7 @@ pub chain_marked : (m : Plain) (u : ℕ) (edges : List (List InstId)) (firsts ma
 chain_marked m u edges firsts marks is owned spread = record { each = along.each }
   where
     long : length edges ≡ length m.rows
-    long = ap length is ∙ length_map (chain_list m.units m.queries) m.rows
+    long = ap length is ∙ length-map m.rows (chain_list m.units m.queries)
 
     within_edges : AreWithin (length edges) (length edges) (edges_at edges) (is_of_unit u m.rows) marks false
     within_edges = spread (is_of_unit u m.rows) (subst (λ n. AreTests n (is_of_unit u m.rows) firsts false) (sym long) (row_tests m.rows (of_unit u) firsts owned))

@@ -2,12 +2,12 @@
 use Rattle.std.proofs.Common.{◌≡◌, ℕ, ◌+◌, Bool, true, false, List, [], ◌∷◌, ◌++◌, drop, refl, ap, sym, ◌∙◌, append_assoc, zero, suc, add-one}
 use Rattle.std.specs.Prelude.{slice_get, Option, Some, None, if◌then◌else◌}
 use Rattle.std.proofs.lemmas.Option.{none-some}
+use Rattle.list_laws.proofs.Lists.{drop_some}
 use Rattle.orc_ids.specs.declared.flags.SymFlags.{SymFlags}
 use Rattle.orc_ids.specs.declared.ids.NameId.{NameId}
 use Rattle.session_model.specs.Change.{is_kept, new_row, new_rows}
 use Rattle.session_model.specs.declared.rows.InstRow.{InstRow}
 use Rattle.session_model.specs.declared.rows.Verdict.{Verdict}
-use Rattle.session_plain.proofs.ListLemmas.{drop_some}
 
 row_kept : (b : Bool) (row : InstRow) (old rest : List InstRow) → ((if b then old ++ row ∷ [] else old) ++ rest) ≡ (old ++ (if b then row ∷ rest else rest))
 row_kept true row old rest = append_assoc old (row ∷ []) rest

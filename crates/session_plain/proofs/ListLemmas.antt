@@ -1,29 +1,11 @@
 -- Lists that a loop writes one element at a time.
-use Rattle.std.specs.Prelude.{slice_get, Some, None, Option, option_map, option_and_then, flat_map, Bool, false, ◌||◌}
+use Rattle.std.specs.Prelude.{slice_get, Some, None, Option, option_map, option_and_then, Bool, false, ◌||◌}
 use Rattle.session_model.specs.Lists.{first_some, or_else, changed_at, numbered}
 use Rattle.std.specs.List.{list_any}
 use Rattle.std.specs.Option.{option_map_or}
-use Rattle.std.proofs.lemmas.Option.{same_Some, none-some}
+use Rattle.std.proofs.lemmas.Option.{same_Some}
 use Rattle.std.proofs.Common.{◌≡◌, ℕ, zero, suc, ◌+◌, ◌<◌, ◌≤◌, List, [], ◌∷◌, ◌++◌, map, take, drop, set, get_or, length, refl, ap, sym, ◌∙◌, add-one, add-zero, zero-add, append_assoc, arith}
-
--- one more element is mapped
-map_more_suc : {X : Type 0} (f : X → X) (i : ℕ) (xs : List X) (d : X) → i < length xs → set (map f (take i xs) ++ drop i xs) i (f (get_or (map f (take i xs) ++ drop i xs) i d)) ≡ map f (take (suc i) xs) ++ drop (suc i) xs
-map_more_suc f zero [] d h = refl
-map_more_suc f zero (y ∷ ys) d h = refl
-map_more_suc f (suc i) [] d h = refl
-map_more_suc f (suc i) (y ∷ ys) d h = ap (λ zs. f y ∷ zs) (map_more_suc f i ys d (omega arith))
-
-pub map_more : {X : Type 0} (f : X → X) (i : ℕ) (xs now : List X) (d z : X) → now ≡ map f (take i xs) ++ drop i xs → i < length xs → z ≡ f (get_or now i d) → set now i z ≡ map f (take (i + 1) xs) ++ drop (i + 1) xs
-map_more f i xs now d z is h w = rw (w, is, add-one i) (map_more_suc f i xs d h)
-
--- what is left from an element on
-drop_some_suc : {X : Type 0} (xs : List X) (k : ℕ) (x : X) → slice_get xs k ≡ Some x → drop k xs ≡ x ∷ drop (suc k) xs
-drop_some_suc [] k x h = absurd (none-some x h)
-drop_some_suc (y ∷ ys) zero x h = ap (λ z. z ∷ ys) (same_Some y x h)
-drop_some_suc (y ∷ ys) (suc k) x h = drop_some_suc ys k x h
-
-pub drop_some : {X : Type 0} (xs : List X) (k : ℕ) (x : X) → slice_get xs k ≡ Some x → drop k xs ≡ x ∷ drop (k + 1) xs
-drop_some xs k x h = rw (add-one k) (drop_some_suc xs k x h)
+use Rattle.list_laws.proofs.Lists.{drop_some}
 
 -- whether some element from k on passes
 any_rest_suc : {X : Type 0} (test : X → Bool) (xs : List X) (k : ℕ) → k < length xs → list_any test (drop k xs) ≡ (option_map_or test (slice_get xs k) false || list_any test (drop (suc k) xs))
@@ -63,49 +45,16 @@ mapped_more f xs k b done all h is so_far =
     ∙ ap (λ ys. done ++ ys) (ap (λ y. y ∷ map f (drop (k + 1) xs)) (sym (mapped_cons f (slice_get xs k) b is)) ∙ sym (map_rest f xs k b h))
     ∙ so_far
 
--- an element changed in place
-set_changed_at : {X : Type 0} (f : X → X) (xs : List X) (k : ℕ) (d : X) → k < length xs → set xs k (f (get_or xs k d)) ≡ changed_at k f xs
-set_changed_at f [] k d h = absurd (omega arith)
-set_changed_at f (x ∷ xs) zero d h = refl
-set_changed_at f (x ∷ xs) (suc k) d h = ap (λ ys. x ∷ ys) (set_changed_at f xs k d (omega arith))
-
-pub set_changed : {X : Type 0} (f : X → X) (xs : List X) (k : ℕ) (d z : X) → k < length xs → z ≡ f (get_or xs k d) → set xs k z ≡ changed_at k f xs
-set_changed f xs k d z h is = ap (λ y. set xs k y) is ∙ set_changed_at f xs k d h
-
 -- the same seen through a map
-map_set_suc : {X Y : Type 0} (g : X → Y) (f : Y → Y) (xs : List X) (k : ℕ) (d z : X) → k < length xs → g z ≡ f (g (get_or xs k d)) → map g (set xs k z) ≡ changed_at k f (map g xs)
-map_set_suc g f [] k d z h is = absurd (omega arith)
-map_set_suc g f (x ∷ xs) zero d z h is = ap (λ y. y ∷ map g xs) is
-map_set_suc g f (x ∷ xs) (suc k) d z h is = ap (λ ys. g x ∷ ys) (map_set_suc g f xs k d z (omega arith) is)
-
 pub map_set : {X Y : Type 0} (g : X → Y) (f : Y → Y) (xs : List X) (k : ℕ) (d z : X) → k < length xs → g z ≡ f (g (get_or xs k d)) → map g (set xs k z) ≡ changed_at k f (map g xs)
-map_set g f xs k d z h is = map_set_suc g f xs k d z h is
-
--- one more element is changed by a function of its number
-numbered_more_suc : {X : Type 0} (f : ℕ → X → X) (n i : ℕ) (xs : List X) (d : X) → i < length xs → set (numbered f n (take i xs) ++ drop i xs) i (f (n + i) (get_or (numbered f n (take i xs) ++ drop i xs) i d)) ≡ numbered f n (take (suc i) xs) ++ drop (suc i) xs
-numbered_more_suc f n zero [] d h = refl
-numbered_more_suc f n zero (y ∷ ys) d h = ap (λ k. f k y ∷ ys) (add-zero n)
-numbered_more_suc f n (suc i) [] d h = refl
-numbered_more_suc {X = X} f n (suc i) (y ∷ ys) d h =
-    let e : n + suc i ≡ (n + 1) + i = omega arith in
-    let now : List X = numbered f (n + 1) (take i ys) ++ drop i ys in
-    ap (λ zs. f n y ∷ zs) (ap (λ k. set now i (f k (get_or now i d))) e ∙ numbered_more_suc f (n + 1) i ys d (omega arith))
-
-pub numbered_more : {X : Type 0} (f : ℕ → X → X) (i : ℕ) (xs now : List X) (d z : X) → now ≡ numbered f 0 (take i xs) ++ drop i xs → i < length xs → z ≡ f i (get_or now i d) → set now i z ≡ numbered f 0 (take (i + 1) xs) ++ drop (i + 1) xs
-numbered_more f i xs now d z is h w =
-    rw (w, is, add-one i)
-    (ap (λ k. set (numbered f 0 (take i xs) ++ drop i xs) i (f k (get_or (numbered f 0 (take i xs) ++ drop i xs) i d))) (sym (zero-add i)) ∙ numbered_more_suc f 0 i xs d h)
+map_set g f [] k d z h is = absurd (omega arith)
+map_set g f (x ∷ xs) zero d z h is = ap (λ y. y ∷ map g xs) is
+map_set g f (x ∷ xs) (suc k) d z h is = ap (λ ys. g x ∷ ys) (map_set g f xs k d z (omega arith) is)
 
 -- changed by functions that agree
 pub numbered_same : {X Y : Type 0} (f g : ℕ → X → Y) (k : ℕ) (xs : List X) → ((i : ℕ) (x : X) → f i x ≡ g i x) → numbered f k xs ≡ numbered g k xs
 numbered_same f g k [] h = refl
 numbered_same f g k (x ∷ xs) h = ap (λ y. y ∷ numbered f (k + 1) xs) (h k x) ∙ ap (λ ys. g k x ∷ ys) (numbered_same f g (k + 1) xs h)
-
--- nothing is changed behind the list
-pub changed_past : {X : Type 0} (k : ℕ) (f : X → X) (xs : List X) → length xs ≤ k → changed_at k f xs ≡ xs
-changed_past k f [] h = refl
-changed_past zero f (x ∷ xs) h = absurd (omega arith)
-changed_past (suc k) f (x ∷ xs) h = ap (λ ys. x ∷ ys) (changed_past k f xs (omega arith))
 
 -- one more element is mapped, seen through another map
 seen_more_suc : {X Y : Type 0} (g : X → Y) (f : Y → Y) (i : ℕ) (xs now : List X) (d z : X) → map g now ≡ map f (map g (take i xs)) ++ map g (drop i xs) → i < length xs → g z ≡ f (g (get_or now i d)) → map g (set now i z) ≡ map f (map g (take (suc i) xs)) ++ map g (drop (suc i) xs)
@@ -135,15 +84,6 @@ pub drop_more : {X : Type 0} (xs : List X) (k : ℕ) (x : X) (done all : List X)
 drop_more xs k x done all there so_far =
     append_assoc done (x ∷ []) (drop (k + 1) xs) ∙ ap (λ ys. done ++ ys) (sym (drop_some xs k x there)) ∙ so_far
 
-pub or_else_assoc : {X : Type 0} (a b c : Option X) → or_else (or_else a b) c ≡ or_else a (or_else b c)
-or_else_assoc None b c = refl
-or_else_assoc (Some x) b c = refl
-
--- what is chosen of two lists, one behind the other
-pub first_append : {X Y : Type 0} (f : X → Option Y) (xs ys : List X) → first_some f (xs ++ ys) ≡ or_else (first_some f xs) (first_some f ys)
-first_append f [] ys = refl
-first_append f (x ∷ xs) ys = ap (or_else (f x)) (first_append f xs ys) ∙ sym (or_else_assoc (f x) (first_some f xs) (first_some f ys))
-
 -- one more element is changed by a function of its number, seen through a map
 seen_numbered_suc : {X Y : Type 0} (g : X → Y) (f : ℕ → Y → Y) (n i : ℕ) (xs now : List X) (d z : X) → map g now ≡ numbered f n (map g (take i xs)) ++ map g (drop i xs) → i < length xs → g z ≡ f (n + i) (g (get_or now i d)) → map g (set now i z) ≡ numbered f n (map g (take (suc i) xs)) ++ map g (drop (suc i) xs)
 seen_numbered_suc g f n i [] now d z is h w = absurd (omega arith)
@@ -161,8 +101,3 @@ seen_numbered_suc g f n (suc i) (x ∷ xs) (y ∷ ys) d z is h w =
 
 pub seen_numbered : {X Y : Type 0} (g : X → Y) (f : ℕ → Y → Y) (i : ℕ) (xs now : List X) (d z : X) → map g now ≡ numbered f 0 (map g (take i xs)) ++ map g (drop i xs) → i < length xs → g z ≡ f i (g (get_or now i d)) → map g (set now i z) ≡ numbered f 0 (map g (take (i + 1) xs)) ++ map g (drop (i + 1) xs)
 seen_numbered g f i xs now d z is h w = rw (add-one i) (seen_numbered_suc g f 0 i xs now d z is h (w ∙ ap (λ k. f k (g (get_or now i d))) (sym (zero-add i))))
-
--- what is chosen of lists, one list after the other
-pub first_flat : {X Y Z : Type 0} (f : Y → Option Z) (g : X → List Y) (xs : List X) → first_some f (flat_map g xs) ≡ first_some (λ x. first_some f (g x)) xs
-first_flat f g [] = refl
-first_flat f g (x ∷ xs) = first_append f (g x) (flat_map g xs) ∙ ap (or_else (first_some f (g x))) (first_flat f g xs)

@@ -4,8 +4,11 @@ use Rattle.std.specs.Prelude.{slice_get, Some, None, Option, unwrap_or, option_m
 use Rattle.std.specs.List.{list_any}
 use Rattle.std.specs.Option.{option_map_or}
 use Rattle.std.proofs.lemmas.Option.{slice_get-map}
+use Rattle.std.proofs.lemmas.List.{length-map}
+use Rattle.model_laws.proofs.Changes.{numbered_length}
 use Rattle.orc_ids.specs.declared.ids.InstId.{InstId}
 use Rattle.graph_walks.specs.Walks.{within}
+use Rattle.graph_walks.proofs.Paths.{within_zero}
 use Rattle.session_model.specs.Plain.{is_emitted, emitted_at, phase_deps}
 use Rattle.session_model.specs.Reach.{deps_at, is_ready, reaches_some}
 use Rattle.session_model.specs.declared.rows.InstRow.{InstRow}
@@ -43,10 +46,6 @@ within_suc : (k : ℕ) (next : ℕ → List ℕ) (test : ℕ → Bool) (i : ℕ)
 unfolding within
 within_suc k next test i = refl
 
-within_zero : (next : ℕ → List ℕ) (test : ℕ → Bool) (i : ℕ) → within 0 next test i ≡ test i
-unfolding within
-within_zero next test i = refl
-
 -- walks over functions that agree
 within_same : (k : ℕ) (next other : ℕ → List ℕ) (test : ℕ → Bool) → ((i : ℕ) → next i ≡ other i) → (i : ℕ) → within k next test i ≡ within k other test i
 within_same zero next other test h i = within_zero next test i ∙ sym (within_zero other test i)
@@ -79,10 +78,6 @@ next_within k edges test firsts marks new other is h w = record {
       ∙ sym (ap (λ n. within n (edges_at edges) test i) (add-one k) ∙ within_suc k (edges_at edges) test i);
 }
 
-pub length_map : {X Y : Type 0} (f : X → Y) (xs : List X) → length (map f xs) ≡ length xs
-length_map f [] = refl
-length_map f (x ∷ xs) = let more = length_map f xs in omega (arith, more)
-
 -- The walks over lists that were written down are those over the rows
 
 deps_are : (p : Phase) → numbers (dep_list p) ≡ phase_deps p
@@ -108,7 +103,7 @@ within_rows rows edges test firsts marks other is spread t =
     (subst (λ n. AreWithin n n (edges_at edges) test marks other) long (spread test (subst (λ n. AreTests n test firsts other) (sym long) t)))
   where
     long : length edges ≡ length rows
-    long = ap length is ∙ length_map (λ (r : InstRow). dep_list r.phase) rows
+    long = ap length is ∙ length-map rows (λ (r : InstRow). dep_list r.phase)
 
 -- the marks of what isn't emitted
 unemitted_at : (found : Option InstRow) → unwrap_or (option_map (λ (r : InstRow). not (is_emitted r.phase)) found) true ≡ not (option_map_or (λ (r : InstRow). is_emitted r.phase) found false)
@@ -117,7 +112,7 @@ unemitted_at (Some r) = refl
 
 pub unemitted_tests : (rows : List InstRow) (marks : List Bool) → marks ≡ map (λ (r : InstRow). not (is_emitted r.phase)) rows → AreTests (length rows) (λ j. not (emitted_at rows j)) marks true
 unemitted_tests rows marks is = record {
-  inside = ap length is ∙ length_map (λ (r : InstRow). not (is_emitted r.phase)) rows;
+  inside = ap length is ∙ length-map rows (λ (r : InstRow). not (is_emitted r.phase));
   each = λ i. ap (λ bs. mark_at bs true i) is ∙ ap (λ o. unwrap_or o true) (slice_get-map (λ (r : InstRow). not (is_emitted r.phase)) rows i) ∙ unemitted_at (slice_get rows i);
 }
 
@@ -148,7 +143,7 @@ test_at test (Some r) = refl
 -- the marks of the rows that pass a test
 pub row_tests : (rows : List InstRow) (test : InstRow → Bool) (marks : List Bool) → marks ≡ map test rows → AreTests (length rows) (λ i. option_map_or test (slice_get rows i) false) marks false
 row_tests rows test marks is = record {
-  inside = ap length is ∙ length_map test rows;
+  inside = ap length is ∙ length-map rows test;
   each = λ i. ap (λ bs. mark_at bs false i) is ∙ ap (λ o. unwrap_or o false) (slice_get-map test rows i) ∙ test_at test (slice_get rows i);
 }
 
@@ -159,10 +154,6 @@ numbered_at f n (x ∷ xs) (suc i) =
     let e : (n + 1) + i ≡ n + suc i = omega arith in
     numbered_at f (n + 1) xs i ∙ ap (λ k. option_map (f k) (slice_get xs i)) e
 
-length_numbered : {X Y : Type 0} (f : ℕ → X → Y) (n : ℕ) (xs : List X) → length (numbered f n xs) ≡ length xs
-length_numbered f n [] = refl
-length_numbered f n (x ∷ xs) = let more = length_numbered f (n + 1) xs in omega (arith, more)
-
 unready_at : (test : InstRow → Bool) (found : Option InstRow) (b c : Bool) → b ≡ c → unwrap_or (option_map (λ r. test r && b) found) false ≡ (option_map_or test found false && c)
 unready_at test None b c e = refl
 unready_at test (Some r) b c e = ap (λ x. test r && x) e
@@ -170,7 +161,7 @@ unready_at test (Some r) b c e = ap (λ x. test r && x) e
 -- the marks of the rows that pass a test and aren't ready
 pub unready_tests : (rows : List InstRow) (test : InstRow → Bool) (un marks : List Bool) → MarksUnready rows un → marks ≡ numbered (λ i r. test r && mark_at un true i) 0 rows → AreTests (length rows) (λ i. option_map_or test (slice_get rows i) false && not (is_ready rows i)) marks false
 unready_tests rows test un marks u is = record {
-  inside = ap length is ∙ length_numbered (λ i r. test r && mark_at un true i) 0 rows;
+  inside = ap length is ∙ numbered_length (λ i r. test r && mark_at un true i) 0 rows;
   each = λ i.
       ap (λ bs. mark_at bs false i) is
       ∙ ap (λ o. unwrap_or o false) (numbered_at (λ k r. test r && mark_at un true k) 0 rows i)

@@ -3,12 +3,12 @@ use Rattle.std.proofs.Common.{◌≡◌, ℕ, ◌+◌, ◌<◌, Bool, true, fals
 use Rattle.std.specs.Prelude.{slice_get, Option, Some, None, ◌&&◌, option_and_then, if◌then◌else◌}
 use Rattle.std.specs.Option.{option_map_or}
 use Rattle.std.proofs.lemmas.Option.{slice_get-get_or}
+use Rattle.list_laws.proofs.Lists.{drop_some}
 use Rattle.session_model.specs.Plain.{Plain}
 use Rattle.session_model.specs.Query.{is_met}
 use Rattle.session_model.specs.Change.{settled_one, settled_from, waits_for, finish_listed}
 use Rattle.session_model.specs.declared.rows.Query.{Query}
 use Rattle.session_plain.specs.Settling.{met_link, settle_link}
-use Rattle.session_plain.proofs.ListLemmas.{drop_some}
 
 one_more : (qs : List Query) (k : ℕ) (q : Query) (m now : Plain) → slice_get qs k ≡ Some q → now ≡ settled_one k q m → settled_from (k + 1) (drop (k + 1) qs) now ≡ settled_from k (drop k qs) m
 one_more qs k q m now there is =

@@ -1,12 +1,13 @@
 -- A list of calls leads to one journal.
-use Rattle.std.proofs.Common.{◌≡◌, ℕ, ◌≤◌, false, true, List, [], ◌∷◌, ◌++◌, Some, None, Ok, slice_get, subst, sym, ap, ap₂, refl, ◌∙◌, arith}
+use Rattle.std.proofs.Common.{◌≡◌, ℕ, ◌≤◌, true, List, [], ◌∷◌, ◌++◌, Some, None, Ok, slice_get, subst, sym, ap, ap₂, refl, ◌∙◌, arith}
+use Rattle.model_laws.proofs.Units.{call_one}
 use Rattle.orc_ids.specs.declared.ids.QueryId.{QueryId}
 use Rattle.orc_ids.specs.declared.ids.SeatNo.{SeatNo}
 use Rattle.orc_ids.specs.declared.ids.UnitId.{UnitId}
 use Rattle.orc_ids.specs.declared.place.Shape.{Shape}
 use Rattle.session_model.specs.Meaning.{Meaning}
-use Rattle.session_model.specs.Answer.{Answers, AnswersCall, AnswersCollect, AnswersEmit, AnswersPlace, AnswersTake, Called, Gone, HasCause, Right, Wrong, answer_link, called, can_emit, can_link, can_place, can_resolve}
-use Rattle.session_model.specs.Plain.{Plain, UnitRow, unit_shape}
+use Rattle.session_model.specs.Answer.{Answers, AnswersCollect, AnswersEmit, AnswersPlace, AnswersTake, HasCause, answer_link, called, can_emit, can_link, can_place, can_resolve}
+use Rattle.session_model.specs.Plain.{Plain, unit_shape}
 use Rattle.session_model.specs.State.{IsOpen, plain_entry, plain_event, plain_history, state}
 use Rattle.session_model.specs.declared.entry.Entry.{Entry}
 use Rattle.session_model.specs.declared.entry.Event.{Event}
@@ -14,12 +15,12 @@ use Rattle.session_model.specs.declared.entry.Event.TheVariants as event
 use Rattle.session_model.specs.declared.entry.Reply.{Reply}
 use Rattle.session_model.specs.declared.entry.Reply.TheVariants as reply
 use Rattle.session_model.specs.declared.rows.Ending.TheVariants.{Found, Lost}
-use Rattle.session_model.specs.declared.rows.Job.{Job}
 use Rattle.session_model.specs.declared.rows.Job.TheVariants as job
 use Rattle.session_model.specs.declared.rows.Query.{Query}
 use Rattle.session_laws.specs.Queries.{OpenHasNoEnd}
-use Rattle.session_laws.specs.Replies.{ReplyIsDetermined, is_placed}
+use Rattle.session_laws.specs.Replies.{ReplyIsDetermined}
 use Rattle.session_laws.proofs.Elements.{element_below}
+use Rattle.session_laws.proofs.Choosing.{collect_unplaced, take_unplaced}
 use Rattle.execution_session.specs.Handed.{IsLowest}
 use Rattle.execution_session.specs.Performs.{Collects, Enters, HasOpen, Takes, state_of}
 use Rattle.session_player.specs.Plays.{Does, Plays}
@@ -27,24 +28,7 @@ use Rattle.session_player.specs.declared.call.Call.{Call}
 use Rattle.session_player.specs.declared.call.Call.TheVariants as call
 use Rattle.session_player.specs.declared.call.SeatCall.{SeatCall}
 
--- Replies that aren't places
-
-unplaced_collect : (h : List (Entry Meaning)) (m : Plain) (q : ℕ) (r : Reply) → AnswersCollect h m q r → is_placed r ≡ false
-unplaced_collect h m q (reply.Placed base) x = absurd x
-unplaced_collect h m q _ x = refl
-
-unplaced_take : (h : List (Entry Meaning)) (m : Plain) (jobs : List Job) (r : Reply) → AnswersTake h m jobs r → is_placed r ≡ false
-unplaced_take h m [] r x = absurd x
-unplaced_take h m (job.Start u ∷ js) r x = ap is_placed x
-unplaced_take h m (job.Finish u ∷ js) (reply.Placed base) x = absurd x
-unplaced_take h m (job.Finish u ∷ js) _ x = refl
-
 -- Calls on a unit
-
-one_of_call : (c : Called) (u : UnitId) (Q : UnitRow → Reply → Type 0) (a b : Reply) → ((x : UnitRow) → Q x a → Q x b → a ≡ b) → AnswersCall c u (λ x. Q x a) a → AnswersCall c u (λ x. Q x b) b → a ≡ b
-one_of_call Gone u Q a b one x y = x ∙ sym y
-one_of_call Wrong u Q a b one x y = x ∙ sym y
-one_of_call (Right r) u Q a b one x y = one r x y
 
 -- the lowest base is one
 placed_once : (m : Plain) (shape : Shape) (base : ℕ) (b : Reply) → AnswersPlace m shape (reply.Placed base) → AnswersPlace m shape b → IsLowest m shape (reply.Placed base) → IsLowest m shape b → reply.Placed base ≡ b
@@ -104,7 +88,7 @@ module _ {U : Type 0} (means : U → Meaning) (jmax : ℕ) (determined : ReplyIs
   collected h g new end s q reply.Open b same x y = clash h g end s q b same x.1 y
   collected h g new end s q a reply.Open same x y = clash g h new s q a (sym same) y.1 x
   collected h g new end s q a b same x y = entered h g new end s (event.Collect q) (event.Collect q) a b same refl
-      (λ p r. determined jmax (plain_history means g) s.0 (event.Collect q) a b p r (unplaced_collect (plain_history means g) (state_of means g) q.0 a p) (unplaced_collect (plain_history means g) (state_of means g) q.0 b r)) x y
+      (λ p r. determined jmax (plain_history means g) s.0 (event.Collect q) a b p r (collect_unplaced (plain_history means g) (state_of means g) q.0 a p) (collect_unplaced (plain_history means g) (state_of means g) q.0 b r)) x y
 
   -- no job isn't taken
   idle : {P : Type 0} (h g end : List (Entry U)) (s : SeatNo) (b : Reply) → plain_history means h ≡ plain_history means g → (state_of means h).jobs ≡ [] → Enters means jmax g end (record { seat = s; event = event.Take; reply = b }) → P
@@ -115,10 +99,10 @@ module _ {U : Type 0} (means : U → Meaning) (jmax : ℕ) (determined : ReplyIs
   taken h g new end s (reply.Idle held) b same x y = idle h g end s b same x.1 y
   taken h g new end s a (reply.Idle held) same x y = idle g h new s a (sym same) y.1 x
   taken h g new end s a b same x y = entered h g new end s event.Take event.Take a b same refl
-      (λ p r. determined jmax (plain_history means g) s.0 event.Take a b p r (unplaced_take (plain_history means g) (state_of means g) (state_of means g).jobs a p) (unplaced_take (plain_history means g) (state_of means g) (state_of means g).jobs b r)) x y
+      (λ p r. determined jmax (plain_history means g) s.0 event.Take a b p r (take_unplaced (plain_history means g) (state_of means g) (state_of means g).jobs a p) (take_unplaced (plain_history means g) (state_of means g) (state_of means g).jobs b r)) x y
 
   placed : (h g : List (Entry U)) (s : SeatNo) (u : UnitId) (shape : Shape) (a b : Reply) → plain_history means h ≡ plain_history means g → IsLowest (state_of means h) shape a → IsLowest (state_of means g) shape b → RightAt g s (event.Place u shape) a → RightAt g s (event.Place u shape) b → a ≡ b
-  placed h g s u shape a b same low least x y = one_of_call (called (state_of means g) s.0 u can_place) u (λ r c. (unit_shape r ≡ Some shape) × AnswersPlace (state_of means g) shape c) a b
+  placed h g s u shape a b same low least x y = call_one (called (state_of means g) s.0 u can_place) u (λ r c. (unit_shape r ≡ Some shape) × AnswersPlace (state_of means g) shape c) a b
       (λ r k l. place_once (state_of means g) shape a b k.1 l.1 (subst (λ p. IsLowest (state p) shape a) same low) least) x y
 
   one_call : (h g new end : List (Entry U)) (s : SeatNo) (c : Call U) (a b : Reply) → plain_history means h ≡ plain_history means g → Does means jmax h new s c (Ok a) → Does means jmax g end s c (Ok b) → plain_history means new ≡ plain_history means end
@@ -132,17 +116,17 @@ module _ {U : Type 0} (means : U → Meaning) (jmax : ℕ) (determined : ReplyIs
   one_call h g new end s call.Take a b same x y = taken h g new end s a b same x y
   one_call h g new end s (call.Place u shape) a b same x y = entered h g new end s (event.Place u shape) (event.Place u shape) a b same refl (placed h g s u shape a b same x.1 y.1) x.0 y.0
   one_call h g new end s (call.Resolve u) a b same x y = entered h g new end s (event.Resolve u) (event.Resolve u) a b same refl
-      (λ p q. one_of_call (called (state_of means g) s.0 u can_resolve) u (λ r c. c ≡ reply.Resolved) a b (λ r k l. k ∙ sym l) p q) x y
+      (λ p q. call_one (called (state_of means g) s.0 u can_resolve) u (λ r c. c ≡ reply.Resolved) a b (λ r k l. k ∙ sym l) p q) x y
   one_call h g new end s (call.Emit u groups bytes) a b same x y = entered h g new end s (event.Emit u groups) (event.Emit u groups) a b same refl
-      (λ p q. one_of_call (called (state_of means g) s.0 u can_emit) u (λ r c. AnswersEmit (state_of means g) u.0 groups r c) a b (λ r k l. k.2 ∙ sym l.2) p q) x y
+      (λ p q. call_one (called (state_of means g) s.0 u can_emit) u (λ r c. AnswersEmit (state_of means g) u.0 groups r c) a b (λ r k l. k.2 ∙ sym l.2) p q) x y
   one_call h g new end s (call.Fail u cause) a b same x y = entered h g new end s (event.Fail u cause) (event.Fail u cause) a b same refl
-      (λ p q. one_of_call (called (state_of means g) s.0 u (λ r. true)) u (λ r c. HasCause jmax (plain_history means g) (state_of means g) u.0 r cause × (c ≡ reply.Failed)) a b (λ r k l. k.1 ∙ sym l.1) p q) x y
+      (λ p q. call_one (called (state_of means g) s.0 u (λ r. true)) u (λ r c. HasCause jmax (plain_history means g) (state_of means g) u.0 r cause × (c ≡ reply.Failed)) a b (λ r k l. k.1 ∙ sym l.1) p q) x y
   one_call h g new end s (call.Tracker d) a b same x y = entered h g new end s (event.Tracker d) (event.Tracker d) a b same refl (λ p q. p ∙ sym q) x y
   one_call h g new end s (call.MoveTracker t to) a b same x y = entered h g new end s (event.MoveTracker t to) (event.MoveTracker t to) a b same refl (λ p q. p ∙ sym q) x y
   one_call h g new end s (call.Remove t) a b same x y = entered h g new end s (event.Remove t) (event.Remove t) a b same refl (λ p q. p ∙ sym q) x y
   one_call h g new end s call.Image a b same x y = entered h g new end s event.Image event.Image a b same refl (λ p q. p ∙ sym q) x y
   one_call h g new end s (call.Link u) a b same x y = entered h g new end s (event.Link u) (event.Link u) a b same refl
-      (λ p q. one_of_call (called (state_of means g) s.0 u can_link) u (λ r c. c ≡ answer_link (state_of means g) u.0 r) a b (λ r k l. k ∙ sym l) p q) x y
+      (λ p q. call_one (called (state_of means g) s.0 u can_link) u (λ r c. c ≡ answer_link (state_of means g) u.0 r) a b (λ r k l. k ∙ sym l) p q) x y
 
   pub one_history : (calls : List (SeatCall U)) (old new other end : List (Entry U)) → Plays means jmax calls old new → Plays means jmax calls other end → plain_history means old ≡ plain_history means other → plain_history means new ≡ plain_history means end
   one_history [] old new other end p q same = stayed old other new end same p q

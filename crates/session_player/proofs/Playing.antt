@@ -1,8 +1,9 @@
 -- A list of calls, call by call.
-use Rattle.std.proofs.Common.{◌≡◌, ℕ, List, [], ◌∷◌, ◌++◌, take, length, slice_get, Some, Ok, Err, subst, sym, ap, refl, ◌∙◌}
+use Rattle.std.proofs.Common.{◌≡◌, ℕ, List, [], ◌∷◌, ◌++◌, length, slice_get, Some, Ok, Err, subst, sym, ap, refl, ◌∙◌}
 use Rattle.std.specs.Iterator.{Yields}
 use Rattle.std.specs.Vec.Iter.{into_iter_items, into_iter_steps}
 use Rattle.std.specs.declared.vec.IntoIter.{IntoIter}
+use Rattle.std.proofs.lemmas.List.{take_at}
 use Rattle.orc_ids.specs.declared.lookup.Stop.{Stop}
 use Rattle.session_model.specs.Meaning.{Meaning}
 use Rattle.session_model.specs.declared.entry.Entry.{Entry}
@@ -16,10 +17,6 @@ use Rattle.session_player.proofs.Growing.{does_stay}
 pub taken_front : {X A : Type 0} (s : IntoIter X A) (xs : List X) (t : IntoIter X A) → Yields into_iter_steps s xs t → into_iter_items s ≡ xs ++ into_iter_items t
 taken_front s [] t y = ap into_iter_items y
 taken_front s (x ∷ xs) t y = y.1.0 ∙ ap (λ ys. x ∷ ys) (taken_front y.0 xs t y.2)
-
-front : {X : Type 0} (xs ys : List X) → take (length xs) (xs ++ ys) ≡ xs
-front [] ys = refl
-front (x ∷ xs) ys = ap (λ zs. x ∷ zs) (front xs ys)
 
 after_front : {X : Type 0} (xs ys : List X) (y : X) → slice_get (xs ++ y ∷ ys) (length xs) ≡ Some y
 after_front [] ys y = refl
@@ -41,6 +38,6 @@ module _ {U : Type 0} (means : U → Meaning) (jmax : ℕ) where
       record {
         call = c;
         there = after_front xs ys c;
-        before = subst (λ cs. Plays means jmax cs old new) (sym (front xs (c ∷ ys))) (subst (Plays means jmax xs old) (sym stays) p);
+        before = subst (λ cs. Plays means jmax cs old new) (sym (take_at xs (c ∷ ys) (length xs) refl)) (subst (Plays means jmax xs old) (sym stays) p);
         stopped = subst (λ h. Does means jmax h new c.seat c.call (Err why)) (sym stays) d;
       }

@@ -1,9 +1,8 @@
 -- The last call of a lookup that isn't refused collects the query that its ask lodged.
-use Rattle.std.proofs.Common.{◌≡◌, ℕ, ◌+◌, true, false, List, [], ◌∷◌, ◌++◌, length, slice_get, inl, inr, refl, sym, subst, ap, ◌∙◌, arith, append_assoc, Some}
+use Rattle.std.proofs.Common.{◌≡◌, ℕ, ◌+◌, true, false, List, [], ◌∷◌, ◌++◌, slice_get, inl, inr, refl, sym, subst, ap, ◌∙◌, append_assoc, Some}
 use Rattle.std.proofs.lemmas.Bool.{both_ways}
-use Rattle.std.proofs.lemmas.List.{length-append}
+use Rattle.std.proofs.lemmas.List.{same_from_push}
 use Rattle.std.proofs.lemmas.List.Elements.{All-head, All-tail}
-use Rattle.std.proofs.lemmas.Option.{same_Some}
 use Rattle.orc_ids.specs.declared.ids.QueryId.{QueryId}
 use Rattle.session_model.specs.Calls.{EndsAsk, Lookup, Looks, Works, is_collected, lookup_event}
 use Rattle.session_model.specs.Calls.{Again, Asks, Collects, Job}
@@ -12,17 +11,10 @@ use Rattle.session_model.specs.declared.entry.Entry.{Entry}
 use Rattle.session_model.specs.declared.entry.Event.TheVariants as event
 use Rattle.session_model.specs.declared.entry.Reply.{Reply}
 use Rattle.session_model.specs.declared.entry.Reply.TheVariants as reply
-use Rattle.session_laws.proofs.Elements.{pushed_last}
 use Rattle.session_promises.specs.Lookups.{AreCallsOf}
 use Rattle.session_promises.proofs.Lodged.{Lodges}
 
 -- Last elements
-
-same_last : {X : Type 0} (xs ys : List X) (x y : X) → xs ++ x ∷ [] ≡ ys ++ y ∷ [] → x ≡ y
-same_last xs ys x y e = same_Some x y (sym (pushed_last xs x) ∙ (ap (λ l. slice_get l (length xs)) e ∙ (ap (slice_get (ys ++ y ∷ [])) long ∙ pushed_last ys y)))
-  where
-    long : length xs ≡ length ys
-    long = omega (arith, ap length e, length-append xs (x ∷ []), length-append ys (y ∷ []))
 
 abbrev Call : Type 0
 Call = ℕ × Entry Meaning
@@ -96,4 +88,4 @@ looks_end h l cs calls (Again n m e f g ds is offered uses looks) = last_later (
 
 pub last_collects : (h : List (Entry Meaning)) (l : Lookup) (before : List Call) (last : Call) → AreCallsOf h (before ++ last ∷ []) → Looks h l (before ++ last ∷ []) → is_collected last.1.reply ≡ true → CollectsLookup h l last
 last_collects h l before last calls looks got = let p = looks_end h l (before ++ last ∷ []) calls looks in
-    subst (MayCollect h l) (same_last p.front before p.call last (sym p.are)) p.is got
+    subst (MayCollect h l) (same_from_push p.front before p.call last (sym p.are)).1 p.is got

@@ -1,9 +1,10 @@
 -- The dylib of a tracker that is there, as the parts and as the session have it.
-use Rattle.std.proofs.Common.{◌≡◌, ℕ, zero, suc, ◌≤◌, Bool, true, false, not, List, [], ◌∷◌, length, slice_get, Option, Some, None, option_map, refl, ap, sym, ◌∙◌, arith}
+use Rattle.std.proofs.Common.{◌≡◌, ℕ, Bool, true, false, not, List, slice_get, Option, Some, None, option_map, refl, ap, sym, ◌∙◌, arith}
 use Rattle.std.specs.Prelude.{◌==◌, ◌&&◌, is_none, is_some, option_and_then}
 use Rattle.std.specs.Option.{option_map_or}
 use Rattle.std.proofs.lemmas.Bool.{and_parts}
 use Rattle.std.proofs.lemmas.Option.{none-some, same_Some}
+use Rattle.list_laws.proofs.Lists.{missing_past}
 use Rattle.orc_ids.specs.declared.ids.DylibId.{DylibId}
 use Rattle.orc_ids.specs.declared.ids.TrackId.{TrackId}
 use Rattle.session_model.specs.Lists.{only_if}
@@ -19,11 +20,6 @@ use Rattle.session_replies.specs.Reasons.{home_of, is_of}
 abbrev pub home : List Track → ℕ → Option DylibId
 home trackers t = option_and_then (λ (x : Track). only_if (not x.gone) (record { 0 = x.dylib })) (slice_get trackers t)
 
-behind : {X : Type 0} (xs : List X) (k : ℕ) → slice_get xs k ≡ None → length xs ≤ k
-behind [] k e = omega arith
-behind (x ∷ xs) zero e = absurd (none-some x (sym e))
-behind (x ∷ xs) (suc k) e = omega (arith, behind xs k e)
-
 pub home_is : (owners : Owners) (trackers : List Track) (units : List UnitRow) (generators : List GenRow) (t : TrackId) → AreOwners owners trackers units generators → home_of owners t ≡ home trackers t.0
 home_is owners trackers units generators t a = split (slice_get trackers t.0) refl
   where
@@ -34,7 +30,7 @@ home_is owners trackers units generators t a = split (slice_get trackers t.0) re
         ∙ ap (λ b. only_if (not b) (record { 0 = x.dylib })) (ap is_none (sym f) ∙ a.gone t.0 x e))
 
     split : (x : Option Track) → slice_get trackers t.0 ≡ x → home_of owners t ≡ home trackers t.0
-    split None e = ap (λ o. option_map (λ (o : Owned). o.dylib) (within o)) (none_past owners.tracks t.0 (omega (arith, behind trackers t.0 e, a.count)))
+    split None e = ap (λ o. option_map (λ (o : Owned). o.dylib) (within o)) (none_past owners.tracks t.0 (omega (arith, missing_past trackers t.0 e, a.count)))
         ∙ sym (ap (option_and_then (λ (x : Track). only_if (not x.gone) (record { 0 = x.dylib }))) e)
     split (Some x) e = owned x e (within (slice_get owners.tracks t.0)) refl
         ∙ sym (ap (option_and_then (λ (x : Track). only_if (not x.gone) (record { 0 = x.dylib }))) e)

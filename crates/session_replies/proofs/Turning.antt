@@ -2,8 +2,9 @@
 use Rattle.std.proofs.Common.{◌≡◌, ℕ, inl, inr, Bool, true, false, List, slice_get, Option, Some, None, option_map, refl, ap, sym, subst, ◌∙◌}
 use Rattle.std.specs.Prelude.{◌&&◌, IfSome, IfNone, if◌then◌else◌}
 use Rattle.std.specs.Option.{option_map_or}
-use Rattle.std.proofs.lemmas.Bool.{both_ways, and_parts}
+use Rattle.std.proofs.lemmas.Bool.{and_parts}
 use Rattle.std.proofs.lemmas.Option.{none-some, same_Some}
+use Rattle.model_laws.proofs.Phases.{defunct_stage}
 use Rattle.orc_ids.specs.declared.groups.Group.{Group}
 use Rattle.orc_ids.specs.declared.ids.UnitId.{UnitId}
 use Rattle.orc_ids.specs.declared.place.Shape.{Shape}
@@ -15,7 +16,6 @@ use Rattle.session_model.specs.declared.entry.Event.TheVariants as event
 use Rattle.session_model.specs.declared.entry.Reply.{Reply}
 use Rattle.session_model.specs.declared.entry.Reply.TheVariants as reply
 use Rattle.session_model.specs.declared.entry.Why.{Why}
-use Rattle.session_model.specs.declared.rows.UnitPhase.{UnitPhase}
 use Rattle.session_model.specs.declared.rows.UnitPhase.TheVariants as stage
 use Rattle.mat_unit.specs.declared.unit.Unit.{Unit as OneUnit}
 use Rattle.mat_unit.specs.Rows.{unit_row}
@@ -94,10 +94,6 @@ pub told_gone : (m : Plain) (s : ℕ) (u v : UnitId) (fit : UnitRow → Bool) �
 told_gone m s u v fit (inl t) = t.0
 told_gone m s u v fit (inr t) = absurd cc
 
-defunct : (p : UnitPhase) → is_defunct p ≡ true → p ≡ stage.Defunct
-defunct stage.Defunct e = refl
-defunct _ e = absurd (both_ways false refl e)
-
 pub gone_unit : (m : Plain) (s : ℕ) (u : UnitId) (fit : UnitRow → Bool) → called m s u fit ≡ Gone → (x : UnitRow) × (slice_get m.units u.0 ≡ Some x) × (x.phase ≡ stage.Defunct)
 gone_unit m s u fit e = split (slice_get m.units u.0) refl e
   where
@@ -108,7 +104,7 @@ gone_unit m s u fit e = split (slice_get m.units u.0) refl e
 
     split : (found : Option UnitRow) → slice_get m.units u.0 ≡ found → option_map_or (λ x. called_by (is_defunct x.phase) (is_held s x && fit x) x) found Wrong ≡ Gone → (x : UnitRow) × (slice_get m.units u.0 ≡ Some x) × (x.phase ≡ stage.Defunct)
     split None at f = absurd cc
-    split (Some x) at f = (x, at, defunct x.phase (tested (is_defunct x.phase) (is_held s x && fit x) x f))
+    split (Some x) at f = (x, at, defunct_stage x.phase (tested (is_defunct x.phase) (is_held s x && fit x) x f))
 
 -- a unit at which the call is right is there, held by the seat, and at the phase of the call
 pub right_unit : (m : Plain) (s : ℕ) (u : UnitId) (fit : UnitRow → Bool) (x : UnitRow) → called m s u fit ≡ Right x → (slice_get m.units u.0 ≡ Some x) × (is_held s x ≡ true) × (fit x ≡ true)

@@ -12,14 +12,10 @@ use Rattle.std.proofs.lemmas.Map.Views.{Contains-from_any, list_any-from_Contain
 use Rattle.orc_names.specs.Numbers.{IsNumberOf}
 use Rattle.session_script.specs.Texts.{has, number_of, mentioned}
 
--- equal texts have the same bytes
-same : (x y : List ℕ) → bytes_eq x y ≡ true → x ≡ y
-same x y h = same_text x y (sym h)
-
 -- the table once a text is mentioned, from what interning says
 pub mentioned_from : (old new : List (List ℕ)) (text : List ℕ) → (Contains old text → new ≡ old) → ((Contains old text → ⊥) → new ≡ old ++ text ∷ []) → new ≡ mentioned text old
 mentioned_from old new text known added = elim (cases_Bool (has text old)) [
-  | inl t ↦ rw t (known (Contains-from_any same text old t))
+  | inl t ↦ rw t (known (Contains-from_any (λ x y e. same_text x y (sym e)) text old t))
   | inr f ↦ rw f (added (λ held. cc (list_any-from_Contains nat_list_eq_equiv text old held, f)))
 ]
 
@@ -31,7 +27,7 @@ read_there names text n is = cc (slice_get-get_or names n text is.given, is.ther
 not_before : (names : List (List ℕ)) (text : List ℕ) (n k : ℕ) → IsNumberOf names text n → k < n → bytes_eq text (get_or names k text) ≡ true → ⊥
 not_before names text n k is below equal =
     let within : k < length names = omega (arith, is.given) in
-    let there : slice_get names k ≡ Some text = slice_get-get_or names k text within ∙ ap Some (sym (same text (get_or names k text) equal)) in
+    let there : slice_get names k ≡ Some text = slice_get-get_or names k text within ∙ ap Some (sym (same_text text (get_or names k text) (sym equal))) in
     let one : k ≡ n = is.only k there in
     omega arith
 

@@ -1,12 +1,14 @@
 -- A graph's unit keeps the laws of units.
-use Rattle.std.proofs.Common.{◌≡◌, ◌≢◌, ℕ, zero, suc, ◌+◌, ◌*◌, ◌^◌, ◌<◌, max, Bool, List, [], ◌∷◌, ◌++◌, length, map, get_or, Option, Some, None, refl, sym, ap, subst, ◌∙◌, inl, inr, arith}
-use Rattle.std.specs.Prelude.{slice_get, unwrap_or, filter_map, flat_map, count_by, fold, IsTrue, IsSome, Contains, IsPermutation}
+use Rattle.std.proofs.Common.{◌≡◌, ◌≢◌, ℕ, zero, suc, ◌+◌, ◌*◌, ◌^◌, ◌<◌, max, Bool, List, [], ◌∷◌, ◌++◌, length, map, get_or, Some, None, refl, sym, ap, subst, ◌∙◌, inl, inr, arith}
+use Rattle.std.specs.Prelude.{slice_get, filter_map, flat_map, count_by, fold, IsTrue, IsSome, Contains, IsPermutation}
 use Rattle.std.specs.List.{All, AllPairs, filter}
-use Rattle.std.proofs.lemmas.Bool.{cases_lt, cases_order, cond_both, false≢true}
+use Rattle.std.proofs.lemmas.Bool.{cases_lt, cases_order, cond_both}
 use Rattle.std.proofs.lemmas.List.{length-map}
 use Rattle.std.proofs.lemmas.List.Elements.{All-head, All-tail, All-filter, filter_passes}
 use Rattle.std.proofs.lemmas.List.Sums.{length-filter}
 use Rattle.std.proofs.lemmas.Option.{same_Some}
+use Rattle.link_laws.proofs.Writes.{listed_length}
+use Rattle.list_laws.proofs.Options.{same_option}
 use Rattle.orc_ids.specs.declared.flags.SymFlags.{SymFlags}
 use Rattle.orc_ids.specs.declared.groups.Group.{Group}
 use Rattle.orc_ids.specs.declared.ids.InstId.{InstId}
@@ -15,7 +17,7 @@ use Rattle.orc_ids.specs.declared.ids.UnitName.{UnitName}
 use Rattle.session_model.specs.Meaning.{Bindings, IsLawful, bound_instances}
 use Rattle.link_model.specs.Graph.{is_offered}
 use Rattle.block_groups.specs.Groups.{groups_of, live_places}
-use Rattle.link_model.specs.Image.{listed, image_bytes}
+use Rattle.link_model.specs.Image.{image_bytes}
 use Rattle.link_model.specs.Layout.{layout_of, unit_align, unit_need, aligned, stubs_start, stub_symbols, STUB_SIZE}
 use Rattle.link_model.specs.Offers.{name_of, no_symbol, offered_symbols, offers_of}
 use Rattle.link_model.specs.Sound.{IsAlignment, IsSized, OffersDiffer, Sound}
@@ -49,11 +51,6 @@ apart (x ∷ xs) h =
     (λ k d lt. All-filter is_offered (λ (t : GSym). IsTrue (is_offered t) → x.name ≢ t.name) xs (λ i e within. h 0 (suc i) e (omega arith) (omega arith) offered) k d lt (filter_passes is_offered xs k d lt))
     (apart xs rest))
     (λ other. apart xs rest)
-
-same_option : (o p : Option NameId) (z : NameId) → IsSome o → IsSome p → unwrap_or o z ≡ unwrap_or p z → o ≡ p
-same_option None p z some other e = absurd (false≢true some)
-same_option (Some a) None z some other e = absurd (false≢true other)
-same_option (Some a) (Some b) z some other e = ap Some e
 
 at_map : {X Y : Type 0} (f : X → Y) (xs : List X) (k : ℕ) (d : X) (y : Y) → slice_get (map f xs) k ≡ Some y → (k < length xs) × (y ≡ f (get_or xs k d))
 at_map f [] k d y h = absurd cc
@@ -114,16 +111,12 @@ power_align g sized = greatest g.blocks 16 (4, refl) sized.aligns
 positive_need : (x : ℕ) → 0 < max 16 x
 positive_need x = omega arith
 
-length-listed : (at n : ℕ) (bytes : ℕ → ℕ) → length (listed at n bytes) ≡ n
-length-listed at zero bytes = refl
-length-listed at (suc n) bytes = ap suc (length-listed (at + 1) n bytes)
-
 pub lawful : (name : UnitName) (g : LinkGraph) → Sound g → IsSized g → OffersDiffer g → IsLawful (graph_meaning name g)
 lawful name g sound sized offers = record {
   differ = offers_differ g offers no_symbol;
   members = λ live base bound own fits. each_once g live own (instances bound) sound (fits.instances ∙ sym (live_is g live fits.flags));
   deps = λ live base bound own fits. subst (λ (xs : List InstId). All (Contains xs) (flat_map (λ (x : Group). x.deps) (groups_of g live own (instances bound)))) (bound_are bound) (on_found g live own (instances bound));
   shape = λ live. (positive_need (aligned (stubs_start g live + STUB_SIZE * length (stub_symbols g live)) 16), power_align g sized);
-  image = λ live base bound. length-listed 0 (unit_need g live) (image_bytes g (layout_of g live) base (addresses bound));
+  image = λ live base bound. listed_length 0 (unit_need g live) (image_bytes g (layout_of g live) base (addresses bound));
   alias = tt;
 }

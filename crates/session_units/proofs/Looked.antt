@@ -5,15 +5,17 @@ use Rattle.std.specs.List.{filter}
 use Rattle.std.proofs.lemmas.Bool.{ltb-true, ltb-false}
 use Rattle.std.proofs.lemmas.List.{length-map}
 use Rattle.std.proofs.lemmas.List.Elements.{All-filter}
+use Rattle.list_laws.proofs.Lists.{mapped_below}
+use Rattle.link_laws.proofs.Symbols.{place_at}
+use Rattle.link_laws.proofs.Layouts.{length-offsets}
 use Rattle.orc_ids.specs.declared.flags.SymFlags.{SymFlags}
 use Rattle.orc_ids.specs.declared.ids.NameId.{NameId}
 use Rattle.unit_fixups.proofs.Inside.{at_or-get}
 use Rattle.link_model.specs.Graph.{is_offered}
 use Rattle.link_model.specs.Image.{at_or, own_address}
 use Rattle.link_model.specs.Offers.{offered_symbols, offers_of, wanted_of, no_symbol, name_of, is_weak_reference}
-use Rattle.link_model.specs.Layout.{aligned, block_offsets, layout_of}
+use Rattle.link_model.specs.Layout.{block_offsets, layout_of}
 use Rattle.link_model.specs.Sound.{Sound, PlaceFits, IsSized}
-use Rattle.link_model.specs.declared.graph.Block.{Block}
 use Rattle.link_model.specs.declared.graph.GPlace.{GPlace}
 use Rattle.link_model.specs.declared.graph.GPlace.TheVariants.{In, Abs}
 use Rattle.link_model.specs.declared.graph.GSym.{GSym}
@@ -43,16 +45,6 @@ mapped_at f [] k d e lt = absurd (omega arith)
 mapped_at f (x ∷ xs) zero d e lt = refl
 mapped_at f (x ∷ xs) (suc k) d e lt = mapped_at f xs k d e (omega arith)
 
-mapped_get : {X Y : Type 0} (f : X → Y) (xs : List X) (k : ℕ) (d : X) → k < length xs → slice_get (map f xs) k ≡ Some (f (get_or xs k d))
-mapped_get f [] k d lt = absurd (omega arith)
-mapped_get f (x ∷ xs) zero d lt = refl
-mapped_get f (x ∷ xs) (suc k) d lt = mapped_get f xs k d (omega arith)
-
-place_get : (ss : List GSym) (k : ℕ) (d : GSym) → k < length ss → at_or (Abs 0) (map (λ (s : GSym). s.place) ss) k ≡ (get_or ss k d).place
-place_get [] k d lt = absurd (omega arith)
-place_get (s ∷ ss) zero d lt = refl
-place_get (s ∷ ss) (suc k) d lt = place_get ss k d (omega arith)
-
 pub record Found (g : LinkGraph) (k : ℕ) (o : Offer) : Type 0 where
   pub offer : slice_get (offers_of g) k ≡ Some (o.name, o.flags)
   pub place : at_or (Abs 0) (map (λ (s : GSym). s.place) (offered_symbols g)) k ≡ o.place
@@ -66,8 +58,8 @@ found g offers k o sound are lt is =
     let s : GSym = get_or ss k no_symbol in
     let same : o ≡ offer_of s = is ∙ ap (λ (xs : List Offer). get_or xs k o) are ∙ mapped_at offer_of ss k no_symbol o lt' in
     record {
-      offer = mapped_get (λ (x : GSym). (name_of x, x.flags)) ss k no_symbol lt' ∙ ap (λ (x : Offer). Some (x.name, x.flags)) (sym same);
-      place = place_get ss k no_symbol lt' ∙ ap (λ (x : Offer). x.place) (sym same);
+      offer = mapped_below (λ (x : GSym). (name_of x, x.flags)) ss k no_symbol lt' ∙ ap (λ (x : Offer). Some (x.name, x.flags)) (sym same);
+      place = place_at ss k no_symbol lt' ∙ ap (λ (x : Offer). x.place) (sym same);
       fits = subst (λ (x : Offer). PlaceFits g x.place) (sym same) (All-filter is_offered (λ (x : GSym). PlaceFits g x.place) g.symbols sound.symbols k no_symbol lt');
     }
 
@@ -98,10 +90,6 @@ pub wanted_is : (s s' : GSym) (name : NameId) (weak : Bool) → s' ≡ s → nam
 wanted_is s s' name weak e n w = rw (n, w) (ap wanted_of (sym e))
 
 -- ---- addresses
-
-pub length-offsets : (at : ℕ) (bs : List Block) → length (block_offsets at bs) ≡ length bs
-length-offsets at [] = refl
-length-offsets at (b ∷ bs) = ap suc (length-offsets (aligned at b.align + b.size) bs)
 
 mod_twice : (x y : ℕ) → (x % 2 ^ 64 + y) % 2 ^ 64 ≡ (x + y) % 2 ^ 64
 mod_twice x y = omega arith

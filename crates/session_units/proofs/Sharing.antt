@@ -2,9 +2,9 @@
 use Rattle.std.proofs.Common.{◌≡◌, ◌≢◌, ℕ, zero, suc, ◌+◌, ◌<◌, ◌≤◌, ◌==◌, cond, Bool, true, false, ◌&&◌, not, List, [], ◌∷◌, ◌++◌, length, map, get_or, Option, Some, None, refl, sym, ap, subst, ◌∙◌, ◌⊎◌, inl, inr, arith}
 use Rattle.std.specs.Prelude.{zip, flat_map, filter_map, option_map, Contains, IsPermutation, ⊤}
 use Rattle.std.specs.List.{All, filter, cons_option, range_with_len}
-use Rattle.std.proofs.lemmas.Bool.{eqb-true, ne_eqb, eq-eqb, false≢true}
+use Rattle.std.proofs.lemmas.Bool.{eqb-true, ne_eqb, eq-eqb, false≢true, and_parts}
 use Rattle.std.proofs.lemmas.Grind.{flat_map-append}
-use Rattle.std.proofs.lemmas.List.{append-nil}
+use Rattle.std.proofs.lemmas.List.{append-nil, map-append}
 use Rattle.std.proofs.lemmas.List.Elements.{All-nil, All-cons, All-head, All-tail, All-append, All-filter, filter_passes}
 use Rattle.std.proofs.lemmas.List.Sorted.{IsPermutation-refl, IsPermutation-sym, IsPermutation-trans, IsPermutation-map, IsPermutation-append_right, IsPermutation-filter_both}
 use Rattle.orc_ids.specs.declared.ids.InstId.{InstId}
@@ -32,10 +32,6 @@ kept test ps = filter (λ (p : Pair). test p.0) ps
 
 abbrev picked : (GPlace → Bool) → List Pair → List InstId
 picked test ps = map second (kept test ps)
-
-map_append : {X Y : Type 0} (f : X → Y) (xs ys : List X) → map f (xs ++ ys) ≡ map f xs ++ map f ys
-map_append f [] ys = refl
-map_append {X} {Y} f (x ∷ xs) ys = ap (λ (zs : List Y). f x ∷ zs) (map_append f xs ys)
 
 -- ---- each instance once
 
@@ -107,7 +103,7 @@ all_sorted a (suc n) ps all =
     ap (λ (is : List InstId). is ++ picked is_absolute ps) (same_picks (a + 1) n a ps others (omega arith) (λ b lt. apart (is_in b) (λ p h. not_both a b p lt h)))
     ∙ ap (λ (is : List InstId). flat_map (λ b. picked (is_in b) others) (range_with_len (a + 1) n) ++ is) (apart is_absolute (λ p h. not_absolute a p h)) in
     let split : IsPermutation (map second ps) (first ++ map second others) =
-    subst (IsPermutation (map second ps)) (map_append second (kept (is_in a) ps) others)
+    subst (IsPermutation (map second ps)) (map-append second (kept (is_in a) ps) others)
     (IsPermutation-map second ps (kept (is_in a) ps ++ others) (IsPermutation-filter_both (λ (p : Pair). is_in a p.0) (λ (p : Pair). not (is_in a p.0)) (λ p. refl) ps)) in
     let front : sorted a (suc n) ps ≡ first ++ sorted (a + 1) n others =
     append_assoc first (flat_map (λ b. picked (is_in b) ps) (range_with_len (a + 1) n)) (picked is_absolute ps) ∙ ap (λ (is : List InstId). first ++ is) rest in
@@ -146,10 +142,6 @@ place_lies g (In block offset) d fits = (omega arith, omega (arith, fits.0))
 place_lies g (Abs address) d fits = tt
 place_lies g (External weak) d fits = absurd (false≢true d)
 
-both_true : (a b : Bool) → (a && b) ≡ true → (a ≡ true) × (b ≡ true)
-both_true true b h = (refl, h)
-both_true false b h = absurd (false≢true h)
-
 places_lie : (g : LinkGraph) (ss : List GSym) (bs : List Bool) → All (λ (s : GSym). PlaceFits g s.place) ss → All (λ (p : GPlace). Lies 0 (length g.blocks) p) (map (λ (p : GSym × Bool). p.0.place) (filter offered_live (zip ss bs)))
 places_lie g [] bs all = All-nil (λ (p : GPlace). Lies 0 (length g.blocks) p)
 places_lie g (s ∷ ss) [] all = All-nil (λ (p : GPlace). Lies 0 (length g.blocks) p)
@@ -157,8 +149,8 @@ places_lie g (s ∷ ss) (b ∷ bs) all = cases (places_lie g ss bs (All-tail (λ
   where
     cases : All (λ (p : GPlace). Lies 0 (length g.blocks) p) (map (λ (p : GSym × Bool). p.0.place) (filter offered_live (zip ss bs))) → (t : Bool) → (is_offered s && b) ≡ t → All (λ (p : GPlace). Lies 0 (length g.blocks) p) (map (λ (p : GSym × Bool). p.0.place) (cond (is_offered s && b) ((s, b) ∷ filter offered_live (zip ss bs)) (filter offered_live (zip ss bs))))
     cases rest true e =
-        let offered = (both_true (is_offered s) b e).0 in
-        rw e (All-cons (λ (p : GPlace). Lies 0 (length g.blocks) p) s.place (map (λ (p : GSym × Bool). p.0.place) (filter offered_live (zip ss bs))) (place_lies g s.place (both_true s.global (is_defined s.place) offered).1 (All-head (λ (x : GSym). PlaceFits g x.place) s ss all)) rest)
+        let offered = (and_parts (is_offered s) b e).0 in
+        rw e (All-cons (λ (p : GPlace). Lies 0 (length g.blocks) p) s.place (map (λ (p : GSym × Bool). p.0.place) (filter offered_live (zip ss bs))) (place_lies g s.place (and_parts s.global (is_defined s.place) offered).1 (All-head (λ (x : GSym). PlaceFits g x.place) s ss all)) rest)
     cases rest false e = rw e rest
 
 pub each_once : (g : LinkGraph) (live : List Bool) (own : List InstId) (bound : List (Option InstId)) → Sound g → length own ≡ length (live_places g live) → IsPermutation (flat_map (λ (x : Group). x.members) (groups_of g live own bound)) own

@@ -1,5 +1,5 @@
 -- The names that the units of files offer and look up are names of their table.
-use Rattle.std.proofs.Common.{◌≡◌, ℕ, zero, suc, ◌+◌, ◌<◌, Bool, true, false, cond, List, [], ◌∷◌, length, map, filter, Option, Some, None, unwrap_or, refl, sym, ap, ◌∙◌, subst, Ok, Err, arith, inl, inr}
+use Rattle.std.proofs.Common.{◌≡◌, ℕ, zero, suc, ◌+◌, ◌<◌, Bool, true, false, cond, List, [], ◌∷◌, length, filter, Option, Some, None, unwrap_or, refl, sym, ap, ◌∙◌, subst, Ok, Err, arith, inl, inr}
 use Rattle.std.specs.Prelude.{option_map, slice_get}
 use Rattle.std.specs.List.{All, position_from}
 use Rattle.std.specs.Option.{option_map_or}
@@ -7,6 +7,7 @@ use Rattle.std.specs.Str.{bytes_eq}
 use Rattle.std.proofs.lemmas.Bool.{cases_Bool}
 use Rattle.std.proofs.lemmas.List.Elements.{All-cons, All-filter, All-head, All-map, All-nil, All-tail}
 use Rattle.std.proofs.lemmas.Option.{none-some, same_Some, slice_get-get_or, slice_get_within}
+use Rattle.list_laws.proofs.Each.{all_mapped}
 use Rattle.orc_ids.specs.declared.flags.SymFlags.{SymFlags}
 use Rattle.orc_ids.specs.declared.ids.NameId.{NameId}
 use Rattle.orc_ids.specs.declared.ids.UnitName.{UnitName}
@@ -65,9 +66,6 @@ one_or : {X : Type 0} (P : X → Type 0) (other : X) (xs : List X) (k : ℕ) →
 one_or P other [] k o a = o
 one_or P other (x ∷ xs) zero o a = All-head P x xs a
 one_or P other (x ∷ xs) (suc k) o a = one_or P other xs k o (All-tail P x xs a)
-
-all_mapped : {X Y : Type 0} (P : Y → Type 0) (f : X → Y) → ((x : X) → P (f x)) → (xs : List X) → All P (map f xs)
-all_mapped P f h xs = All-map P f xs (λ k d l. h _)
 
 graph_known : (names : List (List ℕ)) (name : UnitName) (g : LinkGraph) → 0 < length names → All (IsNamed names) g.symbols → HasKnownNames names (graph_meaning name g)
 graph_known names name g some named = record {

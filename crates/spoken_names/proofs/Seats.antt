@@ -1,9 +1,11 @@
 -- What each seat says is what the history says.
-use Rattle.std.proofs.Common.{◌≡◌, ℕ, zero, suc, ◌+◌, ◌<◌, List, [], ◌∷◌, ◌++◌, map, take, All, ◌⊎◌, inl, inr, refl, sym, subst, arith}
+use Rattle.std.proofs.Common.{◌≡◌, ℕ, ◌+◌, ◌<◌, List, [], ◌∷◌, ◌++◌, map, All, ◌⊎◌, inl, inr, refl, sym, subst, arith}
 use Rattle.std.specs.Bool.{⊤}
 use Rattle.std.specs.List.{AllByRecursion}
 use Rattle.std.proofs.lemmas.Bool.{cases_eq}
 use Rattle.std.proofs.lemmas.List.Elements.{All-from_recursion, recursion_from_All}
+use Rattle.list_laws.proofs.Each.{each_weaker}
+pub use Rattle.list_laws.proofs.Each.{each_taken}
 use Rattle.session_model.specs.Calls.{numbered_calls}
 use Rattle.session_model.specs.History.{LegalFrom}
 use Rattle.session_model.specs.Meaning.{Meaning}
@@ -74,15 +76,6 @@ spoken_known names jmax h legal speaks = names_are_known jmax h legal names (All
     both (e ∷ es) a b = ((a.0, λ t. b.0), both es a.1 b.1)
 
 -- The set-up
-
-pub each_taken : {X : Type 0} (P : X → Type 0) (n : ℕ) (xs : List X) → AllByRecursion P xs → AllByRecursion P (take n xs)
-each_taken P zero xs a = tt
-each_taken P (suc n) [] a = tt
-each_taken P (suc n) (x ∷ xs) a = (a.0, each_taken P n xs a.1)
-
-each_weaker : {X : Type 0} (P Q : X → Type 0) → ((x : X) → P x → Q x) → (xs : List X) → AllByRecursion P xs → AllByRecursion Q xs
-each_weaker P Q f [] a = tt
-each_weaker P Q f (x ∷ xs) a = (f x a.0, each_weaker P Q f xs a.1)
 
 -- an event hands in known names, and says known names
 abbrev pub IsNamed : List (List ℕ) → Event Meaning → Type 0

@@ -1,6 +1,6 @@
 -- The names that the calls of a job and of a lookup say: each was handed in, or an earlier reply of the same calls said it.
-use Rattle.std.proofs.Common.{◌≡◌, ℕ, ℤ, Bool, true, false, List, [], ◌∷◌, ◌++◌, take, All, inl, inr, refl, sym, subst, append_assoc, Option, Some, None}
-use Rattle.std.specs.Bool.{⊤, MatchBool}
+use Rattle.std.proofs.Common.{◌≡◌, ℕ, ℤ, true, false, List, [], ◌∷◌, ◌++◌, take, All, inl, inr, refl, sym, subst, append_assoc, Option, Some, None}
+use Rattle.std.specs.Bool.{⊤}
 use Rattle.std.specs.List.{AllByRecursion}
 use Rattle.std.proofs.lemmas.Bool.{both_ways}
 use Rattle.orc_ids.specs.declared.ids.QueryId.{QueryId}
@@ -25,6 +25,7 @@ use Rattle.journal_text.specs.Parts.{IsGiven}
 use Rattle.journal_text.specs.Replies.{KnownReply}
 use Rattle.journal_names.specs.Laws.{HandsInKnown}
 use Rattle.run_laws.specs.Runs.{AreJobs, NoJob, OneMore as AnotherJob}
+use Rattle.run_laws.proofs.Costs.{either_way}
 use Rattle.spoken_names.specs.Speaking.{Says, Speaks, entries}
 
 -- Lists
@@ -128,10 +129,6 @@ ends_finish_speaks names P u None (e ∷ es) p = (emit_says names P u e.event p.
 emits_speak : (names : List (List ℕ)) (P : Type 0) (u : UnitId) (refusal : Option (Place × ℕ × ℤ)) (es : List (Entry Meaning)) → Emits u refusal es → Speaks names P es
 emits_speak names P u refusal es (inl c) = cut_speaks names P u es c
 emits_speak names P u refusal es (inr f) = ends_finish_speaks names P u refusal es f
-
-either_way : {G : Type 0} (b : Bool) (P Q : Type 0) → (P → G) → (Q → G) → MatchBool b P Q → G
-either_way true P Q f g m = f m
-either_way false P Q f g m = g m
 
 after_start_speaks : (names : List (List ℕ)) (P : Type 0) (m : Plain) (u : UnitId) (es : List (Entry Meaning)) → AfterStart m u es → Speaks names P es
 after_start_speaks names P m u es f = either_way (unit_test is_alias m u) (Links u es) _

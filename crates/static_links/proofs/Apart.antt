@@ -1,9 +1,9 @@
 -- The parts of a layout lie apart: its blocks in order, then its cells, then its stubs, all inside what the unit needs.
 use Rattle.std.proofs.Common.{◌≡◌, ◌≢◌, ℕ, zero, suc, ◌+◌, ◌-◌, ◌*◌, ◌<◌, ◌≤◌, ◌⊎◌, inl, inr, max, Bool, List, [], ◌∷◌, length, map, All, Contains, sym, ap, ◌∙◌, arith}
-use Rattle.std.proofs.Math.Nat.{mod-lt, mul-suc}
-use Rattle.std.proofs.lemmas.Nat.{div-add-mod'}
+use Rattle.std.proofs.Math.Nat.{mul-suc}
 use Rattle.std.proofs.lemmas.Bool.{cases_order}
-use Rattle.std.proofs.lemmas.List.Elements.{All-head, All-tail, All-nil, All-cons, All-contains}
+use Rattle.std.proofs.lemmas.List.Elements.{All-nil, All-cons, All-contains}
+use Rattle.link_laws.proofs.Layouts.{Aligned, aligned-le, are_aligned, block_ends, first_aligned, rest_aligned}
 use Rattle.link_model.specs.Image.{at_or}
 use Rattle.link_model.specs.Layout.{aligned, block_offsets, blocks_end, in_turn, cell_symbols, stub_symbols, cells_start, stubs_start, unit_need, layout_of, CELL_SIZE, STUB_SIZE}
 use Rattle.link_model.specs.Sound.{sizes, Sound}
@@ -16,37 +16,10 @@ Apart a m b n = (a + m ≤ b) ⊎ (b + n ≤ a)
 
 -- ---- blocks
 
--- an aligned place is no less
-aligned-le : (at align : ℕ) → 0 < align → at ≤ aligned at align
-aligned-le at align h =
-    let whole = div-add-mod' (at + (align - 1)) align in
-    let below = mod-lt (at + (align - 1)) h in
-    omega (arith, whole, below)
-
-Aligned : List Block → Type 0
-Aligned bs = All (λ (b : Block). 0 < b.align) bs
-
-first_aligned : (at : ℕ) (b : Block) (bs : List Block) → Aligned (b ∷ bs) → at ≤ aligned at b.align
-unfolding Aligned
-first_aligned at b bs h = aligned-le at b.align (All-head (λ (x : Block). 0 < x.align) b bs h)
-
-rest_aligned : (b : Block) (bs : List Block) → Aligned (b ∷ bs) → Aligned bs
-unfolding Aligned
-rest_aligned b bs h = All-tail (λ (x : Block). 0 < x.align) b bs h
-
-blocks_end-le : (at : ℕ) (bs : List Block) → Aligned bs → at ≤ blocks_end at bs
-blocks_end-le at [] h = omega arith
-blocks_end-le at (b ∷ bs) h = omega (arith, first_aligned at b bs h, blocks_end-le (aligned at b.align + b.size) bs (rest_aligned b bs h))
-
 block_from : (at : ℕ) (bs : List Block) (k : ℕ) → Aligned bs → k < length bs → at ≤ at_or 0 (block_offsets at bs) k
 block_from at [] k h lt = absurd (omega arith)
 block_from at (b ∷ bs) zero h lt = first_aligned at b bs h
 block_from at (b ∷ bs) (suc k) h lt = omega (arith, first_aligned at b bs h, block_from (aligned at b.align + b.size) bs k (rest_aligned b bs h) (omega arith))
-
-block_ends : (at : ℕ) (bs : List Block) (k : ℕ) → Aligned bs → k < length bs → at_or 0 (block_offsets at bs) k + at_or 0 (map (λ (b : Block). b.size) bs) k ≤ blocks_end at bs
-block_ends at [] k h lt = absurd (omega arith)
-block_ends at (b ∷ bs) zero h lt = blocks_end-le (aligned at b.align + b.size) bs (rest_aligned b bs h)
-block_ends at (b ∷ bs) (suc k) h lt = block_ends (aligned at b.align + b.size) bs k (rest_aligned b bs h) (omega arith)
 
 blocks_in_order : (at : ℕ) (bs : List Block) (j k : ℕ) → Aligned bs → j < k → k < length bs → at_or 0 (block_offsets at bs) j + at_or 0 (map (λ (b : Block). b.size) bs) j ≤ at_or 0 (block_offsets at bs) k
 blocks_in_order at [] j k h lt in' = absurd (omega arith)
@@ -109,17 +82,16 @@ need_after g live = least (stubs_start g live + STUB_SIZE * length (stub_symbols
     least x z p = omega arith
 
 pub lies_apart : (g : LinkGraph) (live : List Bool) → Sound g → LiesApart g live
-unfolding Aligned
 lies_apart g live sound = record {
   blocks = λ j k a b differ. elim (cases_order j k) [
     | inl same ↦ absurd (differ same)
-    | inr (inl lt) ↦ inl (blocks_in_order 0 g.blocks j k sound.aligns lt b)
-    | inr (inr lt) ↦ inr (blocks_in_order 0 g.blocks k j sound.aligns lt a)
+    | inr (inl lt) ↦ inl (blocks_in_order 0 g.blocks j k (are_aligned g.blocks sound.aligns) lt b)
+    | inr (inr lt) ↦ inr (blocks_in_order 0 g.blocks k j (are_aligned g.blocks sound.aligns) lt a)
   ];
   cells = turn_apart CELL_SIZE (cells_start g) (cell_symbols g live);
   stubs = turn_apart STUB_SIZE (stubs_start g live) (stub_symbols g live);
   block_ends = λ k lt.
-      let end = block_ends 0 g.blocks k sound.aligns lt in
+      let end = block_ends 0 g.blocks k (are_aligned g.blocks sound.aligns) lt in
       let start = aligned-le (blocks_end 0 g.blocks) 8 (omega arith) in
       omega (arith, end, start);
   cell_lies = λ p here.

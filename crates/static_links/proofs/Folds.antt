@@ -1,6 +1,6 @@
 -- Folds of writes. A write changes only the bytes at its place, by what stood there, so two folds agree on an area where
 -- the one has, besides the writes of the other, only writes that lie off the area.
-use Rattle.std.proofs.Common.{◌≡◌, ℕ, zero, suc, ◌+◌, ◌-◌, ◌*◌, ◌^◌, ◌<◌, ◌≤◌, Bool, true, false, ◌&&◌, cond, nat_le, nat_lt, ℤ, List, [], ◌∷◌, ◌++◌, map, filter, All, Option, Some, None, refl, ap, ap₂, subst, ◌∙◌, arith}
+use Rattle.std.proofs.Common.{◌≡◌, ℕ, zero, suc, ◌+◌, ◌-◌, ◌*◌, ◌^◌, ◌<◌, ◌≤◌, Bool, true, false, ◌&&◌, cond, nat_le, nat_lt, ℤ, List, [], ◌∷◌, map, filter, All, Option, Some, None, refl, ap, ap₂, subst, ◌∙◌, arith}
 use Rattle.std.specs.Option.{option_map_or}
 use Rattle.std.proofs.lemmas.Bool.{cond_both, and_parts, leb-true, ltb-true}
 use Rattle.std.proofs.lemmas.List.Elements.{All-head, All-tail}
@@ -97,7 +97,3 @@ kept_agree {X} area write write' keep (x ∷ xs) f h all same =
     kept_agree area write write' keep xs (written (write x) f) (written (write' x) h) rest
     (subst (λ (w : Write). Agree area (written (write x) f) (written w h)) (first.same yes) (written_in area (write x) f h (first.inside yes) same)))
     (λ no. kept_agree area write write' keep xs (written (write x) f) h rest (written_off area (write x) f h (first.off no) same))
-
-pub written_append : (ws vs : List Write) (f : ℕ → ℕ) → all_written (ws ++ vs) f ≡ all_written vs (all_written ws f)
-written_append [] vs f = refl
-written_append (w ∷ ws) vs f = written_append ws vs (written w f)

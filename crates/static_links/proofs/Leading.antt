@@ -3,12 +3,13 @@ use Rattle.std.proofs.Common.{◌≡◌, ℕ, zero, suc, Bool, true, false, List
 use Rattle.std.specs.Prelude.{flat_map, slice_get}
 use Rattle.std.proofs.lemmas.List.Elements.{All-weaker, All-contains_itself, Contains-append_left, Contains-append_right, Contains-append_cases}
 use Rattle.std.proofs.lemmas.Option.{slice_get_within}
+use Rattle.list_laws.proofs.Each.{contains_here}
 use Rattle.link_model.specs.Image.{is_paired, place_of}
 use Rattle.link_model.specs.declared.graph.Edge.{Edge}
 use Rattle.link_model.specs.declared.graph.GPlace.{GPlace}
 use Rattle.link_model.specs.declared.graph.GPlace.TheVariants.{In, Abs, External}
 use Rattle.static_links.specs.Links.{Member, Spots, Leads, Refers, Pairs, IsNeeded}
-use Rattle.static_links.proofs.Lists.{contains_first, flat_mapped, contains_flat, numbers, number_there}
+use Rattle.static_links.proofs.Lists.{flat_mapped, contains_flat, numbers, number_there}
 use Rattle.static_links.proofs.Reached.{Name, is_reached, way_of_reached, reached_of_way}
 
 step_to : Name → Option Name → List (Name × Name)
@@ -83,7 +84,7 @@ step_leads members spots s here =
 
 step_there : (from to : Name) (o : Option Name) → o ≡ Some to → Contains (step_to from o) (from, to)
 unfolding step_to
-step_there from to o e = subst (λ (x : Option Name). Contains (step_to from x) (from, to)) (sym e) (contains_first (from, to) [])
+step_there from to o e = subst (λ (x : Option Name). Contains (step_to from x) (from, to)) (sym e) (contains_here (from, to) [])
 
 label_there : (k : ℕ) (paired : Bool) (place : GPlace) (to : Name) (offset : ℕ) → paired ≡ true → place ≡ In to.1 offset → to.0 ≡ k → label_block k paired place ≡ Some to
 unfolding label_block

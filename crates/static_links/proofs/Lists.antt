@@ -6,19 +6,14 @@ use Rattle.std.proofs.lemmas.Bool.{cases_eq, cond_both, or_cases}
 use Rattle.std.proofs.lemmas.List.Elements.{All-contains, All-filter, All-contains_itself, filter_passes, Contains-append_left, Contains-append_right, Contains-append_cases}
 use Rattle.std.proofs.lemmas.List.Folds.{Any-from_list_any, list_any-from_Any}
 use Rattle.std.proofs.lemmas.Option.{same_Some}
-
-pub contains_first : {X : Type 0} (x : X) (xs : List X) → Contains (x ∷ xs) x
-contains_first x xs = (0, omega arith, refl)
-
-pub contains_later : {X : Type 0} (x y : X) (xs : List X) → Contains xs y → Contains (x ∷ xs) y
-contains_later x y xs here = (suc here.0, omega (arith, here.1), here.2)
+use Rattle.list_laws.proofs.Each.{contains_later, contains_here}
 
 -- what is found is there, and passes
 pub found : {X : Type 0} (p : X → Bool) (xs : List X) (x : X) → find p xs ≡ Some x → Contains xs x × (p x ≡ true)
 found p [] x e = absurd cc
 found {X} p (y ∷ ys) x e =
     cond_both (p y) (Some y) (find p ys) (λ (o : Option X). o ≡ Some x → Contains (y ∷ ys) x × (p x ≡ true))
-    (λ passes s. subst (λ (z : X). Contains (y ∷ ys) z × (p z ≡ true)) (same_Some y x s) (contains_first y ys, passes))
+    (λ passes s. subst (λ (z : X). Contains (y ∷ ys) z × (p z ≡ true)) (same_Some y x s) (contains_here y ys, passes))
     (λ fails s. let later = found p ys x s in (contains_later y x ys later.0, later.1)) e
 
 -- where some element passes, one is found
@@ -48,7 +43,7 @@ filtered p xs x here =
 pub flat_mapped : {X Y : Type 0} (f : X → List Y) (xs : List X) (y : Y) → Contains (flat_map f xs) y → (x : X) × Contains xs x × Contains (f x) y
 flat_mapped f [] y here = absurd (omega (arith, here.1))
 flat_mapped f (x ∷ xs) y here = elim (Contains-append_cases (f x) (flat_map f xs) y here) [
-  | inl first ↦ (x, contains_first x xs, first)
+  | inl first ↦ (x, contains_here x xs, first)
   | inr later ↦ let rest = flat_mapped f xs y later in (rest.0, contains_later x rest.0 xs rest.1, rest.2)
 ]
 
@@ -67,7 +62,7 @@ pub number_there : (n k : ℕ) → k < n → Contains (numbers n) k
 unfolding numbers
 number_there zero k lt = absurd (omega arith)
 number_there (suc n) k lt = elim (cases_eq k n) [
-  | inl same ↦ subst (λ (x : ℕ). Contains (n ∷ numbers n) x) (sym same) (contains_first n (numbers n))
+  | inl same ↦ subst (λ (x : ℕ). Contains (n ∷ numbers n) x) (sym same) (contains_here n (numbers n))
   | inr other ↦ contains_later n k (numbers n) (number_there n k (omega (arith, lt, other)))
 ]
 

@@ -1,11 +1,14 @@
 -- The trees know who has each generator, through all that is done to the trackers.
-use Rattle.std.proofs.Common.{◌≡◌, ℕ, zero, suc, ◌+◌, ◌<◌, ◌≤◌, ◌⊎◌, inl, inr, Bool, true, false, List, [], ◌∷◌, ◌++◌, length, set, slice_get, Option, Some, None, refl, ap, sym, subst, ◌∙◌, arith}
+use Rattle.std.proofs.Common.{◌≡◌, ℕ, zero, suc, ◌+◌, ◌<◌, ◌⊎◌, inl, inr, Bool, true, false, List, [], ◌∷◌, ◌++◌, length, set, slice_get, Option, Some, None, refl, ap, sym, subst, ◌∙◌, arith}
 use Rattle.std.specs.Bool.{if◌then◌else◌}
 use Rattle.std.specs.Option.{option_map_or}
 use Rattle.std.specs.Prelude.{option_map, option_and_then, is_some, map, unwrap_or, nat_lt, ◌==◌, ◌||◌}
 use Rattle.std.specs.List.{list_any}
 use Rattle.std.proofs.lemmas.Bool.{both_ways, cases_eq, cases_Bool, eqb-true, eq-eqb, ne_eqb, ltb-true, ltb-false}
-use Rattle.std.proofs.lemmas.Option.{none-some, same_Some}
+use Rattle.std.proofs.lemmas.Option.{none-some, same_Some, slice_get_within}
+use Rattle.std.proofs.lemmas.List.{length_push}
+use Rattle.list_laws.proofs.Lists.{pushed_last, front_some, set_elsewhere, pushed_cases, missing_past}
+use Rattle.list_laws.proofs.Options.{same_element}
 use Rattle.orc_ids.specs.declared.ids.DylibId.{DylibId}
 use Rattle.orc_ids.specs.declared.ids.GenId.{GenId}
 use Rattle.orc_ids.specs.declared.ids.TrackId.{TrackId}
@@ -15,7 +18,7 @@ use Rattle.tracker.specs.declared.holders.TheConstants.{HEIGHT}
 use Rattle.tracker.specs.declared.owned.Owned.{Owned}
 use Rattle.tracker.specs.Holders.{put, hanging, hung_under, joined_nodes, has_generator, IsJoined, AreTrees, HasRoot, AreHeld, IsHomed, IsLonger, is_homed, holder_of, climbed}
 use Rattle.tracker.specs.Owners.{Owners, within, change_at, and_all_of, empty, owns_generator}
-use Rattle.tracker.proofs.Trees.{same_element, front_some, pushed_last, pushed_cases, pushed_length, set_there, set_elsewhere, set_length, put_is, hung_is, mapped_at, mapped_length, below_length, holder_is}
+use Rattle.tracker.proofs.Trees.{set_there, set_length, put_is, hung_is, holder_is}
 
 -- Trackers of which one changes
 
@@ -97,13 +100,13 @@ pub held_tracker : (os : List (Option Owned)) (d : DylibId) (nodes : List Node) 
 held_tracker os d nodes roots homes h = record {
   labels = h.labels ++ length os ∷ [];
   trees = record {
-    count = pushed_length h.labels (length os) ∙ (ap (λ n. n + 1) h.trees.count ∙ sym (pushed_length nodes new));
-    rooted = pushed_length roots (length os) ∙ (ap (λ n. n + 1) h.trees.rooted ∙ sym (pushed_length nodes new));
+    count = length_push h.labels (length os) ∙ (ap (λ n. n + 1) h.trees.count ∙ sym (length_push nodes new));
+    rooted = length_push roots (length os) ∙ (ap (λ n. n + 1) h.trees.rooted ∙ sym (length_push nodes new));
     up = λ n p x e u. up n p x u (pushed_cases nodes new n x e);
     top = λ n x e u. top n x u (pushed_cases nodes new n x e);
     low = λ n x e. low n x (pushed_cases nodes new n x e);
   };
-  made = pushed_length nodes new ∙ (ap (λ n. n + 1) h.made ∙ sym (pushed_length os (Some (empty d))));
+  made = length_push nodes new ∙ (ap (λ n. n + 1) h.made ∙ sym (length_push os (Some (empty d))));
   rooted = λ t o e. rooted t o e (within_cases t o e);
   homed = λ t g o e has. homed t g o has (within_cases t o e);
 }
@@ -128,31 +131,26 @@ held_tracker os d nodes roots homes h = record {
       where
         same_front : (o : Option ℕ) → slice_get h.labels n ≡ o → Labels n p
         same_front (Some t) is = labelled n t is ∙ sym (labelled p t (sym same ∙ is))
-        same_front None is = absurd (omega (arith, below_length nodes n x e, none_past h.labels n is, h.trees.count))
-          where
-            none_past : (xs : List ℕ) (k : ℕ) → slice_get xs k ≡ None → length xs ≤ k
-            none_past [] k f = omega arith
-            none_past (x ∷ xs) zero f = absurd (none-some x (sym f))
-            none_past (x ∷ xs) (suc k) f = omega (arith, none_past xs k f)
+        same_front None is = absurd (omega (arith, slice_get_within nodes n x e, missing_past h.labels n is, h.trees.count))
 
-    up : (n p : ℕ) (x : Node) → x.up ≡ Some p → (slice_get nodes n ≡ Some x) ⊎ ((n ≡ length nodes) × (new ≡ x)) → (y : Node) × (slice_get (nodes ++ new ∷ []) p ≡ Some y) × (x.rank < y.rank) × Labels n p
+    up : (n p : ℕ) (x : Node) → x.up ≡ Some p → (slice_get nodes n ≡ Some x) ⊎ ((n ≡ length nodes) × (x ≡ new)) → (y : Node) × (slice_get (nodes ++ new ∷ []) p ≡ Some y) × (x.rank < y.rank) × Labels n p
     up n p x u (inl e) = let q = h.trees.up n p x e u in (q.0, front_some nodes (new ∷ []) p q.0 q.1, q.2, carried n p x e q.0 q.1 q.3)
-    up n p x u (inr e) = absurd (none-some p (ap (λ (z : Node). z.up) e.1 ∙ u))
+    up n p x u (inr e) = absurd (none-some p (ap (λ (z : Node). z.up) (sym e.1) ∙ u))
 
-    top : (n : ℕ) (x : Node) → x.up ≡ None → (slice_get nodes n ≡ Some x) ⊎ ((n ≡ length nodes) × (new ≡ x)) → (slice_get (h.labels ++ length os ∷ []) n ≡ Some x.tracker) × (slice_get (roots ++ length os ∷ []) x.tracker ≡ Some n)
+    top : (n : ℕ) (x : Node) → x.up ≡ None → (slice_get nodes n ≡ Some x) ⊎ ((n ≡ length nodes) × (x ≡ new)) → (slice_get (h.labels ++ length os ∷ []) n ≡ Some x.tracker) × (slice_get (roots ++ length os ∷ []) x.tracker ≡ Some n)
     top n x u (inl e) = let q = h.trees.top n x e u in (labelled n x.tracker q.0, front_some roots (length os ∷ []) x.tracker n q.1)
-    top n x u (inr e) = (last n e.0 ∙ ap (λ (z : Node). Some z.tracker) e.1, ap (slice_get (roots ++ length os ∷ [])) (sym (ap (λ (z : Node). z.tracker) e.1)) ∙ last_root n e.0)
+    top n x u (inr e) = (last n e.0 ∙ sym (ap (λ (z : Node). Some z.tracker) e.1), ap (slice_get (roots ++ length os ∷ [])) (ap (λ (z : Node). z.tracker) e.1) ∙ last_root n e.0)
 
-    low : (n : ℕ) (x : Node) → (slice_get nodes n ≡ Some x) ⊎ ((n ≡ length nodes) × (new ≡ x)) → x.rank < HEIGHT
+    low : (n : ℕ) (x : Node) → (slice_get nodes n ≡ Some x) ⊎ ((n ≡ length nodes) × (x ≡ new)) → x.rank < HEIGHT
     low n x (inl e) = h.trees.low n x e
-    low n x (inr e) = subst (λ (z : Node). z.rank < HEIGHT) e.1 (omega arith)
+    low n x (inr e) = subst (λ (z : Node). z.rank < HEIGHT) (sym e.1) (omega arith)
 
     within_cases : (t : ℕ) (o : Owned) → within (slice_get (os ++ Some (empty d) ∷ []) t) ≡ Some o → (within (slice_get os t) ≡ Some o) ⊎ ((t ≡ length os) × (empty d ≡ o))
     within_cases t o e = by (slice_get (os ++ Some (empty d) ∷ []) t) refl e
       where
-        at : (q : Option Owned) → q ≡ Some o → (slice_get os t ≡ Some q) ⊎ ((t ≡ length os) × (Some (empty d) ≡ q)) → (within (slice_get os t) ≡ Some o) ⊎ ((t ≡ length os) × (empty d ≡ o))
+        at : (q : Option Owned) → q ≡ Some o → (slice_get os t ≡ Some q) ⊎ ((t ≡ length os) × (q ≡ Some (empty d))) → (within (slice_get os t) ≡ Some o) ⊎ ((t ≡ length os) × (empty d ≡ o))
         at q f (inl p) = inl (ap within p ∙ f)
-        at q f (inr p) = inr (p.0, same_Some (empty d) o (p.1 ∙ f))
+        at q f (inr p) = inr (p.0, same_Some (empty d) o (sym p.1 ∙ f))
 
         by : (z : Option (Option Owned)) → slice_get (os ++ Some (empty d) ∷ []) t ≡ z → within z ≡ Some o → (within (slice_get os t) ≡ Some o) ⊎ ((t ≡ length os) × (empty d ≡ o))
         by None is f = absurd (none-some o f)

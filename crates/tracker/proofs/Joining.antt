@@ -4,7 +4,10 @@ use Rattle.std.specs.Bool.{if◌then◌else◌}
 use Rattle.std.specs.Prelude.{option_map, map, nat_lt, ◌==◌, ◌||◌, IsSome, IfSome}
 use Rattle.std.specs.List.{list_any}
 use Rattle.std.proofs.lemmas.Bool.{both_ways, cases_eq, eqb-true, eq-eqb, ltb-true, ltb-false}
-use Rattle.std.proofs.lemmas.Option.{none-some, same_Some}
+use Rattle.std.proofs.lemmas.Option.{none-some, same_Some, slice_get-map}
+use Rattle.std.proofs.lemmas.List.{length-map}
+use Rattle.list_laws.proofs.Lists.{set_elsewhere}
+use Rattle.list_laws.proofs.Options.{same_element}
 use Rattle.orc_ids.specs.declared.ids.GenId.{GenId}
 use Rattle.tracker.specs.declared.holders.Hanging.{Hanging}
 use Rattle.tracker.specs.declared.holders.Node.{Node}
@@ -13,7 +16,7 @@ use Rattle.tracker.specs.declared.owned.Owned.{Owned}
 use Rattle.tracker.specs.Holders.{put, hanging, hung_under, joined_nodes, has_generator, IsJoined, AreTrees, HasRoot, AreHeld}
 use Rattle.tracker.specs.Owners.{within, change_at, and_all_of}
 use Rattle.tracker.proofs.Holding.{changed_there, changed_elsewhere, changed_length, gone_there}
-use Rattle.tracker.proofs.Trees.{same_element, set_there, set_elsewhere, set_length, put_is, hung_is, mapped_at, mapped_length}
+use Rattle.tracker.proofs.Trees.{set_there, set_length, put_is, hung_is}
 
 -- one of two numbers
 abbrev IsOf : ℕ → ℕ → ℕ → Type 0
@@ -161,7 +164,7 @@ relabel_other from to t apart = by (t == from) refl
 
 joined_trees : (nodes : List Node) (roots labels : List ℕ) (from to : ℕ) (new : List Node) (tops : List ℕ) → AreTrees nodes roots labels → IsHung nodes roots from to new tops → AreTrees new tops (map (relabel from to) labels)
 joined_trees nodes roots labels from to new tops t h = record {
-  count = mapped_length (relabel from to) labels ∙ (t.count ∙ sym h.count);
+  count = length-map labels (relabel from to) ∙ (t.count ∙ sym h.count);
   rooted = h.rooted ∙ (t.rooted ∙ sym h.count);
   up = λ n p w e u. up n p w e u (cases_eq n h.below) (cases_eq n h.above);
   top = λ n w e u. top n w e u (cases_eq n h.below) (cases_eq n h.above);
@@ -172,10 +175,10 @@ joined_trees nodes roots labels from to new tops t h = record {
     f = relabel from to
 
     label : (n k : ℕ) → slice_get labels n ≡ Some k → slice_get (map f labels) n ≡ Some (f k)
-    label n k e = mapped_at f labels n ∙ ap (option_map f) e
+    label n k e = slice_get-map f labels n ∙ ap (option_map f) e
 
     same : (n p : ℕ) → slice_get labels n ≡ slice_get labels p → slice_get (map f labels) n ≡ slice_get (map f labels) p
-    same n p e = mapped_at f labels n ∙ (ap (option_map f) e ∙ sym (mapped_at f labels p))
+    same n p e = slice_get-map f labels n ∙ (ap (option_map f) e ∙ sym (slice_get-map f labels p))
 
     below_label : slice_get (map f labels) h.below ≡ Some to
     below_label = label h.below h.x.tracker (t.top h.below h.x h.x_is h.x_top).0 ∙ ap Some (relabel_of from to h.x.tracker h.x_of)
@@ -263,7 +266,7 @@ held_joined os from to more into nodes new roots tops homes differ from_is to_is
         no_of (inr s) = a s
 
     labelled : (t g k : ℕ) (o : Owned) → within (slice_get os k) ≡ Some o → has_generator o g ≡ true → f k ≡ t → (n : ℕ) × (slice_get homes g ≡ Some (Some n)) × (slice_get (map f held.labels) n ≡ Some t)
-    labelled t g k o e has to_t = let q = held.homed k g o e has in (q.0, q.1, mapped_at f held.labels q.0 ∙ (ap (option_map f) q.2 ∙ ap Some to_t))
+    labelled t g k o e has to_t = let q = held.homed k g o e has in (q.0, q.1, slice_get-map f held.labels q.0 ∙ (ap (option_map f) q.2 ∙ ap Some to_t))
 
     one_of : (gs hs : List GenId) (g : ℕ) → list_any (λ (i : GenId). i.0 == g) (gs ++ hs) ≡ true → (list_any (λ (i : GenId). i.0 == g) gs ≡ true) ⊎ (list_any (λ (i : GenId). i.0 == g) hs ≡ true)
     one_of [] hs g e = inr e

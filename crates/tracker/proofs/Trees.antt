@@ -1,50 +1,19 @@
 -- Lists of which one place changes, and steps up a tree.
 use Rattle.std.proofs.Common.{◌≡◌, ℕ, zero, suc, ◌+◌, ◌<◌, ◌≤◌, ◌⊎◌, inl, inr, List, [], ◌∷◌, ◌++◌, length, set, slice_get, Option, Some, None, refl, ap, sym, subst, ◌∙◌, arith}
-use Rattle.std.specs.Prelude.{option_map, map, unwrap_or}
+use Rattle.std.specs.Prelude.{option_map, unwrap_or}
 use Rattle.std.specs.Option.{option_map_or}
 use Rattle.std.proofs.lemmas.Bool.{cases_eq}
-use Rattle.std.proofs.lemmas.Option.{none-some, same_Some}
+use Rattle.std.proofs.lemmas.Option.{none-some, slice_get_within}
+use Rattle.list_laws.proofs.Lists.{front_some, missing_past}
+use Rattle.list_laws.proofs.Options.{same_element}
 use Rattle.tracker.specs.declared.holders.Node.{Node}
 use Rattle.tracker.specs.declared.holders.TheConstants.{HEIGHT}
 use Rattle.tracker.specs.Holders.{put, up_of, climbed, hung_under, AreTrees, IsLonger}
-
-pub same_element : {X : Type 0} (o : Option X) (x y : X) → o ≡ Some x → o ≡ Some y → x ≡ y
-same_element o x y a b = same_Some x y (sym a ∙ b)
-
-pub front_some : {X : Type 0} (xs ys : List X) (k : ℕ) (x : X) → slice_get xs k ≡ Some x → slice_get (xs ++ ys) k ≡ Some x
-front_some [] ys k x e = absurd (none-some x e)
-front_some (y ∷ xs) ys zero x e = e
-front_some (y ∷ xs) ys (suc k) x e = front_some xs ys k x e
-
-pub pushed_last : {X : Type 0} (xs : List X) (x : X) → slice_get (xs ++ x ∷ []) (length xs) ≡ Some x
-pushed_last [] x = refl
-pushed_last (y ∷ xs) x = pushed_last xs x
-
-pub pushed_cases : {X : Type 0} (xs : List X) (x : X) (k : ℕ) (y : X) → slice_get (xs ++ x ∷ []) k ≡ Some y → (slice_get xs k ≡ Some y) ⊎ ((k ≡ length xs) × (x ≡ y))
-pushed_cases [] x zero y e = inr (refl, same_Some x y e)
-pushed_cases [] x (suc k) y e = absurd (none-some y e)
-pushed_cases (z ∷ xs) x zero y e = inl e
-pushed_cases (z ∷ xs) x (suc k) y e = split (pushed_cases xs x k y e)
-  where
-    split : (slice_get xs k ≡ Some y) ⊎ ((k ≡ length xs) × (x ≡ y)) → (slice_get xs k ≡ Some y) ⊎ ((suc k ≡ suc (length xs)) × (x ≡ y))
-    split (inl p) = inl p
-    split (inr p) = inr (ap suc p.0, p.1)
-
-pub pushed_length : {X : Type 0} (xs : List X) (x : X) → length (xs ++ x ∷ []) ≡ length xs + 1
-pushed_length [] x = refl
-pushed_length (y ∷ xs) x = omega (arith, pushed_length xs x)
 
 pub set_there : {X : Type 0} (xs : List X) (n : ℕ) (v w : X) → slice_get xs n ≡ Some w → slice_get (set xs n v) n ≡ Some v
 set_there [] n v w e = absurd (none-some w e)
 set_there (x ∷ xs) zero v w e = refl
 set_there (x ∷ xs) (suc n) v w e = set_there xs n v w e
-
-pub set_elsewhere : {X : Type 0} (xs : List X) (n k : ℕ) (v : X) → (k ≡ n → ⊥) → slice_get (set xs n v) k ≡ slice_get xs k
-set_elsewhere [] n k v apart = refl
-set_elsewhere (x ∷ xs) zero zero v apart = absurd (apart refl)
-set_elsewhere (x ∷ xs) zero (suc k) v apart = refl
-set_elsewhere (x ∷ xs) (suc n) zero v apart = refl
-set_elsewhere (x ∷ xs) (suc n) (suc k) v apart = set_elsewhere xs n k v (λ e. apart (ap suc e))
 
 pub set_length : {X : Type 0} (xs : List X) (n : ℕ) (v : X) → length (set xs n v) ≡ length xs
 set_length [] n v = refl
@@ -56,20 +25,6 @@ put_is {X} xs n v w e = ap (λ o. option_map_or (λ (x : X). set xs n v) o xs) e
 
 pub hung_is : (nodes : List Node) (n above : ℕ) (x : Node) → slice_get nodes n ≡ Some x → hung_under n above nodes ≡ set nodes n (record x { up = Some above })
 hung_is nodes n above x e = ap (λ o. option_map_or (λ (z : Node). set nodes n (record z { up = Some above })) o nodes) e
-
-pub mapped_at : {X Y : Type 0} (f : X → Y) (xs : List X) (k : ℕ) → slice_get (map f xs) k ≡ option_map f (slice_get xs k)
-mapped_at f [] k = refl
-mapped_at f (x ∷ xs) zero = refl
-mapped_at f (x ∷ xs) (suc k) = mapped_at f xs k
-
-pub mapped_length : {X Y : Type 0} (f : X → Y) (xs : List X) → length (map f xs) ≡ length xs
-mapped_length f [] = refl
-mapped_length f (x ∷ xs) = ap suc (mapped_length f xs)
-
-pub below_length : {X : Type 0} (xs : List X) (k : ℕ) (x : X) → slice_get xs k ≡ Some x → k < length xs
-below_length [] k x e = absurd (none-some x e)
-below_length (y ∷ xs) zero x e = omega arith
-below_length (y ∷ xs) (suc k) x e = omega (arith, below_length xs k x e)
 
 -- one more without a home
 pub longer_push : (xs : List (Option ℕ)) → IsLonger xs (xs ++ None ∷ [])
@@ -142,13 +97,8 @@ holder_is nodes roots labels n t trees label = split (slice_get nodes (climbed H
     top x e (inr le) = absurd (omega (arith, le, trees.low (climbed HEIGHT nodes n) x e))
 
     split : (o : Option Node) → slice_get nodes (climbed HEIGHT nodes n) ≡ o → option_map (λ (x : Node). x.tracker) o ≡ Some t
-    split None e = absurd (past (climbed HEIGHT nodes n) e (below_length labels (climbed HEIGHT nodes n) t here))
+    split None e = absurd (past (climbed HEIGHT nodes n) e (slice_get_within labels (climbed HEIGHT nodes n) t here))
       where
-        none_past : (xs : List Node) (k : ℕ) → slice_get xs k ≡ None → length xs ≤ k
-        none_past [] k f = omega arith
-        none_past (x ∷ xs) zero f = absurd (none-some x (sym f))
-        none_past (x ∷ xs) (suc k) f = omega (arith, none_past xs k f)
-
         past : (k : ℕ) → slice_get nodes k ≡ None → k < length labels → ⊥
-        past k f less = omega (arith, less, none_past nodes k f, trees.count)
+        past k f less = omega (arith, less, missing_past nodes k f, trees.count)
     split (Some x) e = top x e (climbed_high HEIGHT nodes roots labels n trees x e)

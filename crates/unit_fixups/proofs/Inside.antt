@@ -1,16 +1,13 @@
 -- What lies where in a unit: each block, cell and stub lies inside what the unit needs.
-use Rattle.std.proofs.Common.{◌≡◌, ℕ, zero, suc, ◌+◌, ◌-◌, ◌*◌, ◌<◌, ◌≤◌, max, Bool, not, ◌&&◌, ◌||◌, List, [], ◌∷◌, length, map, get_or, refl, sym, ap, subst, ◌∙◌, arith}
-use Rattle.std.proofs.Math.Nat.{mod-lt, mul-suc}
-use Rattle.std.proofs.lemmas.Nat.{div-add-mod'}
-use Rattle.std.proofs.lemmas.Bool.{cond_both}
+use Rattle.std.proofs.Common.{◌≡◌, ℕ, zero, suc, ◌+◌, ◌-◌, ◌*◌, ◌<◌, ◌≤◌, max, Bool, not, ◌&&◌, ◌||◌, List, [], ◌∷◌, length, get_or, refl, sym, ap, subst, ◌∙◌, arith}
+use Rattle.std.proofs.Math.Nat.{mul-suc}
 use Rattle.std.proofs.lemmas.List.Elements.{All-head, All-tail, All-nil, All-cons}
 use Rattle.std.specs.List.{All}
-use Rattle.link_model.specs.Graph.{is_defined, is_offered, first_flag, other_flags, own_symbols, is_referred, numbers_where}
+use Rattle.link_laws.proofs.Symbols.{length_own, numbers_below}
+use Rattle.link_laws.proofs.Layouts.{aligned-le, are_aligned, block_ends, length-offsets}
+use Rattle.link_model.specs.Graph.{own_symbols, is_referred, numbers_where}
 use Rattle.link_model.specs.Layout.{aligned, block_offsets, blocks_end, unit_need, layout_of, in_turn, needs_cell, needs_stub, some_edge, cell_symbols, stub_symbols, cells_start, stubs_start, CELL_SIZE, STUB_SIZE}
 use Rattle.link_model.specs.Image.{at_or}
-use Rattle.link_model.specs.declared.graph.Block.{Block}
-use Rattle.link_model.specs.declared.graph.GPlace.TheVariants.{Abs}
-use Rattle.link_model.specs.declared.graph.GSym.{GSym}
 use Rattle.link_model.specs.declared.graph.Layout.{Layout}
 use Rattle.link_model.specs.declared.graph.LinkGraph.{LinkGraph}
 use Rattle.link_model.specs.Sound.{sizes, Sound}
@@ -21,36 +18,6 @@ pub at_or-get : {X : Type 0} (d : X) (xs : List X) (k : ℕ) → at_or d xs k �
 at_or-get d [] k = refl
 at_or-get d (x ∷ xs) zero = refl
 at_or-get d (x ∷ xs) (suc k) = at_or-get d xs k
-
--- an aligned place is no less
-aligned-le : (at align : ℕ) → 0 < align → at ≤ aligned at align
-aligned-le at align h =
-    let whole = div-add-mod' (at + (align - 1)) align in
-    let below = mod-lt (at + (align - 1)) h in
-    omega (arith, whole, below)
-
-Aligned : List Block → Type 0
-Aligned bs = All (λ (b : Block). 0 < b.align) bs
-
-blocks_end-le : (at : ℕ) (bs : List Block) → Aligned bs → at ≤ blocks_end at bs
-unfolding Aligned
-blocks_end-le at [] h = omega arith
-blocks_end-le at (b ∷ bs) h =
-    let first = aligned-le at b.align (All-head (λ (b : Block). 0 < b.align) b bs h) in
-    let rest = blocks_end-le (aligned at b.align + b.size) bs (All-tail (λ (b : Block). 0 < b.align) b bs h) in
-    omega (arith, first, rest)
-
-offset_inside : (at : ℕ) (bs : List Block) (k : ℕ) → Aligned bs → k < length bs → at_or 0 (block_offsets at bs) k + at_or 0 (map (λ (b : Block). b.size) bs) k ≤ blocks_end at bs
-unfolding Aligned
-offset_inside at [] k h within = absurd (omega arith)
-offset_inside at (b ∷ bs) zero h within =
-    blocks_end-le (aligned at b.align + b.size) bs (All-tail (λ (b : Block). 0 < b.align) b bs h)
-offset_inside at (b ∷ bs) (suc k) h within =
-    offset_inside (aligned at b.align + b.size) bs k (All-tail (λ (b : Block). 0 < b.align) b bs h) (omega arith)
-
-length-offsets : (at : ℕ) (bs : List Block) → length (block_offsets at bs) ≡ length bs
-length-offsets at [] = refl
-length-offsets at (b ∷ bs) = ap suc (length-offsets (aligned at b.align + b.size) bs)
 
 covers : (b c s : ℕ) → b ≤ max 16 (aligned (aligned (aligned b 8 + c) 16 + s) 16)
 covers b c s =
@@ -70,31 +37,16 @@ sum_le : (o o' s e u n : ℕ) → o ≡ o' → n ≡ u → o' + s ≤ e → e �
 sum_le o o' s e u n p q r t = omega arith
 
 laid_inside : (g : LinkGraph) (l : Layout) (k : ℕ) → l ≡ layout_of g l.live → Sound g → k < length g.blocks → at_or 0 l.blocks k + at_or 0 (sizes g) k ≤ l.shape.need
-unfolding Aligned
 laid_inside g l k laid sound within =
     sum_le (at_or 0 l.blocks k) (at_or 0 (block_offsets 0 g.blocks) k) (at_or 0 (sizes g) k) (blocks_end 0 g.blocks) (unit_need g l.live) l.shape.need
     (ap (λ (x : Layout). at_or 0 x.blocks k) laid) (ap (λ (x : Layout). x.shape.need) laid)
-    (offset_inside 0 g.blocks k sound.aligns within) (need_covers g l.live)
+    (block_ends 0 g.blocks k (are_aligned g.blocks sound.aligns) within) (need_covers g l.live)
 
 -- ---- cells, stubs and externals
-length-own : (ss : List GSym) (live : List Bool) → length (own_symbols ss live) ≡ length ss
-length-own [] live = refl
-length-own (s ∷ ss) live =
-    cond_both (is_offered s) (first_flag live ∷ own_symbols ss (other_flags live)) (is_defined s.place ∷ own_symbols ss live) (λ (bs : List Bool). length bs ≡ suc (length ss))
-    (λ offered. ap suc (length-own ss (other_flags live)))
-    (λ other. ap suc (length-own ss live))
-
-numbers_below : (test : ℕ → Bool → Bool) (n k : ℕ) (bs : List Bool) → k + length bs ≤ n → All (λ s. s < n) (numbers_where test k bs)
-numbers_below test n k [] h = All-nil (λ (s : ℕ). s < n)
-numbers_below test n k (b ∷ bs) h =
-    let rest = numbers_below test n (k + 1) bs (omega (arith, h)) in
-    cond_both (test k b) (k ∷ numbers_where test (k + 1) bs) (numbers_where test (k + 1) bs) (λ (xs : List ℕ). All (λ s. s < n) xs)
-    (λ yes. All-cons (λ (s : ℕ). s < n) k (numbers_where test (k + 1) bs) (omega (arith, h)) rest)
-    (λ no. rest)
 
 -- the numbers of symbols are below their count
 symbols_below : (test : ℕ → Bool → Bool) (g : LinkGraph) (live : List Bool) → All (λ s. s < length g.symbols) (numbers_where test 0 (own_symbols g.symbols live))
-symbols_below test g live = numbers_below test (length g.symbols) 0 (own_symbols g.symbols live) (omega (arith, length-own g.symbols live))
+symbols_below test g live = numbers_below test (length g.symbols) 0 (own_symbols g.symbols live) (omega (arith, length_own g.symbols live))
 
 abbrev Part : ℕ → ℕ → ℕ → ℕ × ℕ → Type 0
 Part n size end p = (p.0 < n) × (p.1 + size ≤ end)
@@ -157,10 +109,3 @@ placed_lies g l base placed = record {
   small = placed.small;
   room = placed.room;
 }
-
--- ---- facts of one element
--- the place of a symbol that is read
-pub place_at : (ss : List GSym) (k : ℕ) (d : GSym) → k < length ss → at_or (Abs 0) (map (λ (x : GSym). x.place) ss) k ≡ (get_or ss k d).place
-place_at [] k d within = absurd (omega arith)
-place_at (s ∷ ss) zero d within = refl
-place_at (s ∷ ss) (suc k) d within = place_at ss k d (omega arith)

@@ -1,12 +1,13 @@
 -- The tables by symbol: addresses, cells and stubs.
-use Rattle.std.proofs.Common.{◌≡◌, ◌≢◌, ℕ, zero, suc, ◌+◌, ◌<◌, ◌≤◌, Bool, true, false, ◌==◌, cond, List, [], ◌∷◌, length, map, drop, get_or, set, replicate, slice_index, Option, Some, None, refl, sym, ap, subst, ◌∙◌, inl, inr, get_or-set_same, get_or-set_other, arith}
+use Rattle.std.proofs.Common.{◌≡◌, ◌≢◌, ℕ, zero, suc, ◌+◌, ◌<◌, ◌≤◌, true, false, ◌==◌, cond, List, [], ◌∷◌, length, map, drop, get_or, set, replicate, slice_index, Option, Some, None, refl, sym, ap, subst, ◌∙◌, arith}
 use Rattle.std.specs.Prelude.{unwrap_or, option_map, find, slice_index_or}
 use Rattle.std.specs.List.{All}
-use Rattle.std.proofs.lemmas.Bool.{cases_eq, cases_lt, eq-eqb, ne_eqb}
-use Rattle.std.proofs.lemmas.List.{get_or-replicate, length-replicate, length-map}
+use Rattle.std.proofs.lemmas.Bool.{cases_lt}
+use Rattle.std.proofs.lemmas.List.{get_or-replicate, length-replicate, length-map, get_or_default}
 use Rattle.std.proofs.lemmas.List.Elements.{All-head, All-tail}
 use Rattle.std.proofs.lemmas.Option.{same_Some}
 use Rattle.std.proofs.Math.Seq.{drop-cons, drop-length}
+use Rattle.list_laws.proofs.Lists.{get_or-set}
 use mathlib.Core.Path.{fun_ext}
 use Rattle.link_model.specs.Image.{at_or, own_address, place_of, bound_address, told_address, offset_of}
 use Rattle.link_model.specs.declared.graph.GPlace.TheVariants.{Abs}
@@ -15,22 +16,9 @@ use Rattle.link_model.specs.declared.graph.Layout.{Layout}
 use Rattle.link_model.specs.declared.graph.LinkGraph.{LinkGraph}
 use Rattle.unit_fixups.specs.Tables.{IsTable}
 
--- an element that is there, whatever stands for one that isn't
-pub get_or-any : {X : Type 0} (xs : List X) (k : ℕ) (d e : X) → k < length xs → get_or xs k d ≡ get_or xs k e
-get_or-any [] k d e lt = absurd (omega arith)
-get_or-any (x ∷ xs) zero d e lt = refl
-get_or-any (x ∷ xs) (suc k) d e lt = get_or-any xs k d e (omega arith)
-
 -- what is read of a table
 pub read_of : (count s : ℕ) (o : Option ℕ) (pairs : List (ℕ × ℕ)) (table : List (Option ℕ)) → IsTable count pairs table → s < count → o ≡ get_or table s o → o ≡ offset_of pairs s
-read_of count s o pairs table is lt read = read ∙ get_or-any table s o None (omega (arith, is.whole, lt)) ∙ is.exact s
-
--- one element changed
-changed : {X : Type 0} (xs : List X) (i s : ℕ) (x d : X) → i < length xs → get_or (set xs i x) s d ≡ cond (i == s) x (get_or xs s d)
-changed xs i s x d within = elim (cases_eq s i) [
-  | inl same ↦ ap (λ (k : ℕ). get_or (set xs i x) k d) same ∙ get_or-set_same xs i x d within ∙ sym (ap (λ (b : Bool). cond b x (get_or xs s d)) (eq-eqb i s (sym same)))
-  | inr other ↦ get_or-set_other xs i s x d other ∙ sym (ap (λ (b : Bool). cond b x (get_or xs s d)) (ne_eqb i s (λ q. other (sym q))))
-]
+read_of count s o pairs table is lt read = read ∙ get_or_default table s o None (omega (arith, is.whole, lt)) ∙ is.exact s
 
 -- ---- addresses
 
@@ -45,7 +33,7 @@ pub bound_step : (externals : List ℕ) (bound : List (Option ℕ)) (start told 
 bound_step externals bound start told new k n s b lt lt' next within is now e =
     let x : ℕ = get_or externals k 0 in
     ap (λ (t : List ℕ). get_or t s 0) now
-    ∙ changed told x s (unwrap_or b 0) 0 within
+    ∙ get_or-set told x s (unwrap_or b 0) 0 within
     ∙ ap (λ (y : ℕ). cond (x == s) (unwrap_or b 0) y) (e ∙ ap (λ (i : ℕ). unwrap_or (bound_address (drop i externals) (drop i bound) s) (get_or start s 0)) next)
     ∙ first_bound x s (drop (suc k) externals) b (drop (suc k) bound) (get_or start s 0)
     ∙ ap (λ (c : Option ℕ). unwrap_or (bound_address (x ∷ drop (suc k) externals) (c ∷ drop (suc k) bound) s) (get_or start s 0)) is
@@ -81,7 +69,7 @@ first_offset p ps s = elim (p.0 == s) as (λ t. cond t (Some p.1) (option_map (�
 pub offset_step : (pairs : List (ℕ × ℕ)) (table : List (Option ℕ)) (k n s : ℕ) (d : ℕ × ℕ) → k < length pairs → n ≡ suc k → (get_or pairs k d).0 < length table → get_or table s None ≡ offset_of (drop n pairs) s → get_or (set table (get_or pairs k d).0 (Some (get_or pairs k d).1)) s None ≡ offset_of (drop k pairs) s
 offset_step pairs table k n s d lt next within e =
     let p : ℕ × ℕ = get_or pairs k d in
-    changed table p.0 s (Some p.1) None within
+    get_or-set table p.0 s (Some p.1) None within
     ∙ ap (cond (p.0 == s) (Some p.1)) (e ∙ ap (λ (i : ℕ). offset_of (drop i pairs) s) next)
     ∙ first_offset p (drop (suc k) pairs) s
     ∙ ap (λ (ps : List (ℕ × ℕ)). offset_of ps s) (sym (drop-cons pairs k d lt))

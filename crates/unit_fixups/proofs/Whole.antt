@@ -1,21 +1,17 @@
 -- The image of a unit.
 use Rattle.std.proofs.Common.{◌≡◌, ℕ, suc, ◌+◌, ◌<◌, List, [], ◌∷◌, ◌++◌, length, map, get_or, slice_index, Option, None, Result, Ok, Err, refl, sym, ap, ◌∙◌, arith}
 use Rattle.std.specs.Prelude.{OnOk, ⊤}
-use Rattle.link_model.specs.Image.{Write, first_refused, writes, all_written, written, cell_write, stub_write, edge_write, told_address, image_bytes, image_of, listed, raw_byte, pieces}
+use Rattle.link_laws.proofs.Writes.{written_append}
+use Rattle.link_model.specs.Image.{Write, first_refused, writes, all_written, cell_write, stub_write, edge_write, told_address, image_bytes, image_of, listed, raw_byte, pieces}
 use Rattle.link_model.specs.declared.graph.Layout.{Layout}
 use Rattle.link_model.specs.declared.graph.LinkGraph.{LinkGraph}
-
--- two lists of writes, one after the other
-both_written : (v w : List Write) (bytes : ℕ → ℕ) → all_written (v ++ w) bytes ≡ all_written w (all_written v bytes)
-both_written [] w bytes = refl
-both_written (x ∷ v) w bytes = both_written v w (written x bytes)
 
 pub writes_made : (g : LinkGraph) (l : Layout) (base : ℕ) (address : ℕ → ℕ) (old cells stubs new : ℕ → ℕ) → cells ≡ all_written (map (cell_write address) l.cells) old → stubs ≡ all_written (map (stub_write l) l.stubs) cells → new ≡ all_written (map (edge_write g l base address) g.edges) stubs → new ≡ all_written (writes g l base address) old
 writes_made g l base address old cells stubs new c s e =
     let cs : List Write = map (cell_write address) l.cells in
     let ss : List Write = map (stub_write l) l.stubs in
     let es : List Write = map (edge_write g l base address) g.edges in
-    e ∙ ap (all_written es) (s ∙ ap (all_written ss) c ∙ sym (both_written cs ss old)) ∙ sym (both_written (cs ++ ss) es old)
+    e ∙ ap (all_written es) (s ∙ ap (all_written ss) c ∙ sym (written_append cs ss old)) ∙ sym (written_append (cs ++ ss) es old)
 
 -- the same of a result
 pub all_made : {E : Type 0} (g : LinkGraph) (l : Layout) (base : ℕ) (address : ℕ → ℕ) (old cells stubs new : ℕ → ℕ) (made : Result ⊤ E) → cells ≡ all_written (map (cell_write address) l.cells) old → stubs ≡ all_written (map (stub_write l) l.stubs) cells → OnOk made ((first_refused g l base address g.edges ≡ None) × (new ≡ all_written (map (edge_write g l base address) g.edges) stubs)) → OnOk made (new ≡ all_written (writes g l base address) old)

@@ -1,5 +1,5 @@
 use Rattle.std.proofs.Common.{◌≡◌, ◌<◌, ◌≤◌, false, get_or, length, refl, sym, ◌∙◌, arith}
-use Rattle.block_groups.proofs.Rows.{get_or-any}
+use Rattle.std.proofs.lemmas.List.{get_or_default}
 use Rattle.block_groups.proofs.Searches.{read_handed, found_within, hands_past, hands_next, hands_clear, hands_all}
 use Rattle.block_groups.proofs.backwards.hand_out.Goals.{then-index+in_ok-push, else-index}
 use Rattle.block_groups.proofs.backwards.hand_out.Goals as goal
@@ -32,7 +32,7 @@ loop-k-preserved c = elim c.if-index.branch [
       let lt : c.loop-k.k < length old.found.items = omega (arith, c.loop-k-test.true, c.len-k-end.ensures, old.found.ok.0) in
       let at = read_handed old c.loop-k.search c.args.instance c.args.lists.now c.loop-k.lists c.loop-k.k c.index.result.now c.loop-k.invariant lt c.index.ensures in
       let within : c.index.result.now < length c.loop-k.search.seen.items = omega (arith, found_within old c.loop-k.k c.index.result.now c.requires.noted lt at, c.loop-k.invariant.whole) in
-      let here = get_or-any c.loop-k.search.seen.items c.index.result.now false c.index-in-loop-k.result.now within ∙ sym c.index-in-loop-k.ensures ∙ w.if-index.true in
+      let here = get_or_default c.loop-k.search.seen.items c.index.result.now false c.index-in-loop-k.result.now within ∙ sym c.index-in-loop-k.ensures ∙ w.if-index.true in
       rw (w.search-is, w.lists-is)
       (hands_next old c.loop-k.search _ c.args.instance c.args.lists.now c.loop-k.lists w.push.new.self c.loop-k.k c.index.result.now within at here refl refl w.in_ok-push.ensures c.loop-k.invariant))
   | else-index w ↦
@@ -40,7 +40,7 @@ loop-k-preserved c = elim c.if-index.branch [
       let lt : c.loop-k.k < length old.found.items = omega (arith, c.loop-k-test.true, c.len-k-end.ensures, old.found.ok.0) in
       let at = read_handed old c.loop-k.search c.args.instance c.args.lists.now c.loop-k.lists c.loop-k.k c.index.result.now c.loop-k.invariant lt c.index.ensures in
       let within : c.index.result.now < length c.loop-k.search.seen.items = omega (arith, found_within old c.loop-k.k c.index.result.now c.requires.noted lt at, c.loop-k.invariant.whole) in
-      let none = get_or-any c.loop-k.search.seen.items c.index.result.now false c.index-in-loop-k.result.now within ∙ sym c.index-in-loop-k.ensures ∙ w.if-index.false in
+      let none = get_or_default c.loop-k.search.seen.items c.index.result.now false c.index-in-loop-k.result.now within ∙ sym c.index-in-loop-k.ensures ∙ w.if-index.false in
       rw (w.search-is, w.lists-is)
       (hands_past old c.loop-k.search c.args.instance c.args.lists.now c.loop-k.lists c.loop-k.k c.index.result.now at none c.loop-k.invariant))
 ]

@@ -1,9 +1,10 @@
 use Rattle.std.proofs.Common.{◌≡◌, List, Bool, false, length, get_or, ap, sym, ◌∙◌, cond, None, arith}
+use Rattle.link_laws.proofs.Symbols.{place_at, length_own}
 use Rattle.link_model.specs.Graph.{own_symbols}
 use Rattle.block_groups.specs.Groups.{block_of}
 use Rattle.link_model.specs.Image.{place_of}
 use Rattle.link_model.specs.declared.graph.GSym.{GSym}
-use Rattle.block_groups.proofs.Keyed.{place_at, flag_at, length_own, lead_is}
+use Rattle.block_groups.proofs.Keyed.{flag_at, lead_is}
 use Rattle.block_groups.proofs.needing.lead.Goals as goal
 
 pub bounds-owners-target : goal.bounds-owners-target

@@ -1,9 +1,9 @@
 use Rattle.std.proofs.Common.{◌≡◌, ◌<◌, ◌+◌, List, length, take, get_or, pos, Some, sym, subst, ◌∙◌, arith}
+use Rattle.std.proofs.lemmas.List.{get_or_default}
 use Rattle.block_groups.specs.Groups.{leads_to}
 use Rattle.link_model.specs.declared.graph.Edge.{Edge}
 use Rattle.block_groups.specs.Keys.{AreKeyed}
 use Rattle.block_groups.proofs.Keyed.{lead_there, keyed_next, keyed_past}
-use Rattle.block_groups.proofs.Rows.{get_or-any}
 use Rattle.block_groups.proofs.needing.note_leads.Goals.{in-Some+in_ok-push, in_default}
 use Rattle.block_groups.proofs.needing.note_leads.Goals as goal
 
@@ -24,6 +24,6 @@ loop-e-preserved c =
     let before = subst (λ (xs : List Edge). AreKeyed key (take i xs) n c.loop-e.lists) (sym c.as_slice-e-items.ensures) c.loop-e.invariant in
     subst (λ (xs : List Edge). AreKeyed key (take (i + 1) xs) n c.match-lead.lists) c.as_slice-e-items.ensures
     (elim c.match-lead.branch [
-      | in-Some+in_ok-push w ↦ rw w.lists-is (keyed_next key es n i w.in-Some.block e c.loop-e.lists w.push.new.self c.loop-e-test.true (get_or-any es i no_edge e c.loop-e-test.true) (sym c.lead.ensures ∙ w.in-Some.is) w.in_ok-push.ensures before)
-      | in_default w ↦ rw w.lists-is (keyed_past key es n i e c.loop-e.lists c.loop-e-test.true (get_or-any es i no_edge e c.loop-e-test.true) (sym c.lead.ensures ∙ w.in_default.is) before)
+      | in-Some+in_ok-push w ↦ rw w.lists-is (keyed_next key es n i w.in-Some.block e c.loop-e.lists w.push.new.self c.loop-e-test.true (get_or_default es i no_edge e c.loop-e-test.true) (sym c.lead.ensures ∙ w.in-Some.is) w.in_ok-push.ensures before)
+      | in_default w ↦ rw w.lists-is (keyed_past key es n i e c.loop-e.lists c.loop-e-test.true (get_or_default es i no_edge e c.loop-e-test.true) (sym c.lead.ensures ∙ w.in_default.is) before)
     ])

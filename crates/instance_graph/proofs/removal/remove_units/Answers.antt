@@ -1,9 +1,10 @@
 use Rattle.std.proofs.Common.{◌≡◌, ◌⊎◌, ◌<◌, true, List, map, subst, ap, sym, ◌∙◌}
+use Rattle.std.proofs.lemmas.List.Elements.{All-rest}
 use Rattle.orc_ids.specs.declared.ids.UnitId.{UnitId}
 use Rattle.session_model.specs.declared.rows.InstRow.{InstRow}
 use Rattle.instances.specs.Table.{Table, is_among}
 use Rattle.instance_graph.specs.Removal.{is_gone, removed_row}
-use Rattle.instance_graph.proofs.Beginnings.{removed_then, removed_nil, all_rest, unit_kept, noted_more}
+use Rattle.instance_graph.proofs.Beginnings.{removed_then, removed_nil, unit_kept, noted_more}
 use Rattle.instance_graph.proofs.removal.remove_units.Goals as goal
 
 pub loop-u-preserved : goal.loop-u-preserved
@@ -20,7 +21,7 @@ loop-u-preserved c =
         ap (λ (t : Table). t.spare) c.remove_unit.ensures.rows ∙ c.loop-u.invariant.rooms.1,
         ap (λ (t : Table). t.spare_units) c.remove_unit.ensures.rows ∙ c.loop-u.invariant.rooms.2,
       );
-      there = all_rest c.args.instances.now.units c.loop-u.u-iterator u us steps c.loop-u.invariant.there;
+      there = All-rest (λ (v : UnitId). v.0 < c.args.instances.now.units) u us c.loop-u.u-iterator steps c.loop-u.invariant.there;
       units = λ k r e. unit_kept u.0 now c.remove_unit.new.instances.rows k r made (c.loop-u.invariant.units k r e);
       changed = λ k r e g b. noted_more u us now (is_among c.loop-u.changed.items k) (is_among c.remove_unit.new.changed.items k) k r (c.loop-u.invariant.units k r e) (c.remove_unit.ensures.kept k)
           (λ q at is. c.remove_unit.ensures.changed k q at is (subst (λ n. k < n) (sym c.loop-u.invariant.places) b))

@@ -1,6 +1,6 @@
 use Rattle.std.proofs.Common.{refl, ap, ◌∙◌, arith}
+use Rattle.list_laws.proofs.Lists.{map_more}
 use Rattle.session_model.specs.Change.{claimed_row}
-use Rattle.instances.proofs.Lists.{map_more}
 use Rattle.instances.proofs.Spans.{claim_leaves, span_init, span_done}
 use Rattle.instances.proofs.rows.claim_rows.Goals as goal
 

@@ -1,9 +1,10 @@
 use Rattle.std.proofs.Common.{◌<◌, ◌+◌, ◌++◌, take, drop, length, refl, ap, ◌∙◌, arith}
 use Rattle.std.proofs.lemmas.List.{length-set}
 use Rattle.std.proofs.lemmas.Option.{get_or_from_slice_get}
+use Rattle.model_laws.proofs.Changes.{numbered_more}
+use Rattle.list_laws.proofs.Lists.{set_elsewhere}
 use Rattle.session_model.specs.Lists.{numbered}
 use Rattle.session_model.specs.Change.{emitted_row}
-use Rattle.instances.proofs.Lists.{set_elsewhere, numbered_more}
 use Rattle.instances.proofs.Spans.{emitted_before, emitted_after, emitted_by}
 use Rattle.instances.proofs.rows.emit_rows.Goals as goal
 

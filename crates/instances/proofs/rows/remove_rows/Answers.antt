@@ -1,6 +1,6 @@
 use Rattle.std.proofs.Common.{refl, ap, ◌∙◌, arith}
+use Rattle.list_laws.proofs.Lists.{map_more}
 use Rattle.instances.specs.Table.{removed_row}
-use Rattle.instances.proofs.Lists.{map_more}
 use Rattle.instances.proofs.Spans.{removal_leaves, span_init, span_done}
 use Rattle.instances.proofs.rows.remove_rows.Goals as goal
 

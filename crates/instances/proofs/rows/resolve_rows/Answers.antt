@@ -1,8 +1,9 @@
 use Rattle.std.proofs.Common.{ℕ, Some, length, refl, ap, sym, ◌∙◌, arith}
 use Rattle.std.proofs.lemmas.Option.{slice_get-get_or}
+use Rattle.list_laws.proofs.Lists.{map_more}
 use Rattle.session_model.specs.declared.rows.InstRow.{InstRow}
 use Rattle.instances.specs.Rows.{addressed_row}
-use Rattle.instances.proofs.Lists.{map_more, still_there, mapped_within}
+use Rattle.instances.proofs.Lists.{still_there, mapped_within}
 use Rattle.instances.proofs.Spans.{address_leaves, span_init, span_done}
 use Rattle.instances.proofs.rows.resolve_rows.Goals as goal
 

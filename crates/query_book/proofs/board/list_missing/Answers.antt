@@ -1,18 +1,19 @@
 use Rattle.std.proofs.Common.{◌≡◌, ◌+◌, ◌∷◌, ◌∙◌, Option, None, get_or, length, map, drop, suc, ap, sym, add-one, arith}
 use Rattle.std.specs.Prelude.{is_some}
 use Rattle.std.specs.List.{filter_map}
+use Rattle.std.proofs.lemmas.List.{length-map}
 use Rattle.orc_ids.specs.declared.ids.InstId.{InstId}
 use Rattle.query_book.specs.Marks.{one_if}
 use Rattle.query_book.specs.Stands.{missing_of}
 use Rattle.query_book.proofs.Parts.{drop_first}
-use Rattle.query_book.proofs.Listing.{listing_start, listing_there, listing_room, listing_more, has_missing, length_missing, length_map, byte_of, one_most}
+use Rattle.query_book.proofs.Listing.{listing_start, listing_there, listing_room, listing_more, has_missing, length_missing, byte_of, one_most}
 use Rattle.query_book.proofs.board.list_missing.Goals as goal
 
 pub loop-found-init : goal.loop-found-init
 loop-found-init g c = record {
   listing = listing_start c.args.query (map (missing_of (g.T.Standing.stand c.args.standing.now) c.args.level) c.args.matched.now) c.args.lists.now.lists c.args.lists.now.spare
       (has_missing (g.T.Standing.stand c.args.standing.now) c.args.level c.args.lists.now.lists c.args.matched.now c.requires.there)
-      (omega (arith, c.requires.room, length_map (missing_of (g.T.Standing.stand c.args.standing.now) c.args.level) c.args.matched.now));
+      (omega (arith, c.requires.room, length-map c.args.matched.now (missing_of (g.T.Standing.stand c.args.standing.now) c.args.level)));
   left = omega arith;
   few = omega arith;
 }

@@ -1,7 +1,7 @@
 use Rattle.std.proofs.Common.{ap, refl, sym, subst, ◌<◌, take}
 use Rattle.std.proofs.lemmas.Option.{slice_get-get_or}
+use Rattle.list_laws.proofs.Lists.{taken_more}
 use Rattle.session_parts.specs.Defined.{AreLost}
-use Rattle.session_parts.proofs.Exchanges.{taken_more}
 use Rattle.session_parts.proofs.LostNames.{none_lost, one_lost, one_rest, lost_count, among_at}
 use Rattle.session_parts.proofs.defining.lose_names.Goals as goal
 

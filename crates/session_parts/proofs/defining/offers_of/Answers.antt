@@ -1,5 +1,5 @@
 use Rattle.std.proofs.Common.{ap, sym, ◌∙◌, ◌++◌, ◌∷◌, []}
-use Rattle.session_parts.proofs.Exchanges.{taken_more}
+use Rattle.list_laws.proofs.Lists.{taken_more}
 use Rattle.session_parts.proofs.defining.offers_of.Goals as goal
 
 pub loop-k-preserved : goal.loop-k-preserved

@@ -1,9 +1,10 @@
 use Rattle.std.proofs.Common.{◌<◌, ap, refl, subst, sym, ◌∙◌, length}
 use Rattle.std.specs.Prelude.{All}
+use Rattle.std.proofs.lemmas.List.Elements.{All-rest}
 use Rattle.orc_ids.specs.declared.ids.UnitId.{UnitId}
 use Rattle.session_laws.proofs.Elements.{changed_length}
 use Rattle.mat_unit.specs.Changes as one
-use Rattle.session_parts.proofs.Retiring.{Removing, Freeing, one_removed, all_gone, one_freed, all_freed, others_there, head_there}
+use Rattle.session_parts.proofs.Retiring.{Removing, Freeing, one_removed, all_gone, one_freed, all_freed, head_there}
 use Rattle.session_parts.proofs.removing.retire_all.Goals as goal
 
 pub loop-u-init : goal.loop-u-init
@@ -29,7 +30,7 @@ loop-u-preserved g c =
       space = one_freed c.args.gone.now c.args.space.now c.loop-u.u-iterator c.in-Some.u.now c.next.new.self c.loop-u.space c.retire.new.space c.in-Some.ensures.steps c.retire.ensures.space c.loop-u.invariant.space;
       ranged = c.retire.ensures.ranged;
       there = subst (λ n. All (λ (u : UnitId). u.0 < n) c.next.new.self) (sym (ap length made ∙ changed_length c.in-Some.u.now.0 one.removed c.loop-u.units.units))
-          (others_there (length c.loop-u.units.units) c.loop-u.u-iterator c.in-Some.u.now c.next.new.self c.in-Some.ensures.steps c.loop-u.invariant.there);
+          (All-rest (λ (v : UnitId). v.0 < length c.loop-u.units.units) c.in-Some.u.now c.next.new.self c.loop-u.u-iterator c.in-Some.ensures.steps c.loop-u.invariant.there);
     }
 
 pub returns : goal.returns

@@ -1,7 +1,7 @@
 use Rattle.std.proofs.Common.{rules}
+use Rattle.model_laws.proofs.Changes.{numbered_more}
 use Rattle.session_past.specs.Ends.{end_now}
 use Rattle.session_plain.specs.Meant.{meant}
-use Rattle.session_plain.proofs.ListLemmas.{numbered_more}
 use Rattle.session_past.proofs.ends.end_all.Goals as goal
 
 pub loop-k-preserved : goal.loop-k-preserved

@@ -1,7 +1,7 @@
 use Rattle.std.proofs.Common.{rules}
+use Rattle.list_laws.proofs.Lists.{map_more}
 use Rattle.session_model.specs.Change.{resolved_row, resolved_unit}
 use Rattle.session_plain.specs.Meant.{unit_row}
-use Rattle.session_plain.proofs.ListLemmas.{map_more}
 use Rattle.session_plain.proofs.emits.resolve_rows.Goals as goal
 
 pub loop-row-preserved : goal.loop-row-preserved

@@ -1,6 +1,6 @@
 use Rattle.std.proofs.Common.{rules}
+use Rattle.list_laws.proofs.Lists.{map_more}
 use Rattle.session_model.specs.Change.{claimed_row}
-use Rattle.session_plain.proofs.ListLemmas.{map_more}
 use Rattle.session_plain.proofs.rows.claim_rows.Goals as goal
 
 pub loop-row-preserved : goal.loop-row-preserved

@@ -1,11 +1,12 @@
 use Rattle.std.proofs.Common.{◌≡◌, ◌+◌, ◌≤◌, List, length, slice_get, ap, sym, subst, ◌∙◌, arith, length-append}
+use Rattle.list_laws.proofs.Lists.{appended_below}
 use Rattle.session_model.specs.declared.rows.InstRow.{InstRow}
 use Rattle.instances.specs.Table.{fresh_rows}
 use Rattle.instances.proofs.Fresh.{fresh_length}
 use Rattle.instance_graph.specs.Graph.{Graph}
 use Rattle.instance_graph.specs.Tied.{IsTied}
 use Rattle.instance_graph.proofs.Readiness.{ready_kept}
-use Rattle.instance_graph.proofs.Standings.{in_front, tied_more, stand_same}
+use Rattle.instance_graph.proofs.Standings.{tied_more, stand_same}
 use Rattle.instance_graph.proofs.graph.InstanceGraph.define.Goals as goal
 
 tied : (c : goal.After-define) → IsTied c.define.new.self.rows c.self.inside.frontier.entries
@@ -36,7 +37,7 @@ returns-clause-tells c =
     let rows : List InstRow = c.self.inside.instances.rows in
     let fresh : List InstRow = fresh_rows c.args.d.0 c.self.inside.instances.units 0 c.args.offers.now c.args.live.now in
     rw (← c.self.view_is) (record {
-      stands = λ i b n. stand_same rows c.define.new.self.rows i (ap (λ (xs : List InstRow). slice_get xs i) c.define.ensures.rows ∙ in_front rows fresh i b)
+      stands = λ i b n. stand_same rows c.define.new.self.rows i (ap (λ (xs : List InstRow). slice_get xs i) c.define.ensures.rows ∙ appended_below rows fresh i b)
           (ready_kept c.ready_is_tested.ensures rows c.define.new.self.rows c.self.inside.frontier.entries c.self.invariant.tied (tied c) i);
       kept = λ i e. e;
     })

@@ -1,8 +1,8 @@
 use Rattle.std.proofs.Common.{List, refl, subst, sym, ◌∙◌, append-nil, rules}
 use Rattle.std.specs.Prelude.{IsPermutation}
 use Rattle.std.proofs.lemmas.List.Sorted.{IsPermutation-refl}
+use Rattle.list_laws.proofs.Lists.{first_place}
 use Rattle.orc_ids.specs.declared.ids.InstId.{InstId}
-use Rattle.instance_graph_tests.proofs.TestUnits.{first_place}
 use Rattle.instance_graph_tests.proofs.tests.OneUnitKind.known.Goals as goal
 
 pub returns : goal.returns

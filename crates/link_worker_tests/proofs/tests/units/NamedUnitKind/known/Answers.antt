@@ -2,8 +2,8 @@ use Rattle.std.proofs.Common.{ℕ, List, refl, subst, sym, ◌∙◌, append-nil
 use Rattle.std.specs.Prelude.{IsPermutation}
 use Rattle.std.proofs.lemmas.List.{length-replicate}
 use Rattle.std.proofs.lemmas.List.Sorted.{IsPermutation-refl}
+use Rattle.list_laws.proofs.Lists.{first_place}
 use Rattle.orc_ids.specs.declared.ids.InstId.{InstId}
-use Rattle.link_worker_tests.proofs.TestUnits.{first_place}
 use Rattle.link_worker_tests.proofs.tests.units.NamedUnitKind.known.Goals as goal
 
 pub returns : goal.returns

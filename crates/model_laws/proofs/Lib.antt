@@ -1,0 +1,5 @@
+pub mod Changes
+pub mod Choices
+pub mod FirstRows
+pub mod Phases
+pub mod Units
