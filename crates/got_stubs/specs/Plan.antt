@@ -4,14 +4,12 @@ use Rattle.link_model.specs.Layout.{block_offsets, blocks_end, unit_align}
 use Rattle.link_model.specs.declared.graph.LinkGraph.{LinkGraph}
 use Rattle.got_stubs.specs.declared.plan.Plan.{Plan}
 use Rattle.got_stubs.specs.Marks.{AreMarks}
-use Rattle.got_stubs.specs.Candidates.{AreCandidates}
 
 -- the marks are those of the symbols, and the offsets and the end are those of the blocks
 pub record IsPlan (g : LinkGraph) (p : Plan) : Type 0 where
   pub few : length g.symbols ≤ 65536
   pub whole : length p.marks.items ≡ length g.symbols
   pub marks : AreMarks g.edges p.marks.items
-  pub candidates : AreCandidates p.marks.items g.symbols p.candidates
   pub offsets : p.offsets.items ≡ block_offsets 0 g.blocks
   pub end : p.end ≡ blocks_end 0 g.blocks
   pub low : p.end ≤ 80 * 1024 * 1024

@@ -10,7 +10,6 @@
 #![tactic(auto)]
 
 mod blocks;
-mod candidates;
 mod layout;
 mod marks;
 mod owners;

@@ -77,6 +77,22 @@ fn lists_of(alloc: Global, own: &[bool], marks: &[Mark]) -> Result<Parts, AllocE
     })
 }
 
+/// The externals.
+pub(crate) fn externals_of(
+    alloc: Global,
+    g: &LinkGraph,
+    marks: &[Mark],
+    live: &[bool],
+) -> Result<Vec<u32>, AllocError>
+    requires few { length g.now.symbols ≤ 65536 }
+    requires whole { length marks.now ≡ length g.now.symbols }
+    requires marks { AreMarks g.now.edges marks.now }
+    ensures { IfOk result (λ symbols. symbols.items ≡ external_symbols g.now live.now) }
+{
+    let own = owners_of(alloc, g.symbols.as_slice(), live)?;
+    Ok(list_with(alloc, Part::External, &own, marks)?)
+}
+
 /// The externals, and the symbols that have cells and stubs.
 pub(crate) fn parts_of(
     alloc: Global,

@@ -1,13 +1,12 @@
-ghost use Rattle.std.specs.Prelude.{◌≡◌, ◌+◌, ◌*◌, ◌<◌, ◌≤◌, ◌^◌, max, length, slice_get, IfOk};
+ghost use Rattle.std.specs.Prelude.{◌≡◌, ◌+◌, ◌*◌, ◌<◌, ◌≤◌, ◌^◌, max, IfOk};
 ghost use Rattle.link_model.specs.Graph.{external_symbols};
 ghost use Rattle.link_model.specs.Layout.{aligned, block_offsets, layout_of, CELL_SIZE, STUB_SIZE};
 ghost use Rattle.link_model.specs.Sound.{Sound, IsSized};
 ghost use Rattle.got_stubs.specs.Plan.{IsPlan};
 
 use crate::blocks::{PlacedBlocks, greatest_align, place_blocks};
-use crate::candidates::{Candidates, candidates_of, nth_external};
 use crate::marks::{Mark, marks_of};
-use crate::parts::{Part, parts_of};
+use crate::parts::{Part, externals_of, parts_of};
 use crate::tables::{Tables, place_tables};
 use crate::turns::align_up;
 use crate::walks::count_with;
@@ -15,13 +14,11 @@ use link_model::{Layout, LinkGraph};
 use orc_ids::{Items, Shape};
 use std::alloc::{AllocError, Global};
 
-/// What is prepared of a graph, so that its shape and the count of its externals with any live names
-/// take one pass over its symbols and no memory, and an external by its number no more than one over
-/// the offered symbols that edges refer to.
+/// What is prepared of a graph, so that its shape with any live names takes one pass over its symbols
+/// and no memory.
 #[derive(Drop)]
 pub struct Plan {
     marks: Vec<Mark>,
-    candidates: Candidates,
     offsets: Vec<u64>,
     end: u64,
     align: u64,
@@ -34,11 +31,9 @@ pub fn plan_of(alloc: Global, g: &LinkGraph) -> Result<Plan, AllocError>
     ensures { IfOk result (λ plan. IsPlan g.now plan) }
 {
     let marks = marks_of(alloc, g)?;
-    let candidates = candidates_of(alloc, g.symbols.as_slice(), &marks)?;
     let PlacedBlocks { offsets, end } = place_blocks(alloc, g)?;
     Ok(Plan {
         marks,
-        candidates,
         offsets,
         end,
         align: greatest_align(g),
@@ -71,25 +66,17 @@ impl Plan {
         }
     }
 
-    /// How many externals it has.
-    pub fn external_count(&self, g: &LinkGraph, live: &[bool]) -> usize
+    /// Its externals, in symbol order.
+    pub fn externals(
+        &self,
+        alloc: Global,
+        g: &LinkGraph,
+        live: &[bool],
+    ) -> Result<Vec<u32>, AllocError>
         requires { IsPlan g.now self.now }
-        ensures exact { result ≡ length (external_symbols g.now live.now) }
-        ensures few { result ≤ 65536 }
+        ensures { IfOk result (λ symbols. symbols.items ≡ external_symbols g.now live.now) }
     {
-        count_with(Part::External, &self.marks, g.symbols.as_slice(), live)
-    }
-
-    /// The external of a number, in symbol order, if there are so many.
-    pub fn external(&self, g: &LinkGraph, live: &[bool], k: usize) -> Option<u32>
-        requires { IsPlan g.now self.now }
-        ensures { result ≡ slice_get (external_symbols g.now live.now) k }
-    {
-        let Candidates {
-            missing,
-            replaceable,
-        } = &self.candidates;
-        nth_external(missing, replaceable, live, k)
+        externals_of(alloc, g, &self.marks, live)
     }
 
     /// Where the parts of the unit lie. `live` has a flag for each offered symbol, in symbol order; a flag

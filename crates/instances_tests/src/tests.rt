@@ -63,15 +63,12 @@ impl UnitKind for One {
         base
     }
 
-    fn external_count(&self, _live: &[bool]) -> u32 {
-        1
-    }
-
-    fn external(&self, _live: &[bool], _k: u32) -> Wanted {
-        Wanted {
+    fn externals(&self, alloc: Global, _live: &[bool]) -> Result<Vec<Wanted>, AllocError> {
+        let wanted = Wanted {
             name: NameId(1),
             weak: true,
-        }
+        };
+        Ok(vec![in alloc; wanted]?)
     }
 }
 

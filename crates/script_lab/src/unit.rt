@@ -120,12 +120,8 @@ impl UnitKind for LabUnit {
         self.known.address(k, base)
     }
 
-    fn external_count(&self, live: &[bool]) -> u32 {
-        self.known.external_count(live)
-    }
-
-    fn external(&self, live: &[bool], k: u32) -> Wanted {
-        self.known.external(live, k)
+    fn externals(&self, alloc: Global, live: &[bool]) -> Result<Vec<Wanted>, AllocError> {
+        self.known.externals(alloc, live)
     }
 }
 

@@ -211,12 +211,8 @@ impl UnitKind for KnownUnit {
         }
     }
 
-    fn external_count(&self, _live: &[bool]) -> u32 {
-        self.externals.len() as u32
-    }
-
-    fn external(&self, _live: &[bool], k: u32) -> Wanted {
-        self.externals[k as usize]
+    fn externals(&self, alloc: Global, _live: &[bool]) -> Result<Vec<Wanted>, AllocError> {
+        self.externals.as_slice().to_vec(alloc)
     }
 }
 

@@ -1,12 +1,11 @@
 -- What a unit looks up, and where.
-use Rattle.std.proofs.Common.{◌≡◌, ℕ, suc, ◌+◌, ◌∙◌, add-one, append_assoc, ap, sym, subst, List, [], ◌∷◌, ◌++◌, drop, get_or, true, Bool, slice_get, Option, Some, None, Result, IfOk, option_and_then, filter_map, is_some}
+use Rattle.std.proofs.Common.{◌≡◌, ℕ, ◌∙◌, ap, sym, subst, List, [], ◌∷◌, get_or, true, Bool, slice_get, Option, Some, None, Result, IfOk, option_and_then, filter_map, is_some}
 use Rattle.std.specs.Bool.{if◌then◌else◌}
 use Rattle.std.specs.Option.{option_map_or}
 use Rattle.std.proofs.lemmas.Result.{IfOk-weaker}
 use Rattle.std.specs.declared.alloc.AllocError.{AllocError}
 use Rattle.std.proofs.lemmas.Option.{same_Some, slice_get-get_or}
 use Rattle.model_laws.proofs.Choices.{or_else_none}
-use Rattle.list_laws.proofs.Lists.{drop_some_suc}
 use Rattle.orc_ids.specs.declared.ids.DylibId.{DylibId}
 use Rattle.orc_ids.specs.declared.ids.InstId.{InstId}
 use Rattle.orc_ids.specs.declared.ids.UnitId.{UnitId}
@@ -100,8 +99,3 @@ looks_up u live given items wanted is e f = is ∙ (e ∙ ap u.externals f)
 
 pub source_is : (u : Meaning) (s o : Option DylibId) → s ≡ u.source → s ≡ o → u.source ≡ o
 source_is u s o e f = sym e ∙ f
-
--- One external more
-
-pub one_more : {X : Type 0} (all : List X) (k : ℕ) (x : X) (some : List X) → slice_get all k ≡ Some x → some ++ drop k all ≡ all → (some ++ x ∷ []) ++ drop (k + 1) all ≡ all
-one_more all k x some h e = rw (add-one k) (append_assoc some (x ∷ []) (drop (suc k) all) ∙ (ap (λ xs. some ++ xs) (sym (drop_some_suc all k x h)) ∙ e))

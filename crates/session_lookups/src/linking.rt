@@ -1,6 +1,6 @@
 //! The externals of a unit.
 
-ghost use Rattle.std.specs.Prelude.{◌≡◌, true, Some, length, slice_get, IfOk};
+ghost use Rattle.std.specs.Prelude.{◌≡◌, true, Some, slice_get, IfOk};
 ghost use Rattle.session_model.specs.Answer.{can_link};
 ghost use Rattle.session_model.specs.Plain.{Plain, UnitRow};
 ghost use Rattle.closure_laws.specs.Bound.{AreBound};
@@ -16,23 +16,6 @@ use orc_io::Notify;
 use session_model::{Matched, Reply, UnitKind};
 use session_parts::Parts;
 use std::alloc::{AllocError, Global};
-
-/// What a unit looks up, in symbol order.
-fn externals_of<U: UnitKind>(
-    alloc: Global,
-    unit: &U,
-    live: &[bool],
-) -> Result<Vec<Wanted>, AllocError>
-    requires { length live.now ≡ length (U.meaning unit.now).offers }
-    ensures { IfOk result (λ wanted. wanted.items ≡ (U.meaning unit.now).externals live.now) }
-{
-    let count = unit.external_count(live);
-    let mut wanted = Vec::with_capacity(alloc, count as usize)?;
-    for k in 0..count {
-        wanted.push(unit.external(live, k))?;
-    }
-    Ok(wanted)
-}
 
 /// What names match in an order of dylibs, or why they can't be asked for.
 fn search<U: UnitKind, N: Notify>(
@@ -104,7 +87,7 @@ pub fn match_link<U: UnitKind, N: Notify>(
     };
     // for its law
     unit.unit.known();
-    let wanted = externals_of(parts.alloc, &unit.unit, unit.live.as_slice())?;
+    let wanted = unit.unit.externals(parts.alloc, unit.live.as_slice())?;
     match unit.unit.source() {
         Some(source) => search_alias(parts, u, source, &wanted),
         None => search(parts, parts.dylibs.order(unit.dylib), &wanted),

@@ -49,16 +49,11 @@ pub trait UnitKind: Drop {
         requires { k < length (meaning self.now).offers }
         ensures { result ≡ (meaning self.now).address k base };
 
-    /// How many externals it has.
-    fn external_count(&self, live: &[bool]) -> u32
+    /// What it looks up: the names that it doesn't define and the offered ones that aren't live, where
+    /// a relocation refers to them, in symbol order.
+    fn externals(&self, alloc: Global, live: &[bool]) -> Result<Vec<Wanted>, AllocError>
         requires { length live.now ≡ length (meaning self.now).offers }
-        ensures { result ≡ length ((meaning self.now).externals live.now) };
-
-    /// The external at `k`, in symbol order.
-    fn external(&self, live: &[bool], k: u32) -> Wanted
-        requires live { length live.now ≡ length (meaning self.now).offers }
-        requires within { k < length ((meaning self.now).externals live.now) }
-        ensures { slice_get ((meaning self.now).externals live.now) k ≡ Some result };
+        ensures { IfOk result (λ wanted. wanted.items ≡ (meaning self.now).externals live.now) };
 }
 
 /// The rows that matching sees.

@@ -5,7 +5,6 @@ use Rattle.std.specs.List.{list_any}
 use Rattle.std.specs.Option.{option_map_or}
 use Rattle.std.proofs.lemmas.Option.{same_Some}
 use Rattle.std.proofs.Common.{◌≡◌, ℕ, zero, suc, ◌+◌, ◌<◌, ◌≤◌, List, [], ◌∷◌, ◌++◌, map, take, drop, set, get_or, length, refl, ap, sym, ◌∙◌, add-one, add-zero, zero-add, append_assoc, arith}
-use Rattle.list_laws.proofs.Lists.{drop_some}
 
 -- whether some element from k on passes
 any_rest_suc : {X : Type 0} (test : X → Bool) (xs : List X) (k : ℕ) → k < length xs → list_any test (drop k xs) ≡ (option_map_or test (slice_get xs k) false || list_any test (drop (suc k) xs))
@@ -78,11 +77,6 @@ pub map_past : {X Y : Type 0} (g : X → Y) (f : Y → Y) (xs : List X) (k : ℕ
 map_past g f [] k h = refl
 map_past g f (x ∷ xs) zero h = absurd (omega arith)
 map_past g f (x ∷ xs) (suc k) h = ap (λ ys. g x ∷ ys) (map_past g f xs k (omega arith))
-
--- one more element is moved from what is left to what is done
-pub drop_more : {X : Type 0} (xs : List X) (k : ℕ) (x : X) (done all : List X) → slice_get xs k ≡ Some x → done ++ drop k xs ≡ all → (done ++ x ∷ []) ++ drop (k + 1) xs ≡ all
-drop_more xs k x done all there so_far =
-    append_assoc done (x ∷ []) (drop (k + 1) xs) ∙ ap (λ ys. done ++ ys) (sym (drop_some xs k x there)) ∙ so_far
 
 -- one more element is changed by a function of its number, seen through a map
 seen_numbered_suc : {X Y : Type 0} (g : X → Y) (f : ℕ → Y → Y) (n i : ℕ) (xs now : List X) (d z : X) → map g now ≡ numbered f n (map g (take i xs)) ++ map g (drop i xs) → i < length xs → g z ≡ f (n + i) (g (get_or now i d)) → map g (set now i z) ≡ numbered f n (map g (take (suc i) xs)) ++ map g (drop (suc i) xs)

@@ -60,18 +60,6 @@ fn order_of<U: UnitKind>(
     }
 }
 
-/// What a unit looks up, in symbol order.
-fn externals<U: UnitKind>(alloc: Global, unit: &U, live: &[bool]) -> Result<Vec<Wanted>, AllocError>
-    requires { length live.now ≡ length (U.meaning unit.now).offers }
-    ensures { IfOk result (λ wanted. wanted.items ≡ (U.meaning unit.now).externals live.now) }
-{
-    let mut wanted = Vec::new(alloc);
-    for k in 0..unit.external_count(live) {
-        wanted.push(unit.external(live, k))?;
-    }
-    Ok(wanted)
-}
-
 /// What a unit's externals match.
 pub fn unit_matches<U: UnitKind>(
     alloc: Global,
@@ -83,7 +71,7 @@ pub fn unit_matches<U: UnitKind>(
     ensures { IfOk result (λ found. found.items ≡ link_matches (meant U.meaning s.now) (unit_row U.meaning x.now)) }
 {
     let order = order_of(alloc, s, x)?;
-    let wanted = externals(alloc, &x.unit, x.live.as_slice())?;
+    let wanted = x.unit.externals(alloc, x.live.as_slice())?;
     matches(alloc, s, &order, &wanted)
 }
 
@@ -98,7 +86,7 @@ fn unit_refusal<U: UnitKind>(
     ensures { IfOk result (λ reply. reply ≡ refused_lookup (meant U.meaning s.now) (link_order (meant U.meaning s.now) (unit_row U.meaning x.now)) ((U.meaning x.now.unit).externals x.now.live)) }
 {
     let order = order_of(alloc, s, x)?;
-    let wanted = externals(alloc, &x.unit, x.live.as_slice())?;
+    let wanted = x.unit.externals(alloc, x.live.as_slice())?;
     Ok(refusal(s, &order, &wanted))
 }
 

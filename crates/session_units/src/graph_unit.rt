@@ -108,11 +108,7 @@ impl UnitKind for GraphUnit {
         self.parts.address(k, base)
     }
 
-    fn external_count(&self, live: &[bool]) -> u32 {
-        self.parts.external_count(live)
-    }
-
-    fn external(&self, live: &[bool], k: u32) -> Wanted {
-        self.parts.external(live, k)
+    fn externals(&self, alloc: Global, live: &[bool]) -> Result<Vec<Wanted>, AllocError> {
+        self.parts.externals(alloc, live)
     }
 }

@@ -1,4 +1,4 @@
-ghost use Rattle.std.specs.Prelude.{◌≡◌, ◌<◌, ◌%◌, ◌^◌, [], None, length, slice_get, count_by, IfOk, IfErr};
+ghost use Rattle.std.specs.Prelude.{◌≡◌, ◌<◌, ◌%◌, ◌^◌, [], None, length, map, slice_get, count_by, IfOk, IfErr};
 ghost use Rattle.unit_fixups.specs.Refusal.{Refuses};
 ghost use Rattle.session_units.specs.Meaning.{instances, addresses};
 ghost use Rattle.block_groups.specs.Groups.{groups_of};
@@ -119,20 +119,11 @@ impl Parts {
         finish_graph(alloc, &self.graph, &self.plan, live, base, bound, own)
     }
 
-    pub(crate) fn external_count(&self, live: &[bool]) -> u32
-        ensures { result ≡ length (wanted_by self.now live.now) }
+    pub(crate) fn externals(&self, alloc: Global, live: &[bool]) -> Result<Vec<Wanted>, AllocError>
+        ensures { IfOk result (λ wanted. wanted.items ≡ wanted_by self.now live.now) }
     {
-        self.plan.external_count(&self.graph, live) as u32
-    }
-
-    pub(crate) fn external(&self, live: &[bool], k: u32) -> Wanted
-        requires { k < length (wanted_by self.now live.now) }
-        ensures { slice_get (wanted_by self.now live.now) k ≡ Some result }
-    {
-        match self.plan.external(&self.graph, live, k as usize) {
-            Some(symbol) => wanted_at(&self.graph, symbol),
-            None => wanted_at(&self.graph, 0),
-        }
+        let symbols = self.plan.externals(alloc, &self.graph, live)?;
+        Ok(all_wanted(alloc, &self.graph, symbols.as_slice())?)
     }
 }
 
@@ -175,4 +166,15 @@ fn wanted_at(g: &LinkGraph, symbol: u32) -> Wanted
             weak: false,
         },
     }
+}
+
+/// What the unit wants by the symbols of these numbers.
+fn all_wanted(alloc: Global, g: &LinkGraph, symbols: &[u32]) -> Result<Vec<Wanted>, AllocError>
+    ensures { IfOk result (λ wanted. wanted.items ≡ map (λ s. wanted_of (at_or no_symbol g.now.symbols s)) symbols.now) }
+{
+    let mut wanted = Vec::with_capacity(alloc, symbols.len())?;
+    for symbol in symbols {
+        wanted.push_reserved(wanted_at(g, *symbol));
+    }
+    Ok(wanted)
 }

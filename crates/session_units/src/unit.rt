@@ -143,19 +143,11 @@ impl UnitKind for ObjectUnit {
         }
     }
 
-    fn external_count(&self, live: &[bool]) -> u32 {
+    fn externals(&self, alloc: Global, live: &[bool]) -> Result<Vec<Wanted>, AllocError> {
         match self {
-            ObjectUnit::Graph(unit) => unit.external_count(live),
-            ObjectUnit::Absolutes(_) => 0,
-            ObjectUnit::Alias(unit) => unit.external_count(live),
-        }
-    }
-
-    fn external(&self, live: &[bool], k: u32) -> Wanted {
-        match self {
-            ObjectUnit::Graph(unit) => unit.external(live, k),
-            ObjectUnit::Absolutes(_) => unreachable!(),
-            ObjectUnit::Alias(unit) => unit.external(live, k),
+            ObjectUnit::Graph(unit) => unit.externals(alloc, live),
+            ObjectUnit::Absolutes(_) => Ok(Vec::new(alloc)),
+            ObjectUnit::Alias(unit) => unit.externals(alloc, live),
         }
     }
 }

@@ -122,7 +122,7 @@ fn finished(
     if unit.count() as usize != live.len() || live_count(live) != own.len() {
         return Err(Fail::from("other names"));
     }
-    if unit.external_count(live) as usize != bound.len() {
+    if unit.externals(alloc, live)?.len() != bound.len() {
         return Err(Fail::from("other externals"));
     }
     Ok(finish(alloc, unit, live, 0x1000_0000, bound, own))
@@ -140,7 +140,7 @@ fn the_unit_of_the_file(rt: HostRuntime) -> Result<(), Fail> {
     assert_eq!(rt; shape.need, 48);
     assert_eq!(rt; shape.align, 16);
     assert_eq!(rt; unit.address(0, 0x1000_0000), 0x1000_0000);
-    assert_eq!(rt; unit.external_count(&[true]), 0);
+    assert!(rt; unit.externals(alloc, &[true])?.is_empty());
     let other = unit.share(alloc)?;
     assert_eq!(rt; other.name(), UnitName::Object(0));
     Ok(())
@@ -171,12 +171,11 @@ fn a_call_of_another_unit(rt: HostRuntime) -> Result<(), Fail> {
     assert_eq!(rt; unit.count(), 0);
     let shape = unit.shape(&[]).ok_or("no shape")?;
     assert_eq!(rt; shape.need, 80);
-    assert_eq!(rt; unit.external_count(&[]), 1);
     let wanted = Wanted {
         name: NameId(0),
         weak: false,
     };
-    assert_eq!(rt; unit.external(&[], 0), wanted);
+    assert_eq!(rt; unit.externals(alloc, &[])?.as_slice(), [wanted].as_slice());
     assert!(rt; !unit.stands_alone(alloc, &[])?);
     Ok(())
 }

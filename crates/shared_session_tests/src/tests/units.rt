@@ -84,14 +84,14 @@ impl UnitKind for Named {
         base
     }
 
-    fn external_count(&self, live: &[bool]) -> u32 {
-        if live[0] { 0 } else { 1 }
-    }
-
-    fn external(&self, _live: &[bool], _k: u32) -> Wanted {
-        Wanted {
-            name: self.name,
-            weak: false,
+    fn externals(&self, alloc: Global, live: &[bool]) -> Result<Vec<Wanted>, AllocError> {
+        let mut wanted = Vec::new(alloc);
+        if !live[0] {
+            wanted.push(Wanted {
+                name: self.name,
+                weak: false,
+            })?;
         }
+        Ok(wanted)
     }
 }
