@@ -1,12 +1,9 @@
 //! One job: it is taken and carried to its end.
 ghost use Rattle.std.specs.Prelude.{◌≡◌, false, length, None, IfSome, IfNone, is_none, is_some};
 ghost use Rattle.materialization.specs.Stages.{first};
-ghost use Rattle.materialization.specs.declared.stage.Stage.TheVariants as stage;
 ghost use Rattle.turn_lock.specs.Handles.{view, turn_id, IsReady};
-ghost use Rattle.link_worker.specs.Does.{Does};
 ghost use Rattle.link_worker.specs.Jobs.{IsHandedOut, IsJobAt, bound_in, is_cut, unit_in};
-ghost use Rattle.link_worker.specs.Units.{own_refusal};
-ghost use Rattle.link_worker.specs.Works.{Carries, HasBegun, HasWorked, IsFree, WasStopped, WorksOn, worked_by, worked_stopped};
+ghost use Rattle.link_worker.specs.Works.{Ends, HasBegun, HasWorked, IsFree, WasStopped, WorksOn, worked_by, worked_stopped};
 
 use crate::job::Job;
 use crate::unit::LinkedUnit;
@@ -130,7 +127,7 @@ impl<U: LinkedUnit> Job<U> {
         requires spares { is_cut first ≡ false }
         ensures ready { IsReady (turn_id shared.now) pass.new }
         ensures free { IsFree U.meaning (view pass.new) }
-        ensures carried { Does U.meaning N.heard (view pass.old) (view pass.new) fired.old fired.new (Carries self.now.unit (own_refusal U.meaning self.now) first stage.Over (is_none result)) }
+        ensures carried { Ends U.meaning N.heard JMAX (view pass.old) (view pass.new) fired.old fired.new self.now first (is_none result) }
         ensures stopped { IfSome result (WasStopped U.meaning JMAX (view pass.old).seen (view pass.new).seen) }
     {
         let mut stage = first;
