@@ -70,6 +70,14 @@ impl Image {
         self.segments.len() as u32
     }
 
+    /// Its ranges.
+    pub fn segments(&self) -> &[Segment]
+        ensures list { result.now ≡ self.now }
+        ensures apart { AreSegments self.now }
+    {
+        self.segments.as_slice()
+    }
+
     /// The first address of range k.
     pub fn base(&self, k: u32) -> u64
         requires { k < length self.now }
