@@ -7,7 +7,7 @@ use Rattle.code_memory.specs.Gaps.{between, end_of, gaps_below, last_end}
 use Rattle.code_memory.specs.Places.{AreBetween}
 use Rattle.code_memory.proofs.Compared.{below_is, not_below}
 
-abbrev gap_of : ℕ → ℕ → Gap
+abbrev pub gap_of : ℕ → ℕ → Gap
 gap_of start end = record { start = start; end = end }
 
 pub between_some : (start end : ℕ) → start < end → between start end ≡ record { start = start; end = end } ∷ []

@@ -123,21 +123,20 @@ taken_above low p (q ∷ qs) gs now last base end at cut kept place full written
     absurd (omega (arith, full, place, ap length open_gap, length-append A (gap_of s q.base ∷ gaps_below (end_of q) qs)))
 
 -- a range taken from a gap between two placements
-pub taken_between : (low : List Placement) (p : Placement) (high : List Placement) (gs rest mid now : List Gap) (gap : Gap) (last base end at : ℕ) → IsCut low p high base end → AreGaps gs last (low ++ high) → at ≡ length (gaps_below CODE_START low) → at ≢ length gs →
-    gap ≡ get_or gs at gap → rest ≡ take at gs ++ drop (suc at) gs → mid ≡ take at rest ++ (between end gap.end ++ drop at rest) → now ≡ take at mid ++ (between gap.start base ++ drop at mid) → AreGaps now last (low ++ p ∷ high)
-taken_between low p [] gs rest mid now gap last base end at cut kept place less read left first second =
+pub taken_between : (low : List Placement) (p : Placement) (high : List Placement) (gs mid now : List Gap) (gap : Gap) (last base end at : ℕ) → IsCut low p high base end → AreGaps gs last (low ++ high) → at ≡ length (gaps_below CODE_START low) → at ≢ length gs →
+    gap ≡ get_or gs at gap → mid ≡ take at gs ++ (between end gap.end ++ drop (suc at) gs) → now ≡ take at mid ++ (between gap.start base ++ drop at mid) → AreGaps now last (low ++ p ∷ high)
+taken_between low p [] gs mid now gap last base end at cut kept place less read first second =
     let A = gaps_below CODE_START low in
     let is : gs ≡ A ++ [] = kept.below ∙ gaps-append CODE_START low [] in
     absurd (less (let e : at ≡ length gs = omega (arith, place, ap length is, length-append A []) in e))
-taken_between low p (q ∷ qs) gs rest mid now gap last base end at cut kept place less read left first second =
+taken_between low p (q ∷ qs) gs mid now gap last base end at cut kept place less read first second =
     let A = gaps_below CODE_START low in
     let s = last_end CODE_START low in
     let R = gaps_below (end_of q) qs in
     let around = apart_around CODE_START low p (q ∷ qs) CODE_END cut.apart in
     let is : gs ≡ A ++ gap_of s q.base ∷ R = kept.below ∙ gaps-append CODE_START low (q ∷ qs) ∙ ap (λ g. A ++ (g ++ R)) (between_some s q.base (omega (arith, around.0, around.1, around.2.0))) in
     let gap_is : gap ≡ gap_of s q.base = read ∙ ap (λ g. get_or g at gap) is ∙ get_or_at A (gap_of s q.base) R gap at (sym place) in
-    let rest_is : rest ≡ A ++ R = left ∙ ap (λ g. take at g ++ drop (suc at) g) is ∙ ap (λ f. f ++ drop (suc at) (A ++ gap_of s q.base ∷ R)) (take_at A (gap_of s q.base ∷ R) at (sym place)) ∙ ap (λ r. A ++ r) (drop_next A (gap_of s q.base) R at (sym place)) in
-    let mid_is : mid ≡ A ++ (between end q.base ++ R) = first ∙ ap (λ r. take at r ++ (between end gap.end ++ drop at r)) rest_is ∙ ap (λ f. f ++ (between end gap.end ++ drop at (A ++ R))) (take_at A R at (sym place)) ∙ ap (λ r. A ++ (between end gap.end ++ r)) (drop_at A R at (sym place)) ∙ ap (λ (g : Gap). A ++ (between end g.end ++ R)) gap_is in
+    let mid_is : mid ≡ A ++ (between end q.base ++ R) = first ∙ ap (λ g. take at g ++ (between end gap.end ++ drop (suc at) g)) is ∙ ap (λ f. f ++ (between end gap.end ++ drop (suc at) (A ++ gap_of s q.base ∷ R))) (take_at A (gap_of s q.base ∷ R) at (sym place)) ∙ ap (λ r. A ++ (between end gap.end ++ r)) (drop_next A (gap_of s q.base) R at (sym place)) ∙ ap (λ (g : Gap). A ++ (between end g.end ++ R)) gap_is in
     let now_is : now ≡ A ++ (between s base ++ (between end q.base ++ R)) = second ∙ ap (λ r. take at r ++ (between gap.start base ++ drop at r)) mid_is ∙ ap (λ f. f ++ (between gap.start base ++ drop at (A ++ (between end q.base ++ R)))) (take_at A (between end q.base ++ R) at (sym place)) ∙ ap (λ r. A ++ (between gap.start base ++ r)) (drop_at A (between end q.base ++ R) at (sym place)) ∙ ap (λ (g : Gap). A ++ (between g.start base ++ (between end q.base ++ R))) gap_is in
     record {
       below = now_is ∙ ap (λ b. A ++ (between s b ++ (between end q.base ++ R))) cut.starts ∙ ap (λ e. A ++ (between s p.base ++ (between e q.base ++ R))) cut.ends ∙ sym (gaps-append CODE_START low (p ∷ q ∷ qs));

@@ -134,18 +134,18 @@ taken_is : (u : UnitId) (placed now : List (ℕ × Placement)) (bases : Bases) (
 taken_is u placed now bases gaps room last p tied o written =
     written ∙ ap (remove_entry (is_at (nat_cmp p.base))) (tied.by_base ∙ ap keyed o.split) ∙ remove-at CODE_START o.front p o.back CODE_END (subst (λ ps. AreBetween CODE_START ps CODE_END) o.split tied.laid_out.apart)
 
-pub tied_free : (u : UnitId) (placed now : List (ℕ × Placement)) (bases next : Bases) (gaps left : List Gap) (room last top : ℕ) (p : Placement) → IsTied placed bases gaps room last → (is : IsHere u placed bases p) → now ≡ remove_entry (is_at (nat_cmp p.base)) placed →
-    ((v : ℕ) → get nat_eq next v ≡ cond (nat_eq u.0 v) None (get nat_eq bases v)) → AreGaps left top (is.owned.front ++ is.owned.back) → IsTied now next left room top
-tied_free u placed now bases next gaps left room last top p tied is written dropped filled =
+pub tied_free : (u : UnitId) (placed now : List (ℕ × Placement)) (bases next : Bases) (gaps left : List Gap) (room wide last top : ℕ) (p : Placement) → IsTied placed bases gaps room last → (is : IsHere u placed bases p) → now ≡ remove_entry (is_at (nat_cmp p.base)) placed →
+    ((v : ℕ) → get nat_eq next v ≡ cond (nat_eq u.0 v) None (get nat_eq bases v)) → AreGaps left top (is.owned.front ++ is.owned.back) → room ≤ wide → IsTied now next left wide top
+tied_free u placed now bases next gaps left room wide last top p tied is written dropped filled wider =
     let o = is.owned in
     let same : u.0 ≡ p.unit.0 = sym (eqb-true p.unit.0 u.0 o.own) in
     let none : (xs : List Placement) → find (is_of u) xs ≡ None → find (is_of p.unit) xs ≡ None = λ xs h. subst (λ k. find (λ (q : Placement). nat_eq q.unit.0 k) xs ≡ None) same h in
     let count : length (values_of placed) ≡ length placed = count_is placed in
-    tie now (o.front ++ o.back) next left room top (taken_is u placed now bases gaps room last p tied o written)
+    tie now (o.front ++ o.back) next left wide top (taken_is u placed now bases gaps room last p tied o written)
     (known-remove bases next o.front p o.back (subst (AreKnown bases) o.split tied.known) (none o.front o.before) (none o.back o.after) (λ v. dropped v ∙ ap (λ k. cond (nat_eq k v) None (get nat_eq bases v)) same))
     filled
     (λ some. let more : length placed ≡ length (o.front ++ o.back) + 1 = omega (arith, count, ap length o.split, length-append o.front (p ∷ o.back), length-append o.front o.back) in
-    let any : 0 < length placed = omega (arith, more) in omega (arith, more, tied.spare any))
+    let any : 0 < length placed = omega (arith, more) in omega (arith, more, tied.spare any, wider))
     (laid_out-remove o.front p o.back (subst AreLaidOut o.split tied.laid_out))
 
 pub values_left : (u : UnitId) (placed now : List (ℕ × Placement)) (bases : Bases) (gaps : List Gap) (room last : ℕ) (p : Placement) → IsTied placed bases gaps room last → (is : IsHere u placed bases p) → now ≡ remove_entry (is_at (nat_cmp p.base)) placed →

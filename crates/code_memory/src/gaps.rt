@@ -1,8 +1,11 @@
-ghost use Rattle.std.specs.Prelude.{◌≡◌, ◌<◌, ◌≤◌, ◌++◌, length, take, drop, vec_len, vec_capacity, option_map};
+ghost use Rattle.std.specs.Prelude.{◌≡◌, ◌^◌, ◌<◌, ◌≤◌, ◌++◌, ◌+◌, length, take, drop, slice_index_or, OnOk};
 ghost use Rattle.std.specs.List.Sorted.{IsNonDecreasingBy};
+ghost use Rattle.std.specs.VecDeque.{deque_len, deque_capacity};
 ghost use Rattle.code_memory.specs.Gaps.{between, base_in, first_fit, with_rest, ending_below, start_to, rest_to, end_from, rest_from};
 
 use orc_ids::{CODE_END, Shape};
+use std::alloc::AllocError;
+use std::collections::VecDeque;
 
 /// Addresses between two ranges that are taken, of which there is at least one.
 #[derive(Clone, Copy)]
@@ -25,12 +28,12 @@ impl Gap {
 
 /// The first gap that the shape fits into, and its base there. The number after those of the gaps
 /// stands for what is above the last range.
-pub(crate) fn find_fit(gaps: &[Gap], last: u64, shape: Shape) -> Option<(usize, u64)>
+pub(crate) fn find_fit(gaps: &VecDeque<Gap>, last: u64, shape: Shape) -> Option<(usize, u64)>
     requires { 0 < shape.align }
-    ensures { result ≡ first_fit shape 0 (with_rest gaps.now last) }
+    ensures { result ≡ first_fit shape 0 (with_rest gaps.now.items last) }
 {
-    for (at, gap) in gaps.iter().enumerate() {
-        if let Some(base) = gap.base_for(shape) {
+    for at in 0..gaps.len() {
+        if let Some(base) = gaps[at].base_for(shape) {
             return Some((at, base));
         }
     }
@@ -45,52 +48,96 @@ pub(crate) fn find_fit(gaps: &[Gap], last: u64, shape: Shape) -> Option<(usize, 
 }
 
 /// How many gaps end below an address.
-pub(crate) fn count_below(gaps: &[Gap], at: u64) -> usize
-    requires { IsNonDecreasingBy (λ g. g.end) gaps.now }
-    ensures count { result ≡ ending_below at gaps.now }
-    ensures within { result ≤ length gaps.now }
+pub(crate) fn count_below(gaps: &VecDeque<Gap>, at: u64) -> usize
+    requires { IsNonDecreasingBy (λ g. g.end) gaps.now.items }
+    ensures count { result ≡ ending_below at gaps.now.items }
+    ensures within { result ≤ deque_len gaps.now }
 {
     gaps.partition_point(|gap| gap.end < at)
 }
 
+/// Makes room for the gaps of one placement more than there are, and for the gap that each of them
+/// leaves; so much that this is seldom needed.
+pub(crate) fn make_room(gaps: &mut VecDeque<Gap>, placed: usize) -> Result<(), AllocError>
+    requires { placed < 2 ^ 62 }
+    ensures items { gaps.new.items ≡ gaps.old.items }
+    ensures len { deque_len gaps.new ≡ deque_len gaps.old }
+    ensures capacity { deque_capacity gaps.old ≤ deque_capacity gaps.new }
+    ensures room { OnOk result (placed + 1 < deque_capacity gaps.new) }
+{
+    if placed + 1 < gaps.capacity() {
+        return Ok(());
+    }
+    gaps.reserve(2 * placed + 2)
+}
+
 /// Puts the gap between two addresses before the gap number `at`, if there is one; takes no memory.
-pub(crate) fn add_gap(gaps: &mut Vec<Gap>, at: usize, start: u64, end: u64)
-    requires at { at ≤ vec_len gaps.old }
-    requires room { vec_len gaps.old < vec_capacity gaps.old }
+pub(crate) fn add_gap(gaps: &mut VecDeque<Gap>, at: usize, start: u64, end: u64)
+    requires at { at ≤ deque_len gaps.old }
+    requires room { deque_len gaps.old < deque_capacity gaps.old }
     ensures items { gaps.new.items ≡ take at gaps.old.items ++ (between start end ++ drop at gaps.old.items) }
-    ensures capacity { vec_capacity gaps.new ≡ vec_capacity gaps.old }
+    ensures capacity { deque_capacity gaps.old ≤ deque_capacity gaps.new }
 {
     if start < end {
         let _ = gaps.insert(at, Gap { start, end });
     }
 }
 
+/// Leaves of the gap number `at` what is above `start`, in its place; the answer is the gap as it was.
+pub(crate) fn raise_start(gaps: &mut VecDeque<Gap>, at: usize, start: u64) -> Gap
+    requires { at < deque_len gaps.old }
+    ensures gap { result ≡ slice_index_or gaps.old.items at result }
+    ensures items { gaps.new.items ≡ take at gaps.old.items ++ (between start result.end ++ drop (at + 1) gaps.old.items) }
+    ensures at { at ≤ deque_len gaps.new }
+    ensures len { deque_len gaps.new ≤ deque_len gaps.old }
+    ensures capacity { deque_capacity gaps.new ≡ deque_capacity gaps.old }
+{
+    let gap = gaps[at];
+    if start < gap.end {
+        gaps[at] = Gap {
+            start,
+            end: gap.end,
+        };
+        return gap;
+    }
+    let _ = gaps.remove(at);
+    gap
+}
+
 /// Takes out the gap number `at` if it ends at `end`, and tells where it started; else `end`.
-pub(crate) fn take_ending(gaps: &mut Vec<Gap>, at: usize, end: u64) -> u64
-    requires { at ≤ vec_len gaps.old }
+pub(crate) fn take_ending(gaps: &mut VecDeque<Gap>, at: usize, end: u64) -> u64
+    requires { at ≤ deque_len gaps.old }
     ensures start { result ≡ start_to end (drop at gaps.old.items) }
     ensures items { gaps.new.items ≡ take at gaps.old.items ++ rest_to end (drop at gaps.old.items) }
-    ensures at { at ≤ vec_len gaps.new }
-    ensures len { vec_len gaps.new ≤ vec_len gaps.old }
-    ensures capacity { vec_capacity gaps.new ≡ vec_capacity gaps.old }
+    ensures at { at ≤ deque_len gaps.new }
+    ensures len { deque_len gaps.new ≤ deque_len gaps.old }
+    ensures capacity { deque_capacity gaps.new ≡ deque_capacity gaps.old }
 {
     match gaps.get(at) {
-        Some(gap) if gap.end == end => gaps.remove(at).start,
+        Some(gap) if gap.end == end => {
+            let start = gap.start;
+            let _ = gaps.remove(at);
+            start
+        }
         _ => end,
     }
 }
 
 /// Takes out the gap number `at` if it starts at `start`, and tells where it ended; else `start`.
-pub(crate) fn take_starting(gaps: &mut Vec<Gap>, at: usize, start: u64) -> u64
-    requires { at ≤ vec_len gaps.old }
+pub(crate) fn take_starting(gaps: &mut VecDeque<Gap>, at: usize, start: u64) -> u64
+    requires { at ≤ deque_len gaps.old }
     ensures end { result ≡ end_from start (drop at gaps.old.items) }
     ensures items { gaps.new.items ≡ take at gaps.old.items ++ rest_from start (drop at gaps.old.items) }
-    ensures at { at ≤ vec_len gaps.new }
-    ensures len { vec_len gaps.new ≤ vec_len gaps.old }
-    ensures capacity { vec_capacity gaps.new ≡ vec_capacity gaps.old }
+    ensures at { at ≤ deque_len gaps.new }
+    ensures len { deque_len gaps.new ≤ deque_len gaps.old }
+    ensures capacity { deque_capacity gaps.new ≡ deque_capacity gaps.old }
 {
     match gaps.get(at) {
-        Some(gap) if gap.start == start => gaps.remove(at).end,
+        Some(gap) if gap.start == start => {
+            let end = gap.end;
+            let _ = gaps.remove(at);
+            end
+        }
         _ => start,
     }
 }

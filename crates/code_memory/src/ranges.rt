@@ -1,6 +1,7 @@
-ghost use Rattle.std.specs.Prelude.{◌≡◌, ℕ, List, ◌+◌, ◌<◌, ◌≤◌, ◌∷◌, [], ◌++◌, cond, Some, None, length, take, vec_len, vec_capacity, nat_eq, IsSome, is_some, IfOk, OnOk, OnErr};
+ghost use Rattle.std.specs.Prelude.{◌≡◌, ℕ, List, ◌+◌, ◌<◌, ◌≤◌, ◌∷◌, [], ◌++◌, cond, Some, None, length, take, nat_eq, IsSome, is_some, IfOk, OnOk, OnErr};
 ghost use Rattle.std.specs.Ordering.{nat_cmp};
 ghost use Rattle.std.specs.List.Sorted.{IsNonDecreasingBy};
+ghost use Rattle.std.specs.VecDeque.{deque_len, deque_capacity};
 ghost use Rattle.std.specs.HashMap.{get};
 ghost use Rattle.std.specs.Map.{remove_entry, set_value, values_of};
 ghost use Rattle.std.specs.BTreeMap as tree;
@@ -14,12 +15,12 @@ ghost use Rattle.code_memory.specs.Mapped.{AreSegments};
 ghost use Rattle.code_memory.specs.Places.{AreBetween, deposits, AreLaidOut};
 ghost use Rattle.code_memory.specs.declared.placement.Placement.{Placement};
 
-use crate::gaps::{Gap, add_gap, count_below, take_ending, take_starting};
+use crate::gaps::{Gap, add_gap, count_below, raise_start, take_ending, take_starting};
 use crate::image::Segment;
 use crate::placement::Placement;
 use orc_ids::Bytes;
 use std::alloc::{AllocError, Global};
-use std::collections::{BTreeMap, HashMap};
+use std::collections::{BTreeMap, HashMap, VecDeque};
 
 /// Keeps a placement at its base, and the base at its unit.
 pub(crate) fn record(
@@ -71,30 +72,29 @@ pub(crate) fn is_deposited(placed: &BTreeMap<u64, Placement>, base: u64) -> bool
 
 /// Takes a range out of the gap number `at`, where the number after those of the gaps stands for
 /// what is above the last range. The answer is where the last range ends then.
-pub(crate) fn take_out(gaps: &mut Vec<Gap>, last: u64, at: usize, base: u64, end: u64) -> u64
-    requires at { at ≤ vec_len gaps.old }
-    requires room { vec_len gaps.old + 1 < vec_capacity gaps.old }
+pub(crate) fn take_out(gaps: &mut VecDeque<Gap>, last: u64, at: usize, base: u64, end: u64) -> u64
+    requires at { at ≤ deque_len gaps.old }
+    requires room { deque_len gaps.old < deque_capacity gaps.old }
     ensures gaps { (low : List Placement) (p : Placement) (high : List Placement) → IsCut low p high base end → AreGaps gaps.old.items last (low ++ high) → at ≡ length (gaps_below CODE_START low) → AreGaps gaps.new.items result (low ++ p ∷ high) }
-    ensures capacity { vec_capacity gaps.new ≡ vec_capacity gaps.old }
+    ensures capacity { deque_capacity gaps.old ≤ deque_capacity gaps.new }
 {
     if at == gaps.len() {
         add_gap(gaps, at, last, base);
         return end;
     }
-    let gap = gaps.remove(at);
-    add_gap(gaps, at, end, gap.end);
+    let gap = raise_start(gaps, at, end);
     add_gap(gaps, at, gap.start, base);
     last
 }
 
 /// Gives a range back. The answer is where the last range that is left ends.
-pub(crate) fn give_back(gaps: &mut Vec<Gap>, last: u64, base: u64, end: u64) -> u64
-    requires room { vec_len gaps.old < vec_capacity gaps.old }
+pub(crate) fn give_back(gaps: &mut VecDeque<Gap>, last: u64, base: u64, end: u64) -> u64
+    requires room { deque_len gaps.old < deque_capacity gaps.old }
     requires rising { IsNonDecreasingBy (λ g. g.end) gaps.old.items }
     ensures gaps { (low : List Placement) (p : Placement) (high : List Placement) → IsCut low p high base end → AreGaps gaps.old.items last (low ++ p ∷ high) → AreGaps gaps.new.items result (low ++ high) }
-    ensures capacity { vec_capacity gaps.new ≡ vec_capacity gaps.old }
+    ensures capacity { deque_capacity gaps.old ≤ deque_capacity gaps.new }
 {
-    let at = count_below(gaps.as_slice(), base);
+    let at = count_below(gaps, base);
     let start = take_ending(gaps, at, base);
     if end == last {
         return start;

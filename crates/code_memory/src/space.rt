@@ -2,14 +2,14 @@ ghost use Rattle.std.specs.Prelude.{◌≡◌, ◌+◌, ◌<◌, [], length, nat
 ghost use Rattle.std.specs.Int.{IsPowerOfTwo};
 ghost use Rattle.code_memory.specs.Places.{placement_of, IsLowestFree, IsRefused, with_range, with_bytes, without, deposits, AreLaidOut};
 
-use crate::gaps::{Gap, find_fit};
+use crate::gaps::{Gap, find_fit, make_room};
 use crate::image::Image;
 use crate::last_image::LastImage;
 use crate::placement::Placement;
 use crate::ranges::{fill, give_back, record, take_at, take_out};
 use orc_ids::{Bytes, CODE_START, Shape, UnitId};
 use std::alloc::{AllocError, Global};
-use std::collections::{BTreeMap, HashMap};
+use std::collections::{BTreeMap, HashMap, VecDeque};
 use std::marker::Model;
 use thiserror::Error;
 
@@ -28,7 +28,7 @@ pub struct Space {
     alloc: Global,
     placed: BTreeMap<u64, Placement>,
     bases: HashMap<u32, u64>,
-    gaps: Vec<Gap>,
+    gaps: VecDeque<Gap>,
     last: u64,
     shown: LastImage,
 }
@@ -39,13 +39,13 @@ impl Model for Space {
 
     ghost Value = { List Placement };
 
-    ghost use Rattle.std.specs.Prelude.{vec_capacity};
+    ghost use Rattle.std.specs.VecDeque.{deque_capacity};
     ghost use Rattle.std.specs.BTreeMap.{values};
     ghost use Rattle.code_memory.specs.Kept.{IsSpace};
 
     ghost view = { λ s. values s.placed };
 
-    ghost invariant = { λ s. IsSpace s.placed.entries s.bases s.gaps.items (vec_capacity s.gaps) s.last s.shown };
+    ghost invariant = { λ s. IsSpace s.placed.entries s.bases s.gaps.items (deque_capacity s.gaps) s.last s.shown };
 }
 
 impl Space {
@@ -57,7 +57,7 @@ impl Space {
             alloc,
             placed: BTreeMap::new(alloc),
             bases: HashMap::new(alloc),
-            gaps: Vec::new(alloc),
+            gaps: VecDeque::new(alloc),
             last: CODE_START,
             shown: LastImage::new(),
         }
@@ -75,11 +75,10 @@ impl Space {
         ensures err { OnErr result (self.new ≡ self.old) }
         ensures laid_out { AreLaidOut self.new }
     {
-        let Some((at, base)) = find_fit(self.gaps.as_slice(), self.last, shape) else {
+        let Some((at, base)) = find_fit(&self.gaps, self.last, shape) else {
             return Err(SpaceError::NoRoom(shape.need));
         };
-        let room = self.placed.len() + 2 - self.gaps.len();
-        if self.gaps.reserve(room).is_err() {
+        if make_room(&mut self.gaps, self.placed.len()).is_err() {
             return Err(SpaceError::NoMemory);
         }
         let placement = Placement {

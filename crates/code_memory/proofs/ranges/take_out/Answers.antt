@@ -10,6 +10,6 @@ returns-then-at-len-clause-gaps c = λ low p high cut kept place.
 
 pub returns-clause-gaps : goal.returns-clause-gaps
 returns-clause-gaps c = λ low p high cut kept place.
-    taken_between low p high c.args.gaps.now.items c.remove-gap.new.self.items c.add_gap-2.new.gaps.items c.add_gap-3.new.gaps.items c.remove-gap.result c.args.last c.args.base c.args.end c.args.at cut kept place
+    taken_between low p high c.args.gaps.now.items c.raise_start-gap.new.gaps.items c.add_gap-2.new.gaps.items c.raise_start-gap.result c.args.last c.args.base c.args.end c.args.at cut kept place
     (λ e. c.if-at-len.false (let same : c.args.at ≡ c.len.result = omega (arith, e, c.args.gaps.now.ok.0, c.len.ensures) in same))
-    c.remove-gap.ensures.value (rw add-one at c.remove-gap.ensures.by_index.2) c.add_gap-2.ensures.items c.add_gap-3.ensures.items
+    c.raise_start-gap.ensures.gap (rw add-one at c.raise_start-gap.ensures.items) c.add_gap-2.ensures.items
