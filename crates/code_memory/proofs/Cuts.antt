@@ -10,10 +10,7 @@ use Rattle.code_memory.specs.Gaps.{between, end_of, gaps_below, last_end, ending
 use Rattle.code_memory.specs.Kept.{AreGaps, IsCut}
 use Rattle.code_memory.specs.Places.{AreBetween}
 use Rattle.code_memory.proofs.Compared.{below_is, not_below, below_or, apart_is}
-use Rattle.code_memory.proofs.Between.{between_some, between_none, gaps-append, last-append, apart_around, apart_front, last_from}
-
-abbrev gap_of : ℕ → ℕ → Gap
-gap_of start end = record { start = start; end = end }
+use Rattle.code_memory.proofs.Between.{gap_of, between_some, between_none, gaps-append, last-append, apart_around, apart_front, last_from}
 
 -- the first gap above an address, if there is one, neither ends nor starts below it
 none_ends : (at low : ℕ) (ps : List Placement) (high : ℕ) → AreBetween low ps high → at ≤ low → ending_below at (gaps_below low ps) ≡ 0

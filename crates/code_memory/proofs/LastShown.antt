@@ -7,26 +7,16 @@ use Rattle.orc_ids.specs.declared.ids.UnitId.{UnitId}
 use Rattle.orc_ids.specs.declared.limits.TheConstants.{CODE_START}
 use Rattle.orc_ids.specs.declared.place.Shape.{Shape}
 use Rattle.code_memory.specs.declared.gaps.Gap.{Gap}
-use Rattle.code_memory.specs.declared.image.Segment.{Segment}
 use Rattle.code_memory.specs.declared.last_image.LastImage.{LastImage}
 use Rattle.code_memory.specs.declared.placement.Placement.{Placement}
 use Rattle.code_memory.specs.Kept.{Bases, keyed, IsTied}
-use Rattle.code_memory.specs.LastImage.{based_below, IsLastOf}
+use Rattle.code_memory.specs.LastImage.{based_below, IsLastOf, Touches, Leaves}
 use Rattle.code_memory.specs.Places.{deposits}
 use Rattle.code_memory.proofs.Changed.{deposits-silent, below-set}
 use Rattle.code_memory.proofs.Entries.{values-keyed}
 use Rattle.code_memory.proofs.Fits.{IsFit}
 use Rattle.code_memory.proofs.LaidOut.{with}
 use Rattle.code_memory.proofs.Tied.{IsHere, new, values_filled, values_left}
-
--- of what `touch` ensures
-abbrev pub Touches : ℕ → LastImage → LastImage → Type 0
-Touches base last next = (was now : List Segment) → IsLastOf last was → based_below base was ≡ based_below base now → IsLastOf next now
-
--- of what `leave` ensures
-abbrev pub Leaves : List (ℕ × Placement) → ℕ → LastImage → LastImage → Type 0
-Leaves placed base last next =
-    (low : List Placement) (p : Placement) (high : List Placement) → lookup (is_at (nat_cmp base)) placed ≡ Some p → base ≡ p.base → IsLastOf last (deposits (low ++ p ∷ high)) → IsLastOf next (deposits (low ++ high))
 
 pub last_placed : (u : UnitId) (shape : Shape) (placed now : List (ℕ × Placement)) (at base : ℕ) (last : LastImage) → (fit : IsFit CODE_START (values_of placed) shape 0 at base) → now ≡ keyed (fit.front ++ new u shape base ∷ fit.back) → IsLastOf last (deposits (values_of placed)) → IsLastOf last (deposits (values_of now))
 last_placed u shape placed now at base last fit is shown =

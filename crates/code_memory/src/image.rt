@@ -1,6 +1,5 @@
 ghost use Rattle.std.specs.Prelude.{◌≡◌, ◌<◌, length, slice_get, option_map, IfOk};
 ghost use Rattle.std.specs.Arc.{arc_value};
-ghost use Rattle.code_memory.specs.Apart.{AreApart};
 ghost use Rattle.code_memory.specs.Mapped.{AreSegments};
 
 use orc_ids::Bytes;

@@ -1,13 +1,10 @@
-ghost use Rattle.std.specs.Prelude.{◌≡◌, ◌++◌, List, ◌∷◌, Some, None, IfOk, IsTrue};
+ghost use Rattle.std.specs.Prelude.{◌≡◌, IfOk, IsTrue};
 ghost use Rattle.std.specs.Arc.{arc_value};
 ghost use Rattle.std.specs.BTreeMap as tree;
-ghost use Rattle.std.specs.Ordering.{nat_cmp};
 ghost use Rattle.code_memory.specs.Kept.{keyed};
-ghost use Rattle.code_memory.specs.LastImage.{based_below, lowest, IsSame, IsLastOf};
+ghost use Rattle.code_memory.specs.LastImage.{based_below, lowest, IsSame, IsLastOf, IsLastOfAny, Touches, Leaves};
 ghost use Rattle.code_memory.specs.Mapped.{AreSegments};
 ghost use Rattle.code_memory.specs.Places.{deposits, AreLaidOut};
-ghost use Rattle.code_memory.specs.declared.image.Segment.{Segment};
-ghost use Rattle.code_memory.specs.declared.placement.Placement.{Placement};
 
 use crate::image::{Image, Segment};
 use crate::placement::Placement;
@@ -27,7 +24,7 @@ pub(crate) struct LastImage {
 impl LastImage {
     /// Nothing was asked for; takes no memory.
     pub(crate) fn new() -> LastImage
-        ensures { (deposited : List Segment) → IsLastOf result deposited }
+        ensures { IsLastOfAny result }
     {
         LastImage {
             image: None,
@@ -37,14 +34,14 @@ impl LastImage {
 
     /// What is deposited changed at a base.
     pub(crate) fn touch(&mut self, base: u64)
-        ensures { (before now : List Segment) → IsLastOf self.old before → based_below base before ≡ based_below base now → IsLastOf self.new now }
+        ensures { Touches base self.old self.new }
     {
         self.changed = Some(lower_of(self.changed, base));
     }
 
     /// The placement at a base goes.
     pub(crate) fn leave(&mut self, placed: &BTreeMap<u64, Placement>, base: u64)
-        ensures { (low : List Placement) (p : Placement) (high : List Placement) → tree.get nat_cmp placed.now base ≡ Some p → base ≡ p.base → IsLastOf self.old (deposits (low ++ p ∷ high)) → IsLastOf self.new (deposits (low ++ high)) }
+        ensures { Leaves placed.now.entries base self.old self.new }
     {
         if !is_deposited(placed, base) {
             return;
@@ -82,7 +79,7 @@ impl LastImage {
         requires by_base { placed.now.entries ≡ keyed (tree.values placed.now) }
         requires last { IsLastOf self.old (deposits (tree.values placed.now)) }
         ensures image { IfOk result (λ image. image ≡ deposits (tree.values placed.now)) }
-        ensures taken { (deposited : List Segment) → IsLastOf self.new deposited }
+        ensures taken { IsLastOfAny self.new }
     {
         match self.image.take() {
             Some(image) => up_to_date(alloc, image, self.changed, placed),

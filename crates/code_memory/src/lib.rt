@@ -8,9 +8,10 @@
 //! an `Image` as the list of the deposited ranges in rising order, each a base and its bytes, and
 //! `byte_at` as the map from addresses to bytes that such a list is.
 //!
-//! Inside, the gaps below the placements stand in a list of their own, so that placing looks at gaps
-//! alone, and the last image with the lowest base at which something changed since, so that the next
-//! one costs what changed. Read `exec_run` next, for what a run does with an image.
+//! Inside, the gaps below the placements stand in a queue of their own, so that placing looks at gaps
+//! alone and a gap that comes or goes moves the fewer of those on its two sides, and the last image
+//! with the lowest base at which something changed since, so that the next one costs what changed.
+//! Read `exec_run` next, for what a run does with an image.
 #![tactic(auto)]
 
 mod gaps;

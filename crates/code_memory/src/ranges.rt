@@ -1,19 +1,13 @@
-ghost use Rattle.std.specs.Prelude.{◌≡◌, ℕ, List, ◌+◌, ◌<◌, ◌≤◌, ◌∷◌, [], ◌++◌, cond, Some, None, length, take, nat_eq, IsSome, is_some, IfOk, OnOk, OnErr};
+ghost use Rattle.std.specs.Prelude.{◌≡◌, ◌<◌, ◌≤◌, ◌∷◌, [], ◌++◌, take, is_some, IfOk, OnOk, OnErr};
 ghost use Rattle.std.specs.Ordering.{nat_cmp};
 ghost use Rattle.std.specs.List.Sorted.{IsNonDecreasingBy};
 ghost use Rattle.std.specs.VecDeque.{deque_len, deque_capacity};
-ghost use Rattle.std.specs.HashMap.{get};
-ghost use Rattle.std.specs.Map.{remove_entry, set_value, values_of};
+ghost use Rattle.std.specs.Map.{remove_entry};
 ghost use Rattle.std.specs.BTreeMap as tree;
-ghost use Rattle.std.specs.BTreeMap.Range.{entries_between};
-ghost use Rattle.std.specs.declared.ops.Bound.TheVariants.{Included, Unbounded};
-ghost use Rattle.orc_ids.specs.declared.limits.TheConstants.{CODE_START, CODE_END};
-ghost use Rattle.code_memory.specs.Gaps.{gaps_below, last_end, end_of};
-ghost use Rattle.code_memory.specs.Kept.{keyed, AreGaps, IsCut};
+ghost use Rattle.code_memory.specs.Kept.{keyed, KeepBases, GetsBase, IfAt, Fills, TakesOut, GivesBack, placements_from};
 ghost use Rattle.code_memory.specs.LastImage.{based_below};
 ghost use Rattle.code_memory.specs.Mapped.{AreSegments};
-ghost use Rattle.code_memory.specs.Places.{AreBetween, deposits, AreLaidOut};
-ghost use Rattle.code_memory.specs.declared.placement.Placement.{Placement};
+ghost use Rattle.code_memory.specs.Places.{deposits, AreLaidOut};
 
 use crate::gaps::{Gap, add_gap, count_below, raise_start, take_ending, take_starting};
 use crate::image::Segment;
@@ -29,8 +23,8 @@ pub(crate) fn record(
     placement: Placement,
 ) -> Result<(), AllocError>
     ensures placed { OnOk result (placed.new.entries ≡ tree.insert_entry nat_cmp placed.old.entries placement.base placement) }
-    ensures bases { OnOk result ((u : ℕ) → get nat_eq bases.new u ≡ cond (nat_eq placement.unit.0 u) (Some placement.base) (get nat_eq bases.old u)) }
-    ensures err { OnErr result ((placed.new.entries ≡ placed.old.entries) × ((u : ℕ) → get nat_eq bases.new u ≡ get nat_eq bases.old u)) }
+    ensures bases { OnOk result (GetsBase placement.unit.0 placement.base bases.old bases.new) }
+    ensures err { OnErr result ((placed.new.entries ≡ placed.old.entries) × KeepBases bases.old bases.new) }
 {
     let unit = placement.unit.0;
     let base = placement.base;
@@ -42,7 +36,7 @@ pub(crate) fn record(
 
 /// Gives the placement at a base its bytes.
 pub(crate) fn fill(placed: &mut BTreeMap<u64, Placement>, base: u64, bytes: Bytes)
-    ensures { (p : Placement) → tree.get nat_cmp placed.old base ≡ Some p → placed.new.entries ≡ set_value (tree.is_at (nat_cmp base)) placed.old.entries (record p { bytes = Some bytes }) }
+    ensures { Fills placed.old.entries base bytes placed.new.entries }
 {
     if let Some(placement) = placed.get_mut(&base) {
         placement.bytes = Some(bytes);
@@ -52,7 +46,7 @@ pub(crate) fn fill(placed: &mut BTreeMap<u64, Placement>, base: u64, bytes: Byte
 /// Takes out the placement at a base, and tells how long its range is.
 pub(crate) fn take_at(placed: &mut BTreeMap<u64, Placement>, base: u64) -> u64
     ensures entries { placed.new.entries ≡ remove_entry (tree.is_at (nat_cmp base)) placed.old.entries }
-    ensures need { (p : Placement) → tree.get nat_cmp placed.old base ≡ Some p → result ≡ p.shape.need }
+    ensures need { IfAt placed.old.entries base (λ p. result ≡ p.shape.need) }
 {
     match placed.remove(&base) {
         Some(placement) => placement.shape.need,
@@ -62,7 +56,7 @@ pub(crate) fn take_at(placed: &mut BTreeMap<u64, Placement>, base: u64) -> u64
 
 /// Whether the placement at a base has bytes.
 pub(crate) fn is_deposited(placed: &BTreeMap<u64, Placement>, base: u64) -> bool
-    ensures { (p : Placement) → tree.get nat_cmp placed.now base ≡ Some p → result ≡ is_some p.bytes }
+    ensures { IfAt placed.now.entries base (λ p. result ≡ is_some p.bytes) }
 {
     match placed.get(&base) {
         Some(placement) => placement.bytes.is_some(),
@@ -75,7 +69,7 @@ pub(crate) fn is_deposited(placed: &BTreeMap<u64, Placement>, base: u64) -> bool
 pub(crate) fn take_out(gaps: &mut VecDeque<Gap>, last: u64, at: usize, base: u64, end: u64) -> u64
     requires at { at ≤ deque_len gaps.old }
     requires room { deque_len gaps.old < deque_capacity gaps.old }
-    ensures gaps { (low : List Placement) (p : Placement) (high : List Placement) → IsCut low p high base end → AreGaps gaps.old.items last (low ++ high) → at ≡ length (gaps_below CODE_START low) → AreGaps gaps.new.items result (low ++ p ∷ high) }
+    ensures gaps { TakesOut at base end gaps.old.items last gaps.new.items result }
     ensures capacity { deque_capacity gaps.old ≤ deque_capacity gaps.new }
 {
     if at == gaps.len() {
@@ -91,7 +85,7 @@ pub(crate) fn take_out(gaps: &mut VecDeque<Gap>, last: u64, at: usize, base: u64
 pub(crate) fn give_back(gaps: &mut VecDeque<Gap>, last: u64, base: u64, end: u64) -> u64
     requires room { deque_len gaps.old < deque_capacity gaps.old }
     requires rising { IsNonDecreasingBy (λ g. g.end) gaps.old.items }
-    ensures gaps { (low : List Placement) (p : Placement) (high : List Placement) → IsCut low p high base end → AreGaps gaps.old.items last (low ++ p ∷ high) → AreGaps gaps.new.items result (low ++ high) }
+    ensures gaps { GivesBack base end gaps.old.items last gaps.new.items result }
     ensures capacity { deque_capacity gaps.old ≤ deque_capacity gaps.new }
 {
     let at = count_below(gaps, base);
@@ -151,7 +145,7 @@ fn push_from(
     base: u64,
     placed: &BTreeMap<u64, Placement>,
 ) -> Result<(), AllocError>
-    ensures { IfOk result (λ _. copies.new.items ≡ copies.old.items ++ deposits (values_of (entries_between nat_cmp (Included base) Unbounded placed.now.entries))) }
+    ensures { IfOk result (λ _. copies.new.items ≡ copies.old.items ++ deposits (placements_from base placed.now.entries)) }
 {
     for (_, placement) in placed.range(base..) {
         push_copy(alloc, copies, placement)?;

@@ -1,4 +1,4 @@
-ghost use Rattle.std.specs.Prelude.{◌≡◌, ◌+◌, ◌<◌, [], length, nat_eq, if◌then◌else◌, Some, None, IsSome, IfOk, OnOk, IfErr, OnErr, IsSomeAnd, ℕ};
+ghost use Rattle.std.specs.Prelude.{◌≡◌, ◌+◌, ◌<◌, [], length, if◌then◌else◌, Some, None, IsSome, IfOk, IfErr, OnErr, IsSomeAnd};
 ghost use Rattle.std.specs.Int.{IsPowerOfTwo};
 ghost use Rattle.code_memory.specs.Places.{placement_of, IsLowestFree, IsRefused, with_range, with_bytes, without, deposits, AreLaidOut};
 

@@ -1,11 +1,9 @@
 -- The copies so far, and the deposits of the entries that are left, are those wanted.
 use Rattle.std.proofs.Common.{◌≡◌, ◌++◌}
-use Rattle.std.specs.Ordering.{nat_cmp}
-use Rattle.std.specs.BTreeMap.Range.{entries_between}
-use Rattle.std.specs.declared.ops.Bound.TheVariants.{Included, Unbounded}
 use Rattle.std.specs.Map.{values_of}
+use Rattle.code_memory.specs.Kept.{placements_from}
 use Rattle.code_memory.specs.Places.{deposits}
 use Rattle.code_memory.proofs.ranges.push_from.Given as goal
 
 abbrev pub invariant-loop-placement : goal.invariant-loop-placement
-invariant-loop-placement l = l.copies.items ++ deposits (values_of l.placement-iterator) ≡ l.initial.copies.items ++ deposits (values_of (entries_between nat_cmp (Included l.base) Unbounded l.placed.entries))
+invariant-loop-placement l = l.copies.items ++ deposits (values_of l.placement-iterator) ≡ l.initial.copies.items ++ deposits (placements_from l.base l.placed.entries)

@@ -1,13 +1,10 @@
 -- What is kept is below the base, and what is added is all else.
 use Rattle.std.proofs.Common.{◌≡◌, ◌∙◌, ◌++◌, ap, sym, subst, take}
 use Rattle.std.specs.BTreeMap.{values}
-use Rattle.std.specs.BTreeMap.Range.{entries_between}
-use Rattle.std.specs.declared.ops.Bound.TheVariants.{Included, Unbounded}
 use Rattle.std.specs.List.Sorted.{IsNonDecreasingBy}
-use Rattle.std.specs.Map.{values_of}
-use Rattle.std.specs.Ordering.{nat_cmp}
 use Rattle.std.proofs.lemmas.Result.{IfOk-equal}
 use Rattle.orc_ids.specs.declared.limits.TheConstants.{CODE_START, CODE_END}
+use Rattle.code_memory.specs.Kept.{placements_from}
 use Rattle.code_memory.specs.LastImage.{based_below}
 use Rattle.code_memory.specs.Places.{deposits}
 use Rattle.code_memory.proofs.Changed.{rising_bases, joined}
@@ -24,6 +21,6 @@ returns c =
     let kept : c.truncate.new.self.items ≡ based_below at (deposits ps) =
     c.truncate.ensures.items ∙ ap (take c.count_based_below-kept.result) (sym c.as_slice.ensures.value) ∙ c.count_based_below-kept.ensures ∙ ap (based_below at) c.as_slice.ensures.value ∙ c.requires.same in
     IfOk-equal _ _ _ _ c.push_from.ensures
-    (ap (λ ss. ss ++ deposits (values_of (entries_between nat_cmp (Included at) Unbounded c.args.placed.now.entries))) kept
-    ∙ ap (λ es. based_below at (deposits ps) ++ deposits (values_of (entries_between nat_cmp (Included at) Unbounded es))) c.requires.by_base
+    (ap (λ ss. ss ++ deposits (placements_from at c.args.placed.now.entries)) kept
+    ∙ ap (λ es. based_below at (deposits ps) ++ deposits (placements_from at es)) c.requires.by_base
     ∙ joined at CODE_START ps CODE_END c.requires.laid_out.apart)
