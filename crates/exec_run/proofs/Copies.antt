@@ -1,22 +1,20 @@
 -- The ranges of an image, of which some have copies in a pool.
-use Rattle.std.proofs.Common.{◌≡◌, ◌≢◌, ◌⊎◌, ⊎_elim, inl, inr, ℕ, Option, Some, None, ◌+◌, ◌-◌, ◌<◌, ◌≤◌, List, [], ◌∷◌, ◌++◌, length, get_or, set, take, zero, suc, refl, ap, sym, ◌∙◌, subst, arith, length-append, length-set}
-use Rattle.std.specs.Prelude.{slice_get, option_map}
+use Rattle.std.proofs.Common.{◌≡◌, ◌≢◌, ◌⊎◌, ⊎_elim, inl, inr, ℕ, Option, Some, None, ◌+◌, ◌-◌, ◌<◌, ◌≤◌, List, [], ◌∷◌, ◌++◌, length, set, zero, suc, refl, ap, sym, ◌∙◌, subst, arith, length-append, length-set}
+use Rattle.std.specs.Prelude.{slice_get}
 use Rattle.orc_ids.specs.declared.limits.TheConstants.{CODE_START, CODE_END}
 use Rattle.code_memory.specs.Mapped.{AreSegments}
 use Rattle.code_memory.specs.declared.image.Segment.{Segment}
-use Rattle.exec_run.specs.declared.ranges.Region.{Region}
-use Rattle.exec_run.specs.Regions.{bytes_of, shown, all_shown, uncopied, all_uncopied, AreCopied, HasCopy, IsIn, IsPut, IsSet, with_number}
-use Rattle.exec_run.proofs.Regions.{Rise, end_of, bounds, some_item, item_at, inside}
+use Rattle.exec_run.specs.Regions.{Region, bytes_of, shown, all_shown, uncopied, all_uncopied, AreCopied, IsIn, IsPut, IsSet, with_number}
 use Rattle.exec_run.proofs.Stretches.{stretch, stretch_more, stretch_new, stretch_length, IsWritten, byte_written, number_written}
-use Rattle.exec_run.proofs.Writes.{get-set_same, rise_set, set_itself, number_length}
+use Rattle.exec_run.proofs.Writes.{rise_set, set_itself, number_length}
 
 -- what is shown of a range, by its number
-shown_get : (pool : List ℕ) (rs : List Region) (k : ℕ) (r : Region) → slice_get rs k ≡ Some r → slice_get (all_shown pool rs) k ≡ Some (shown pool r)
+pub shown_get : (pool : List ℕ) (rs : List Region) (k : ℕ) (r : Region) → slice_get rs k ≡ Some r → slice_get (all_shown pool rs) k ≡ Some (shown pool r)
 shown_get pool [] k r there = absurd cc
 shown_get pool (x ∷ rs) zero r there = let e : x ≡ r = cc in ap (λ y. Some (shown pool y)) e
 shown_get pool (x ∷ rs) (suc k) r there = shown_get pool rs k r there
 
-shown_length : (pool : List ℕ) (rs : List Region) → length (all_shown pool rs) ≡ length rs
+pub shown_length : (pool : List ℕ) (rs : List Region) → length (all_shown pool rs) ≡ length rs
 shown_length pool [] = refl
 shown_length pool (x ∷ rs) = omega (arith, shown_length pool rs)
 
@@ -40,29 +38,29 @@ shown_replaced pool (x ∷ rs) zero r = refl
 shown_replaced pool (x ∷ rs) (suc k) r = ap (λ ss. shown pool x ∷ ss) (shown_replaced pool rs k r)
 
 -- the bytes of a range
-copy_is : (pool : List ℕ) (c : Option ℕ) (place : ℕ) (bytes : List ℕ) → c ≡ Some place → bytes_of pool c bytes ≡ stretch pool place (length bytes)
+pub copy_is : (pool : List ℕ) (c : Option ℕ) (place : ℕ) (bytes : List ℕ) → c ≡ Some place → bytes_of pool c bytes ≡ stretch pool place (length bytes)
 copy_is pool c place bytes is = ap (λ c. bytes_of pool c bytes) is
 
 bytes_long : (pool : List ℕ) (c : Option ℕ) (bytes : List ℕ) → ((place : ℕ) → c ≡ Some place → place + length bytes ≤ length pool) → length (bytes_of pool c bytes) ≡ length bytes
 bytes_long pool None bytes within = refl
 bytes_long pool (Some place) bytes within = stretch_length pool place (length bytes) (within place refl)
 
-shown_long : (rs : List Region) (pool : List ℕ) (capacity k : ℕ) (r : Region) → AreCopied rs pool capacity → slice_get rs k ≡ Some r → length (bytes_of pool r.copy r.bytes.now) ≡ length r.bytes.now
-shown_long rs pool capacity k r copied there = bytes_long pool r.copy r.bytes.now (λ place is. copied.within k place r there is)
+pub shown_long : (rs : List Region) (pool : List ℕ) (capacity k : ℕ) (r : Region) → AreCopied rs pool capacity → slice_get rs k ≡ Some r → length (bytes_of pool r.copy r.bytes) ≡ length r.bytes
+shown_long rs pool capacity k r copied there = bytes_long pool r.copy r.bytes (λ place is. copied.within k place r there is)
 
 bytes_kept : (old new : List ℕ) (c : Option ℕ) (bytes : List ℕ) → ((place : ℕ) → c ≡ Some place → stretch new place (length bytes) ≡ stretch old place (length bytes)) → bytes_of new c bytes ≡ bytes_of old c bytes
 bytes_kept old new None bytes same = refl
 bytes_kept old new (Some place) bytes same = same place refl
 
 -- a copy that is written
-written_shown : (rs : List Region) (old new : List ℕ) (capacity k place : ℕ) (r : Region) (bytes : List ℕ) → AreCopied rs old capacity → slice_get rs k ≡ Some r → r.copy ≡ Some place → IsWritten old new place (length r.bytes.now) bytes → all_shown new rs ≡ set (all_shown old rs) k (record { base = r.base; bytes = bytes })
+written_shown : (rs : List Region) (old new : List ℕ) (capacity k place : ℕ) (r : Region) (bytes : List ℕ) → AreCopied rs old capacity → slice_get rs k ≡ Some r → r.copy ≡ Some place → IsWritten old new place (length r.bytes) bytes → all_shown new rs ≡ set (all_shown old rs) k (record { base = r.base; bytes = bytes })
 written_shown rs old new capacity k place r bytes copied there is written =
     shown_changed old new rs k r (record { base = r.base; bytes = bytes }) there
-    (ap (λ bs. record { base = r.base; bytes = bs }) (copy_is new r.copy place r.bytes.now is ∙ written.here))
+    (ap (λ bs. record { base = r.base; bytes = bs }) (copy_is new r.copy place r.bytes is ∙ written.here))
     (λ j x apart here. ap (λ bs. record { base = x.base; bytes = bs })
-    (bytes_kept old new x.copy x.bytes.now (λ q named. written.elsewhere q (length x.bytes.now) (copied.apart k j place q r x (λ e. apart (sym e)) there here is named))))
+    (bytes_kept old new x.copy x.bytes (λ q named. written.elsewhere q (length x.bytes) (copied.apart k j place q r x (λ e. apart (sym e)) there here is named))))
 
-written_copied : (rs : List Region) (old new : List ℕ) (capacity k place : ℕ) (r : Region) (bytes : List ℕ) → AreCopied rs old capacity → slice_get rs k ≡ Some r → r.copy ≡ Some place → IsWritten old new place (length r.bytes.now) bytes → length bytes ≡ length r.bytes.now → AreCopied rs new capacity
+written_copied : (rs : List Region) (old new : List ℕ) (capacity k place : ℕ) (r : Region) (bytes : List ℕ) → AreCopied rs old capacity → slice_get rs k ≡ Some r → r.copy ≡ Some place → IsWritten old new place (length r.bytes) bytes → length bytes ≡ length r.bytes → AreCopied rs new capacity
 written_copied rs old new capacity k place r bytes copied there is written long = record {
   within = λ j q x here named. let within = copied.within j q x here named in omega (arith, written.long);
   apart = copied.apart;
@@ -76,28 +74,21 @@ written_copied rs old new capacity k place r bytes copied there is written long 
 pub record HasAddress (rs : List Region) (k at : ℕ) (r : Region) : Type 0 where
   pub there : slice_get rs k ≡ Some r
   pub low : r.base ≤ at
-  pub high : at < r.base + length r.bytes.now
+  pub high : at < r.base + length r.bytes
 
-pub region_read : (rs : List Region) (pool : List ℕ) (capacity k at : ℕ) (r : Region) → AreCopied rs pool capacity → IsIn (all_shown pool rs) k at → r ≡ get_or rs k r → HasAddress rs k at r
-region_read rs pool capacity k at r copied is read =
-    let there = item_at rs k r (omega (arith, inside (all_shown pool rs) k is.segment is.there, shown_length pool rs)) read in
+pub region_read : (rs : List Region) (pool : List ℕ) (capacity k at : ℕ) (r : Region) → AreCopied rs pool capacity → IsIn (all_shown pool rs) k at → slice_get rs k ≡ Some r → HasAddress rs k at r
+region_read rs pool capacity k at r copied is there =
     let e : Some is.segment ≡ Some (shown pool r) = sym is.there ∙ shown_get pool rs k r there in
     let same : is.segment ≡ shown pool r = cc in
     let low : r.base ≤ at = subst (λ (x : Segment). x.base ≤ at) same is.low in
-    let high : at < r.base + length (bytes_of pool r.copy r.bytes.now) = subst (λ (x : Segment). at < x.base + length x.bytes) same is.high in
+    let high : at < r.base + length (bytes_of pool r.copy r.bytes) = subst (λ (x : Segment). at < x.base + length x.bytes) same is.high in
     record { there = there; low = low; high = omega (arith, shown_long rs pool capacity k r copied there) }
 
-pub copy_read : (rs : List Region) (k place : ℕ) (r : Region) → HasCopy rs k place → slice_get rs k ≡ Some r → r.copy ≡ Some place
-copy_read rs k place r has there =
-    let e : Some has.region ≡ Some r = sym has.there ∙ there in
-    let same : has.region ≡ r = cc in
-    subst (λ (x : Region). x.copy ≡ Some place) same has.copy
-
 -- a value or a byte that is written in a copy is written in the range
-pub put_copy : (rs : List Region) (old new : List ℕ) (capacity k at place width value : ℕ) (r : Region) → AreCopied rs old capacity → HasAddress rs k at r → r.copy ≡ Some place → at - r.base + width ≤ length r.bytes.now → new ≡ with_number old (place + (at - r.base)) width value → IsPut (all_shown old rs) (all_shown new rs) k at width value
+pub put_copy : (rs : List Region) (old new : List ℕ) (capacity k at place width value : ℕ) (r : Region) → AreCopied rs old capacity → HasAddress rs k at r → r.copy ≡ Some place → at - r.base + width ≤ length r.bytes → new ≡ with_number old (place + (at - r.base)) width value → IsPut (all_shown old rs) (all_shown new rs) k at width value
 put_copy rs old new capacity k at place width value r copied here is fits put =
     let from = at - r.base in
-    let count = length r.bytes.now in
+    let count = length r.bytes in
     let long = shown_long rs old capacity k r copied here.there in
     record {
       segment = shown old r;
@@ -107,13 +98,13 @@ put_copy rs old new capacity k at place width value r copied here is fits put =
       fits = omega arith;
       written = ap (λ bs. all_shown bs rs) put
           ∙ written_shown rs old (with_number old (place + from) width value) capacity k place r _ copied here.there is (number_written old place count from width value fits)
-          ∙ ap (λ bs. set (all_shown old rs) k (record { base = r.base; bytes = with_number bs from width value })) (sym (copy_is old r.copy place r.bytes.now is));
+          ∙ ap (λ bs. set (all_shown old rs) k (record { base = r.base; bytes = with_number bs from width value })) (sym (copy_is old r.copy place r.bytes is));
     }
 
-pub put_copied : (rs : List Region) (old new : List ℕ) (capacity k at place width value : ℕ) (r : Region) → AreCopied rs old capacity → HasAddress rs k at r → r.copy ≡ Some place → at - r.base + width ≤ length r.bytes.now → new ≡ with_number old (place + (at - r.base)) width value → AreCopied rs new capacity
+pub put_copied : (rs : List Region) (old new : List ℕ) (capacity k at place width value : ℕ) (r : Region) → AreCopied rs old capacity → HasAddress rs k at r → r.copy ≡ Some place → at - r.base + width ≤ length r.bytes → new ≡ with_number old (place + (at - r.base)) width value → AreCopied rs new capacity
 put_copied rs old new capacity k at place width value r copied here is fits put =
     let from = at - r.base in
-    let count = length r.bytes.now in
+    let count = length r.bytes in
     let bytes = with_number (stretch old place count) from width value in
     subst (λ bs. AreCopied rs bs capacity) (sym put)
     (written_copied rs old (with_number old (place + from) width value) capacity k place r bytes copied here.there is (number_written old place count from width value fits)
@@ -122,7 +113,7 @@ put_copied rs old new capacity k at place width value r copied here is fits put 
 pub set_copy : (rs : List Region) (old : List ℕ) (capacity k at place byte : ℕ) (r : Region) → AreCopied rs old capacity → HasAddress rs k at r → r.copy ≡ Some place → IsSet (all_shown old rs) (all_shown (set old (place + (at - r.base)) byte) rs) k at byte
 set_copy rs old capacity k at place byte r copied here is =
     let from = at - r.base in
-    let count = length r.bytes.now in
+    let count = length r.bytes in
     let long = shown_long rs old capacity k r copied here.there in
     record {
       segment = shown old r;
@@ -130,155 +121,48 @@ set_copy rs old capacity k at place byte r copied here is =
       low = here.low;
       high = omega (arith, here.high);
       written = written_shown rs old (set old (place + from) byte) capacity k place r _ copied here.there is (byte_written old place count from byte (omega (arith, here.low, here.high)))
-          ∙ ap (λ bs. set (all_shown old rs) k (record { base = r.base; bytes = set bs from byte })) (sym (copy_is old r.copy place r.bytes.now is));
+          ∙ ap (λ bs. set (all_shown old rs) k (record { base = r.base; bytes = set bs from byte })) (sym (copy_is old r.copy place r.bytes is));
     }
 
 pub set_copied : (rs : List Region) (old : List ℕ) (capacity k at place byte : ℕ) (r : Region) → AreCopied rs old capacity → HasAddress rs k at r → r.copy ≡ Some place → AreCopied rs (set old (place + (at - r.base)) byte) capacity
 set_copied rs old capacity k at place byte r copied here is =
     let from = at - r.base in
-    let count = length r.bytes.now in
+    let count = length r.bytes in
     written_copied rs old (set old (place + from) byte) capacity k place r (set (stretch old place count) from byte) copied here.there is (byte_written old place count from byte (omega (arith, here.low, here.high)))
     (length-set (stretch old place count) from byte ∙ stretch_length old place count (copied.within k place r here.there is))
-
--- no byte is copied at first
-pub record AreFresh (rs : List Region) (ss : List Segment) : Type 0 where
-  pub same : all_shown [] rs ≡ ss
-  pub none : (k : ℕ) (r : Region) → slice_get rs k ≡ Some r → r.copy ≡ None
-
-pub fresh_none : (rs : List Region) → rs ≡ [] → AreFresh rs []
-fresh_none rs empty = record {
-  same = ap (all_shown []) empty;
-  none = λ k r there. let e : None ≡ Some r = sym (ap (λ xs. slice_get xs k) empty) ∙ there in absurd cc;
-}
-
-pub uncopied_none : (rs : List Region) → rs ≡ [] → 0 ≡ all_uncopied rs
-unfolding all_uncopied
-uncopied_none rs empty = sym (ap all_uncopied empty)
-
--- the bytes of all ranges are below the end of code memory
-sizes : List Segment → ℕ
-sizes [] = 0
-sizes (s ∷ ss) = length s.bytes + sizes ss
-
-sizes_fresh : (rs : List Region) → ((k : ℕ) (r : Region) → slice_get rs k ≡ Some r → r.copy ≡ None) → all_uncopied rs ≡ sizes (all_shown [] rs)
-unfolding all_uncopied sizes
-sizes_fresh [] none = refl
-sizes_fresh (r ∷ rs) none =
-    let here = none 0 r refl in
-    let first : uncopied r.copy (length r.bytes.now) ≡ length r.bytes.now = ap (λ c. uncopied c (length r.bytes.now)) here in
-    let second : length (bytes_of [] r.copy r.bytes.now) ≡ length r.bytes.now = ap (λ c. length (bytes_of [] c r.bytes.now)) here in
-    omega (arith, first, second, sizes_fresh rs (λ k x there. none (suc k) x there))
-
-sizes_all : (low : ℕ) (ss : List Segment) (high : ℕ) → Rise low ss high → low + sizes ss ≤ high
-unfolding sizes
-sizes_all low [] high rise = omega (arith, rise)
-sizes_all low (s ∷ ss) high rise = omega (arith, rise.0, sizes_all (end_of s) ss high rise.2)
-
-fresh_small : (rs : List Region) (ss : List Segment) → AreFresh rs ss → AreSegments ss → all_uncopied rs ≤ CODE_END
-fresh_small rs ss fresh segments =
-    let size : all_uncopied rs ≡ sizes ss = sizes_fresh rs fresh.none ∙ ap sizes fresh.same in
-    omega (arith, size, sizes_all CODE_START ss CODE_END segments)
-
-pub fresh_copied : (rs : List Region) (ss : List Segment) (pool : List ℕ) (capacity : ℕ) → AreFresh rs ss → AreSegments ss → pool ≡ [] → all_uncopied rs ≤ capacity → AreCopied rs pool capacity
-fresh_copied rs ss pool capacity fresh segments empty room = record {
-  within = λ k place r there is. let e : None ≡ Some place = sym (fresh.none k r there) ∙ is in absurd cc;
-  apart = λ j k p q r s apart here there is also. let e : None ≡ Some p = sym (fresh.none j r here) ∙ is in absurd cc;
-  room = omega (arith, ap length empty);
-  small = omega (arith, ap length empty, fresh_small rs ss fresh segments);
-  segments = subst AreSegments (sym (ap (λ bs. all_shown bs rs) empty ∙ fresh.same)) segments;
-}
-
-shown_push : (rs : List Region) (r : Region) → all_shown [] (rs ++ r ∷ []) ≡ all_shown [] rs ++ shown [] r ∷ []
-shown_push [] r = refl
-shown_push (x ∷ rs) r = ap (λ xs. shown [] x ∷ xs) (shown_push rs r)
-
-push_get : (rs : List Region) (r x : Region) (k : ℕ) → slice_get (rs ++ r ∷ []) k ≡ Some x → (slice_get rs k ≡ Some x) ⊎ (r ≡ x)
-push_get [] r x zero there = inr cc
-push_get [] r x (suc k) there = absurd cc
-push_get (y ∷ rs) r x zero there = inl there
-push_get (y ∷ rs) r x (suc k) there = push_get rs r x k there
-
-take_next : (ss : List Segment) (k : ℕ) (s : Segment) → slice_get ss k ≡ Some s → take k ss ++ s ∷ [] ≡ take (suc k) ss
-take_next [] k s there = absurd cc
-take_next (t ∷ ss) zero s there = let e : t ≡ s = cc in ap (λ x. x ∷ []) (sym e)
-take_next (t ∷ ss) (suc k) s there = ap (λ xs. t ∷ xs) (take_next ss k s there)
-
-same_segment : (o : Option Segment) (s : Segment) → option_map (λ (s : Segment). s.base) o ≡ Some s.base → option_map (λ (s : Segment). s.bytes) o ≡ Some s.bytes → o ≡ Some s
-same_segment None s b bs = absurd cc
-same_segment (Some t) s b bs =
-    let p : t.base ≡ s.base = cc in
-    let q : t.bytes ≡ s.bytes = cc in
-    ap (λ x. Some (record t { base = x })) p ∙ ap (λ x. Some (record { base = s.base; bytes = x })) q
-
-pub fresh_more : (rs : List Region) (ss : List Segment) (k : ℕ) (r : Region) → AreFresh rs (take k ss) → r.copy ≡ None → option_map (λ (s : Segment). s.base) (slice_get ss k) ≡ Some r.base → option_map (λ (s : Segment). s.bytes) (slice_get ss k) ≡ Some r.bytes.now → AreFresh (rs ++ r ∷ []) (take (k + 1) ss)
-fresh_more rs ss k r fresh none b bs =
-    let s : Segment = record { base = r.base; bytes = r.bytes.now } in
-    record {
-      same = shown_push rs r
-          ∙ ap (λ xs. xs ++ shown [] r ∷ []) fresh.same
-          ∙ ap (λ c. take k ss ++ record { base = r.base; bytes = bytes_of [] c r.bytes.now } ∷ []) none
-          ∙ take_next ss k s (same_segment (slice_get ss k) s b bs)
-          ∙ ap (λ n. take n ss) (let e : suc k ≡ k + 1 = omega arith in e);
-      none = λ j x there.
-          ⊎_elim (λ (low : slice_get rs j ≡ Some x). fresh.none j x low) (λ (last : r ≡ x). sym (ap (λ (y : Region). y.copy) last) ∙ none) (push_get rs r x j there);
-    }
-
-pub uncopied_push : (rs : List Region) (r : Region) → r.copy ≡ None → all_uncopied (rs ++ r ∷ []) ≡ all_uncopied rs + length r.bytes.now
-unfolding all_uncopied
-uncopied_push [] r none = omega (arith, ap (λ c. uncopied c (length r.bytes.now)) none)
-uncopied_push (x ∷ rs) r none = omega (arith, uncopied_push rs r none)
-
-sizes_below : (low : ℕ) (ss : List Segment) (high k : ℕ) (s : Segment) → Rise low ss high → slice_get ss k ≡ Some s → low + sizes (take k ss) ≤ s.base
-unfolding sizes
-sizes_below low [] high k s rise there = absurd cc
-sizes_below low (t ∷ ss) high zero s rise there =
-    let same : t ≡ s = cc in
-    subst (λ (x : Segment). low + 0 ≤ x.base) same (omega (arith, rise.0))
-sizes_below low (t ∷ ss) high (suc k) s rise there =
-    omega (arith, rise.0, sizes_below (end_of t) ss high k s rise.2 there)
-
-pub fresh_below : (rs : List Region) (ss : List Segment) (k : ℕ) (bytes : List ℕ) → AreFresh rs (take k ss) → AreSegments ss → k < length ss → option_map (λ (s : Segment). s.bytes) (slice_get ss k) ≡ Some bytes → all_uncopied rs + length bytes ≤ CODE_END
-fresh_below rs ss k bytes fresh segments less bs =
-    let s = some_item ss k less in
-    let e : Some s.0.bytes ≡ Some bytes = sym (ap (option_map (λ (s : Segment). s.bytes)) s.1) ∙ bs in
-    let same : s.0.bytes ≡ bytes = cc in
-    let below = sizes_below CODE_START ss CODE_END k s.0 segments s.1 in
-    let within = bounds CODE_START ss CODE_END k s.0 segments s.1 in
-    let size : all_uncopied rs ≡ sizes (take k ss) = sizes_fresh rs fresh.none ∙ ap sizes fresh.same in
-    omega (arith, below, within.2, size, ap length same)
 
 -- a copy more
 abbrev pub with_copy : Region → ℕ → Region
 with_copy r place = record r { copy = Some place }
 
-pub uncopied_within : (rs : List Region) (k : ℕ) (r : Region) → slice_get rs k ≡ Some r → r.copy ≡ None → length r.bytes.now ≤ all_uncopied rs
+pub uncopied_within : (rs : List Region) (k : ℕ) (r : Region) → slice_get rs k ≡ Some r → r.copy ≡ None → length r.bytes ≤ all_uncopied rs
 unfolding all_uncopied
 uncopied_within [] k r there none = absurd cc
 uncopied_within (x ∷ rs) zero r there none =
     let same : x ≡ r = cc in
-    let first : uncopied x.copy (length x.bytes.now) ≡ length r.bytes.now = ap (λ (y : Region). uncopied y.copy (length y.bytes.now)) same ∙ ap (λ c. uncopied c (length r.bytes.now)) none in
+    let first : uncopied x.copy (length x.bytes) ≡ length r.bytes = ap (λ (y : Region). uncopied y.copy (length y.bytes)) same ∙ ap (λ c. uncopied c (length r.bytes)) none in
     omega arith
 uncopied_within (x ∷ rs) (suc k) r there none = omega (arith, uncopied_within rs k r there none)
 
-uncopied_less : (rs : List Region) (k place : ℕ) (r : Region) → slice_get rs k ≡ Some r → r.copy ≡ None → all_uncopied (set rs k (with_copy r place)) + length r.bytes.now ≡ all_uncopied rs
+uncopied_less : (rs : List Region) (k place : ℕ) (r : Region) → slice_get rs k ≡ Some r → r.copy ≡ None → all_uncopied (set rs k (with_copy r place)) + length r.bytes ≡ all_uncopied rs
 unfolding all_uncopied
 uncopied_less [] k place r there none = absurd cc
 uncopied_less (x ∷ rs) zero place r there none =
     let same : x ≡ r = cc in
-    let first : uncopied x.copy (length x.bytes.now) ≡ length r.bytes.now = ap (λ (y : Region). uncopied y.copy (length y.bytes.now)) same ∙ ap (λ c. uncopied c (length r.bytes.now)) none in
+    let first : uncopied x.copy (length x.bytes) ≡ length r.bytes = ap (λ (y : Region). uncopied y.copy (length y.bytes)) same ∙ ap (λ c. uncopied c (length r.bytes)) none in
     omega arith
 uncopied_less (x ∷ rs) (suc k) place r there none = omega (arith, uncopied_less rs k place r there none)
 
 added_shown : (rs : List Region) (pool more : List ℕ) (capacity : ℕ) → AreCopied rs pool capacity → all_shown (pool ++ more) rs ≡ all_shown pool rs
 added_shown rs pool more capacity copied =
     shown_same pool (pool ++ more) rs (λ j x here. ap (λ bs. record { base = x.base; bytes = bs })
-    (bytes_kept pool (pool ++ more) x.copy x.bytes.now (λ q named. stretch_more pool more q (length x.bytes.now) (copied.within j q x here named))))
+    (bytes_kept pool (pool ++ more) x.copy x.bytes (λ q named. stretch_more pool more q (length x.bytes) (copied.within j q x here named))))
 
-copied_shown : (rs : List Region) (pool : List ℕ) (capacity k : ℕ) (r : Region) → AreCopied rs pool capacity → slice_get rs k ≡ Some r → r.copy ≡ None → all_shown (pool ++ r.bytes.now) (set rs k (with_copy r (length pool))) ≡ all_shown pool rs
+pub copied_shown : (rs : List Region) (pool : List ℕ) (capacity k : ℕ) (r : Region) → AreCopied rs pool capacity → slice_get rs k ≡ Some r → r.copy ≡ None → all_shown (pool ++ r.bytes) (set rs k (with_copy r (length pool))) ≡ all_shown pool rs
 copied_shown rs pool capacity k r copied there none =
-    shown_replaced (pool ++ r.bytes.now) rs k (with_copy r (length pool))
-    ∙ ap (λ ss. set ss k (shown (pool ++ r.bytes.now) (with_copy r (length pool)))) (added_shown rs pool r.bytes.now capacity copied)
-    ∙ ap (λ bs. set (all_shown pool rs) k (record { base = r.base; bytes = bs })) (stretch_new pool r.bytes.now ∙ sym (ap (λ c. bytes_of pool c r.bytes.now) none))
+    shown_replaced (pool ++ r.bytes) rs k (with_copy r (length pool))
+    ∙ ap (λ ss. set ss k (shown (pool ++ r.bytes) (with_copy r (length pool)))) (added_shown rs pool r.bytes capacity copied)
+    ∙ ap (λ bs. set (all_shown pool rs) k (record { base = r.base; bytes = bs })) (stretch_new pool r.bytes ∙ sym (ap (λ c. bytes_of pool c r.bytes) none))
     ∙ set_itself (all_shown pool rs) k (shown pool r) (shown_get pool rs k r there)
 
 -- a range is the one that was copied, or as it was
@@ -292,56 +176,36 @@ put_get (y ∷ rs) (suc j) (suc k) r x there =
 
 -- where the copies are, once one more was made
 record IsCopyOf (rs : List Region) (pool : List ℕ) (k : ℕ) (r : Region) (j place : ℕ) (x : Region) : Type 0 where
-  sort : ((j ≡ k) × (place ≡ length pool) × (x.bytes.now ≡ r.bytes.now)) ⊎ ((j ≢ k) × (slice_get rs j ≡ Some x) × (place + length x.bytes.now ≤ length pool))
+  sort : ((j ≡ k) × (place ≡ length pool) × (x.bytes ≡ r.bytes)) ⊎ ((j ≢ k) × (slice_get rs j ≡ Some x) × (place + length x.bytes ≤ length pool))
 
 copy_of : (rs : List Region) (pool : List ℕ) (capacity k : ℕ) (r : Region) (j place : ℕ) (x : Region) → AreCopied rs pool capacity → slice_get (set rs k (with_copy r (length pool))) j ≡ Some x → x.copy ≡ Some place → IsCopyOf rs pool k r j place x
 copy_of rs pool capacity k r j place x copied there is = record {
   sort = ⊎_elim (λ (e : (j ≡ k) × (with_copy r (length pool) ≡ x)).
       let same : Some (length pool) ≡ Some place = ap (λ (y : Region). y.copy) e.1 ∙ is in
-      inl (e.0, cc, sym (ap (λ (y : Region). y.bytes.now) e.1)))
+      inl (e.0, cc, sym (ap (λ (y : Region). y.bytes) e.1)))
       (λ (e : (j ≢ k) × (slice_get rs j ≡ Some x)). inr (e.0, e.1, copied.within j place x e.1 is))
       (put_get rs j k (with_copy r (length pool)) x there);
 }
 
-copied_copied : (rs : List Region) (pool : List ℕ) (capacity more k : ℕ) (r : Region) → AreCopied rs pool capacity → slice_get rs k ≡ Some r → r.copy ≡ None → capacity ≤ more → AreCopied (set rs k (with_copy r (length pool))) (pool ++ r.bytes.now) more
+pub copied_copied : (rs : List Region) (pool : List ℕ) (capacity more k : ℕ) (r : Region) → AreCopied rs pool capacity → slice_get rs k ≡ Some r → r.copy ≡ None → capacity ≤ more → AreCopied (set rs k (with_copy r (length pool))) (pool ++ r.bytes) more
 copied_copied rs pool capacity more k r copied there none grown =
-    let long = length-append pool r.bytes.now in
+    let long = length-append pool r.bytes in
     record {
       within = λ j place x here is.
-          ⊎_elim (λ (e : (j ≡ k) × (place ≡ length pool) × (x.bytes.now ≡ r.bytes.now)). let size = ap length e.2 in omega (arith, e.1))
-          (λ (e : (j ≢ k) × (slice_get rs j ≡ Some x) × (place + length x.bytes.now ≤ length pool)). omega (arith, e.2))
+          ⊎_elim (λ (e : (j ≡ k) × (place ≡ length pool) × (x.bytes ≡ r.bytes)). let size = ap length e.2 in omega (arith, e.1))
+          (λ (e : (j ≢ k) × (slice_get rs j ≡ Some x) × (place + length x.bytes ≤ length pool)). omega (arith, e.2))
           (copy_of rs pool capacity k r j place x copied here is).sort;
       apart = λ i j p q x y other first second is also.
-          ⊎_elim (λ (e : (i ≡ k) × (p ≡ length pool) × (x.bytes.now ≡ r.bytes.now)).
-          ⊎_elim (λ (f : (j ≡ k) × (q ≡ length pool) × (y.bytes.now ≡ r.bytes.now)). absurd (other (e.0 ∙ sym f.0)))
-          (λ (f : (j ≢ k) × (slice_get rs j ≡ Some y) × (q + length y.bytes.now ≤ length pool)). inr (omega (arith, e.1, f.2)))
+          ⊎_elim (λ (e : (i ≡ k) × (p ≡ length pool) × (x.bytes ≡ r.bytes)).
+          ⊎_elim (λ (f : (j ≡ k) × (q ≡ length pool) × (y.bytes ≡ r.bytes)). absurd (other (e.0 ∙ sym f.0)))
+          (λ (f : (j ≢ k) × (slice_get rs j ≡ Some y) × (q + length y.bytes ≤ length pool)). inr (omega (arith, e.1, f.2)))
           (copy_of rs pool capacity k r j q y copied second also).sort)
-          (λ (e : (i ≢ k) × (slice_get rs i ≡ Some x) × (p + length x.bytes.now ≤ length pool)).
-          ⊎_elim (λ (f : (j ≡ k) × (q ≡ length pool) × (y.bytes.now ≡ r.bytes.now)). inl (omega (arith, f.1, e.2)))
-          (λ (f : (j ≢ k) × (slice_get rs j ≡ Some y) × (q + length y.bytes.now ≤ length pool)). copied.apart i j p q x y other e.1 f.1 is also)
+          (λ (e : (i ≢ k) × (slice_get rs i ≡ Some x) × (p + length x.bytes ≤ length pool)).
+          ⊎_elim (λ (f : (j ≡ k) × (q ≡ length pool) × (y.bytes ≡ r.bytes)). inl (omega (arith, f.1, e.2)))
+          (λ (f : (j ≢ k) × (slice_get rs j ≡ Some y) × (q + length y.bytes ≤ length pool)). copied.apart i j p q x y other e.1 f.1 is also)
           (copy_of rs pool capacity k r j q y copied second also).sort)
           (copy_of rs pool capacity k r i p x copied first is).sort;
       room = omega (arith, copied.room, uncopied_less rs k (length pool) r there none);
       small = omega (arith, copied.small, uncopied_less rs k (length pool) r there none);
       segments = subst AreSegments (sym (copied_shown rs pool capacity k r copied there none)) copied.segments;
     }
-
--- a range that had no copy has one now
-pub record IsMade (rs : List Region) (pool : List ℕ) (capacity k place : ℕ) (old : List Segment) : Type 0 where
-  pub copied : AreCopied rs pool capacity
-  pub same : all_shown pool rs ≡ old
-  pub named : HasCopy rs k place
-
-pub copy_made : (rs : List Region) (old new : List ℕ) (capacity more k place : ℕ) (r : Region) → AreCopied rs old capacity → slice_get rs k ≡ Some r → r.copy ≡ None → new ≡ old ++ r.bytes.now → place ≡ length old → capacity ≤ more → IsMade (set rs k (with_copy r place)) new more k place (all_shown old rs)
-copy_made rs old new capacity more k place r copied there none added end grown =
-    subst (λ p. IsMade (set rs k (with_copy r p)) new more k p (all_shown old rs)) (sym end)
-    (subst (λ bs. IsMade (set rs k (with_copy r (length old))) bs more k (length old) (all_shown old rs)) (sym added) (record {
-      copied = copied_copied rs old capacity more k r copied there none grown;
-      same = copied_shown rs old capacity k r copied there none;
-      named = record { region = with_copy r (length old); there = get-set_same rs k (with_copy r (length old)) (inside_any rs k r there); copy = refl };
-    }))
-  where
-    inside_any : (rs : List Region) (k : ℕ) (r : Region) → slice_get rs k ≡ Some r → k < length rs
-    inside_any [] k r there = absurd cc
-    inside_any (x ∷ rs) zero r there = omega arith
-    inside_any (x ∷ rs) (suc k) r there = omega (arith, inside_any rs k r there)

@@ -63,11 +63,11 @@ turned bytes more new m kept is long turn =
     before [] ys = refl
     before (x ∷ xs) ys = ap (λ zs. x ∷ zs) (before xs ys)
 
-pub resized : (bytes new : List ℕ) (ok : Bool) (n m len : ℕ) → ok ≡ true → length bytes ≤ n → len ≡ length bytes → m ≡ n - length bytes → new ≡ cond ok (take n bytes ++ replicate (n - len) 0) bytes → new ≡ bytes ++ replicate m 0
-resized bytes new ok n m len done less long is e =
-    e ∙ ap (λ b. cond b (take n bytes ++ replicate (n - len) 0) bytes) done
-    ∙ ap (λ xs. xs ++ replicate (n - len) 0) (take_all n bytes less)
-    ∙ ap (λ k. bytes ++ replicate k 0) (let f : n - len ≡ m = omega (arith, long, is) in f)
+pub resized : {X : Type 0} (x : X) (items new : List X) (ok : Bool) (n m len : ℕ) → ok ≡ true → length items ≤ n → len ≡ length items → m ≡ n - length items → new ≡ cond ok (take n items ++ replicate (n - len) x) items → new ≡ items ++ replicate m x
+resized x items new ok n m len done less long is e =
+    e ∙ ap (λ b. cond b (take n items ++ replicate (n - len) x) items) done
+    ∙ ap (λ xs. xs ++ replicate (n - len) x) (take_all n items less)
+    ∙ ap (λ k. items ++ replicate k x) (let f : n - len ≡ m = omega (arith, long, is) in f)
 
 -- a byte written where bytes are kept, and several
 filled_set : (n : ℕ) (bytes : List ℕ) (place i b : ℕ) → place + length bytes ≡ n → filled n (set bytes i b) ≡ set (filled n bytes) (place + i) b

@@ -3,6 +3,7 @@ pub mod Copies
 pub mod Filled
 pub mod Joined
 pub mod Loads
+pub mod Places
 pub mod Regions
 pub mod Runs
 pub mod Spans

@@ -5,8 +5,29 @@ use Rattle.code_memory.specs.Apart.{AreApart}
 use Rattle.code_memory.specs.Mapped.{byte_at, AreSegments}
 use Rattle.code_memory.specs.declared.image.Segment.{Segment}
 use Rattle.exec_run.specs.declared.host.TheConstants.{STACK_START, STACK_END, STACK_SIZE}
-use Rattle.exec_run.specs.declared.ranges.Region.{Region}
 use Rattle.exec_run.specs.Bytes.{bytes_from}
+
+-- a range of an image, and the place of its copy in the pool, where it has one
+pub record Region : Type 0 where
+  pub base : ℕ
+  pub bytes : List ℕ
+  pub copy : Option ℕ
+
+abbrev pub region_of : Segment → Option ℕ → Region
+region_of s copy = record { base = s.base; bytes = s.bytes; copy = copy }
+
+-- the ranges of an image with their places, of which those past the end of the list have none
+abbrev pub regions : List Segment → List (Option ℕ) → List Region
+regions [] places = []
+regions (s ∷ ss) [] = region_of s None ∷ regions ss []
+regions (s ∷ ss) (p ∷ places) = region_of s p ∷ regions ss places
+
+-- the places, with one for the copy of range k
+abbrev pub with_place : List (Option ℕ) → ℕ → ℕ → List (Option ℕ)
+with_place [] zero place = Some place ∷ []
+with_place [] (suc k) place = None ∷ with_place [] k place
+with_place (p ∷ places) zero place = Some place ∷ places
+with_place (p ∷ places) (suc k) place = p ∷ with_place places k place
 
 -- the bytes of a range: those of the image, or those of its copy in the pool
 abbrev pub bytes_of : List ℕ → Option ℕ → List ℕ → List ℕ
@@ -15,10 +36,14 @@ bytes_of pool (Some place) bytes = take (length bytes) (drop place pool)
 
 -- a range as its base and its bytes
 abbrev pub shown : List ℕ → Region → Segment
-shown pool r = record { base = r.base; bytes = bytes_of pool r.copy r.bytes.now }
+shown pool r = record { base = r.base; bytes = bytes_of pool r.copy r.bytes }
 
 abbrev pub all_shown : List ℕ → List Region → List Segment
 all_shown pool rs = map (shown pool) rs
+
+-- the ranges of an image as they are seen
+abbrev pub seen : List Segment → List (Option ℕ) → List ℕ → List Segment
+seen ss places pool = all_shown pool (regions ss places)
 
 -- how many bytes a range adds to those that have no copy
 abbrev pub uncopied : Option ℕ → ℕ → ℕ
@@ -28,7 +53,7 @@ uncopied (Some place) count = 0
 -- how many bytes of the ranges have no copy
 unfoldable pub all_uncopied : List Region → ℕ
 all_uncopied [] = 0
-all_uncopied (r ∷ rs) = uncopied r.copy (length r.bytes.now) + all_uncopied rs
+all_uncopied (r ∷ rs) = uncopied r.copy (length r.bytes) + all_uncopied rs
 
 -- one stretch of bytes ends before the other begins
 abbrev pub AreApartFrom : ℕ → ℕ → ℕ → ℕ → Type 0
@@ -36,17 +61,16 @@ AreApartFrom p m q n = (p + m ≤ q) ⊎ (q + n ≤ p)
 
 -- each copy is in the pool and apart from the others, and the pool has room for the bytes that have none
 pub record AreCopied (rs : List Region) (pool : List ℕ) (capacity : ℕ) : Type 0 where
-  pub within : (k place : ℕ) (r : Region) → slice_get rs k ≡ Some r → r.copy ≡ Some place → place + length r.bytes.now ≤ length pool
-  pub apart : (j k p q : ℕ) (r s : Region) → j ≢ k → slice_get rs j ≡ Some r → slice_get rs k ≡ Some s → r.copy ≡ Some p → s.copy ≡ Some q → AreApartFrom p (length r.bytes.now) q (length s.bytes.now)
+  pub within : (k place : ℕ) (r : Region) → slice_get rs k ≡ Some r → r.copy ≡ Some place → place + length r.bytes ≤ length pool
+  pub apart : (j k p q : ℕ) (r s : Region) → j ≢ k → slice_get rs j ≡ Some r → slice_get rs k ≡ Some s → r.copy ≡ Some p → s.copy ≡ Some q → AreApartFrom p (length r.bytes) q (length s.bytes)
   pub room : length pool + all_uncopied rs ≤ capacity
   pub small : length pool + all_uncopied rs ≤ CODE_END
   pub segments : AreSegments (all_shown pool rs)
 
--- range k has its copy from a place on
-pub record HasCopy (rs : List Region) (k place : ℕ) : Type 0 where
-  pub region : Region
-  pub there : slice_get rs k ≡ Some region
-  pub copy : region.copy ≡ Some place
+-- the copies of an image's ranges, with room for the places of all
+pub record HasPlaces (ss : List Segment) (places : List (Option ℕ)) (most : ℕ) (pool : List ℕ) (capacity : ℕ) : Type 0 where
+  pub listed : length ss ≤ most
+  pub copied : AreCopied (regions ss places) pool capacity
 
 -- the bytes kept of a stack, and room for all of them
 pub record HasRoom (bytes : List ℕ) (capacity : ℕ) : Type 0 where

@@ -59,6 +59,11 @@ start memory pc args = record { hart = started pc args; map = with_stack memory;
 abbrev pub RunsTo : Map → ℕ → List ℕ → ℕ → RunEnd → List ℕ → Type 0
 RunsTo memory pc args fuel end output = RunsFrom fuel (start memory pc args) end output
 
+-- every end and output of the run are these
+abbrev pub OnlyRunsTo : Map → ℕ → List ℕ → ℕ → RunEnd → List ℕ → Type 0
+OnlyRunsTo memory pc args fuel end output =
+    (end' : RunEnd) (output' : List ℕ) → RunsTo memory pc args fuel end' output' → (end' ≡ end) × (output' ≡ output)
+
 -- a run has one end and one output
 abbrev pub OneEnd : Type 0
 OneEnd =

@@ -15,7 +15,7 @@ fn has(ranges: &Ranges<'_>, k: usize, at: u64) -> bool
     if at < start {
         return false;
     }
-    at - start < ranges.bytes(k).len() as u64
+    at - start < ranges.size(k) as u64
 }
 
 /// The number of the range that has the address, which is looked for at the hint first.

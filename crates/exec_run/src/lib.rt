@@ -9,11 +9,12 @@
 //! says that a run which stays within what is mapped (`Stays` of `specs/Larger.antt`) has the same
 //! end and output on every larger memory.
 //!
-//! A run costs what it touches: a range of the image is copied when the run first writes to it, and
-//! the stack's bytes are kept as far down as was written. Room for all of them is reserved when the
-//! run starts, so that no store is refused for memory. The range of the last access is looked at
-//! first, and any other is found by halves. Read `rv_hart` for the step, and `code_memory` for the
-//! image.
+//! A run begins at a cost that doesn't grow with the image. Then it costs what it touches: a range
+//! of the image is copied when the run first writes to it, for which a place is listed for each
+//! range up to it, and the stack's bytes are kept as far down as was written. Room for all of them
+//! is reserved when the run starts, so that no store is refused for memory. The range of the last
+//! access is looked at first, and any other is found by halves. Read `rv_hart` for the step, and
+//! `code_memory` for the image.
 #![tactic(auto)]
 
 mod access;

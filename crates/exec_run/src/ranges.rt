@@ -1,27 +1,20 @@
-ghost use Rattle.std.specs.Prelude.{◌≡◌, ◌<◌, Some, IfOk, length, vec_capacity, slice_get, option_map};
+ghost use Rattle.std.specs.Prelude.{◌≡◌, ◌<◌, ◌≤◌, Some, None, IfOk, [], length, vec_capacity, slice_get, option_map, slice_index_or};
 ghost use Rattle.std.specs.Bool.{OnTrue, OnFalse};
 ghost use Rattle.code_memory.specs.Mapped.{AreSegments};
-ghost use Rattle.exec_run.specs.Regions.{all_shown, AreCopied, HasCopy, IsIn, IsPut, IsSet};
+ghost use Rattle.exec_run.specs.Regions.{all_uncopied, regions, seen, with_place, HasPlaces, IsIn, IsPut, IsSet};
 
 use crate::number::put;
-use code_memory::Image;
+use code_memory::{Image, Segment};
 use std::alloc::{AllocError, Global};
 use std::marker::Model;
 
-/// A range of an image, and the place of its copy in the pool, which is made when the range is first
-/// written.
-#[derive(Drop)]
-pub(crate) struct Region<'a> {
-    base: u64,
-    bytes: &'a [u8],
-    copy: Option<u32>,
-}
-
-/// The ranges of an image, of which those that were written have copies in a pool. The pool has room
-/// for all of them from the start. Contracts see the ranges.
+/// The ranges of an image, of which those that were written have copies in a pool. The places of the
+/// copies are listed up to the last range that has one. There is room for the places and the bytes
+/// of all copies from the start. Contracts see the ranges.
 #[derive(Drop)]
 pub(crate) struct Ranges<'a> {
-    regions: Vec<Region<'a>>,
+    segments: &'a [Segment],
+    places: Vec<Option<u32>>,
     pool: Vec<u8>,
 }
 
@@ -31,33 +24,24 @@ impl<'a> Model for Ranges<'a> {
 
     ghost Value = { List Segment };
 
-    ghost use Rattle.exec_run.specs.Regions.{all_shown, AreCopied};
+    ghost use Rattle.exec_run.specs.Regions.{seen, HasPlaces};
 
-    ghost view = { λ r. all_shown r.pool.items r.regions.items };
+    ghost view = { λ r. seen r.segments.now r.places.items r.pool.items };
 
-    ghost invariant = { λ r. AreCopied r.regions.items r.pool.items (vec_capacity r.pool) };
+    ghost invariant = { λ r. HasPlaces r.segments.now r.places.items (vec_capacity r.places) r.pool.items (vec_capacity r.pool) };
 }
 
 impl<'a> Ranges<'a> {
-    /// The ranges as the image has them; copies no byte.
+    /// The ranges as the image has them; looks at no more of them than the first and the last.
     pub(crate) fn of_image(alloc: Global, image: &'a Image) -> Result<Ranges<'a>, AllocError>
         ensures image { IfOk result (λ ranges. ranges ≡ image.now) }
         ensures apart { AreSegments image.now }
     {
-        let mut regions = Vec::with_capacity(alloc, image.count() as usize)?;
-        let mut size = 0;
-        for k in 0..image.count() {
-            let bytes = image.bytes(k);
-            size += bytes.len();
-            regions.push(Region {
-                base: image.base(k),
-                bytes,
-                copy: None,
-            })?;
-        }
+        let segments = image.segments();
         Ok(Ranges {
-            regions,
-            pool: Vec::with_capacity(alloc, size)?,
+            segments,
+            places: Vec::with_capacity(alloc, segments.len())?,
+            pool: Vec::with_capacity(alloc, extent(segments))?,
         })
     }
 
@@ -67,7 +51,7 @@ impl<'a> Ranges<'a> {
         ensures count { result ≡ length self.now }
         ensures apart { AreSegments self.now }
     {
-        self.regions.len()
+        self.segments.len()
     }
 
     /// The first address of range k.
@@ -76,7 +60,18 @@ impl<'a> Ranges<'a> {
         requires { k < length self.now }
         ensures { option_map (λ s. s.base) (slice_get self.now k) ≡ Some result }
     {
-        self.regions[k].base
+        let segments = self.segments;
+        segments[k].base
+    }
+
+    /// How many bytes range k has.
+    #[inline(always)]
+    pub(crate) fn size(&self, k: usize) -> usize
+        requires { k < length self.now }
+        ensures { option_map (λ s. length s.bytes) (slice_get self.now k) ≡ Some result }
+    {
+        let segments = self.segments;
+        segments[k].bytes.len()
     }
 
     /// The bytes of range k.
@@ -85,10 +80,11 @@ impl<'a> Ranges<'a> {
         requires { k < length self.now }
         ensures { option_map (λ s. s.bytes) (slice_get self.now k) ≡ Some result.now }
     {
-        let region = &self.regions[k];
-        match region.copy {
-            Some(place) => &self.pool[place as usize..place as usize + region.bytes.len()],
-            None => region.bytes,
+        let segments = self.segments;
+        let bytes = segments[k].bytes.as_slice();
+        match place_of(&self.places, k) {
+            Some(place) => &self.pool[place as usize..place as usize + bytes.len()],
+            None => bytes,
         }
     }
 
@@ -100,12 +96,12 @@ impl<'a> Ranges<'a> {
         ensures kept { OnFalse result (self.new ≡ self.old) }
         ensures apart { AreSegments self.new }
     {
-        let region = &self.regions[k];
-        let Some(place) = region.copy else {
+        let Some(place) = place_of(&self.places, k) else {
             return false;
         };
-        let from = (at - region.base) as usize;
-        if region.bytes.len() - from < usize::from(width) {
+        let segment = &self.segments[k];
+        let from = (at - segment.base) as usize;
+        if segment.bytes.len() - from < usize::from(width) {
             return false;
         }
         put(&mut self.pool, place as usize + from, width, value);
@@ -118,26 +114,64 @@ impl<'a> Ranges<'a> {
         ensures done { IsSet self.old self.new k at byte }
         ensures apart { AreSegments self.new }
     {
-        let place = copied(&mut self.regions, &mut self.pool, k);
-        let from = (at - self.regions[k].base) as usize;
+        let place = copied(self.segments, &mut self.places, &mut self.pool, k);
+        let from = (at - self.segments[k].base) as usize;
         self.pool[place + from] = byte;
     }
 }
 
-/// The place of the copy of range k, which is made if there is none yet; takes no memory.
-fn copied(regions: &mut Vec<Region<'_>>, pool: &mut Vec<u8>, k: usize) -> usize
-    requires copied { AreCopied regions.old.items pool.old.items (vec_capacity pool.old) }
-    requires there { k < length regions.old.items }
-    ensures copied { AreCopied regions.new.items pool.new.items (vec_capacity pool.new) }
-    ensures same { all_shown pool.new.items regions.new.items ≡ all_shown pool.old.items regions.old.items }
-    ensures place { HasCopy regions.new.items k result }
+/// How many addresses there are from the first range to the end of the last: the ranges are apart,
+/// so they have no more bytes.
+fn extent(segments: &[Segment]) -> usize
+    requires { AreSegments segments.now }
+    ensures { all_uncopied (regions segments.now []) ≤ result }
 {
-    let Region { bytes, copy, .. } = regions[k];
-    if let Some(place) = copy {
+    let Some(last) = segments.last() else {
+        return 0;
+    };
+    (last.base - segments[0].base) as usize + last.bytes.len()
+}
+
+/// The place of the copy of range k, where it has one.
+#[inline(always)]
+fn place_of(places: &[Option<u32>], k: usize) -> Option<u32>
+    ensures { result ≡ slice_index_or places.now k None }
+{
+    if k < places.len() { places[k] } else { None }
+}
+
+/// Notes the place of the copy of range k; takes no memory.
+fn set_place(places: &mut Vec<Option<u32>>, k: usize, place: u32)
+    requires { k < vec_capacity places.old }
+    ensures noted { places.new.items ≡ with_place places.old.items k place }
+    ensures capacity { vec_capacity places.old ≤ vec_capacity places.new }
+{
+    if k < places.len() {
+        places[k] = Some(place);
+        return;
+    }
+    let _ = places.resize(k, None);
+    let _ = places.push(Some(place));
+}
+
+/// The place of the copy of range k, which is made if there is none yet; takes no memory.
+fn copied(
+    segments: &[Segment],
+    places: &mut Vec<Option<u32>>,
+    pool: &mut Vec<u8>,
+    k: usize,
+) -> usize
+    requires places { HasPlaces segments.now places.old.items (vec_capacity places.old) pool.old.items (vec_capacity pool.old) }
+    requires there { k < length segments.now }
+    ensures places { HasPlaces segments.now places.new.items (vec_capacity places.new) pool.new.items (vec_capacity pool.new) }
+    ensures same { seen segments.now places.new.items pool.new.items ≡ seen segments.now places.old.items pool.old.items }
+    ensures place { slice_index_or places.new.items k None ≡ Some result }
+{
+    if let Some(place) = place_of(places, k) {
         return place as usize;
     }
     let place = pool.len();
-    let _ = pool.extend_from_slice(bytes);
-    regions[k].copy = Some(place as u32);
+    let _ = pool.extend_from_slice(segments[k].bytes.as_slice());
+    set_place(places, k, place as u32);
     place
 }

@@ -1,7 +1,6 @@
-ghost use Rattle.std.specs.Prelude.{◌≡◌, ◌≤◌, ℕ, List, length, IfOk};
+ghost use Rattle.std.specs.Prelude.{◌≤◌, length, IfOk};
 ghost use Rattle.code_memory.specs.Mapped.{byte_at};
-ghost use Rattle.exec_run.specs.Run.{RunsTo};
-ghost use Rattle.exec_run.specs.declared.ran.RunEnd.{RunEnd};
+ghost use Rattle.exec_run.specs.Run.{RunsTo, OnlyRunsTo};
 
 use crate::machine::Machine;
 use crate::ran::Ran;
@@ -20,7 +19,7 @@ pub fn run(
 ) -> Result<Ran, AllocError>
     requires { length args.now ≤ 8 }
     ensures ran { IfOk result (λ ran. RunsTo (byte_at image.now) pc args.now fuel ran.end ran.output) }
-    ensures only { IfOk result (λ ran. (end : RunEnd) (output : List ℕ) → RunsTo (byte_at image.now) pc args.now fuel end output → (end ≡ ran.end) × (output ≡ ran.output)) }
+    ensures only { IfOk result (λ ran. OnlyRunsTo (byte_at image.now) pc args.now fuel ran.end ran.output) }
 {
     let mut machine = Machine::new(alloc, image, pc, args)?;
     let end = machine.run(fuel)?;

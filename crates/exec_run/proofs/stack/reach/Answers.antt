@@ -19,7 +19,7 @@ returns-clause-same c =
     let kept : c.len-kept.result ≡ length old = omega (arith, c.len-kept.ensures, c.args.bytes.now.ok.0) in
     let fits : m + length old ≤ STACK_SIZE = omega (arith, c.requires.room.long) in
     let less : length old ≤ n = omega (arith, c.requires.room.long) in
-    let is = resized old more.items _ n m (vec_len c.args.bytes.now) (c.resize.ensures.succeeds (omega (arith, c.requires.room.room))) less c.args.bytes.now.ok.0 (omega arith) c.resize.ensures.items in
+    let is = resized 0 old more.items _ n m (vec_len c.args.bytes.now) (c.resize.ensures.succeeds (omega (arith, c.requires.room.room))) less c.args.bytes.now.ok.0 (omega arith) c.resize.ensures.items in
     let back : vec_len more - m ≡ length old = omega (arith, more.ok.0, ap length is, length-append old (replicate m 0), length-replicate {A = ℕ} m 0) in
     ap (filled STACK_SIZE) (turned old more.items c.rotate_right.new.self.items m (vec_len more - m) back is c.rotate_right.ensures.items)
     ∙ filled_more STACK_SIZE m old fits
