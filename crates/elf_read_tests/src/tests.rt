@@ -102,7 +102,7 @@ fn refuses_a_section_that_takes_a_taken_byte(rt: HostRuntime) -> Result<(), Fail
     assert_eq!(rt; changed(&rt, 416, 63)?, Some(ElfError::Overlap(1)));
     assert_eq!(rt; changed(&rt, 744, 57)?, Some(ElfError::Overlap(6)));
     assert_eq!(rt; changed(&rt, 744, 56)?, None);
-    // Section 2 over the last byte of section 1, and over the first of section 3.
+    // The second section over the last byte of the first one, and over the first byte of the third.
     assert_eq!(rt; changed(&rt, 480, 99)?, Some(ElfError::Overlap(2)));
     assert_eq!(rt; changed(&rt, 480, 100)?, None);
     assert_eq!(rt; changed(&rt, 480, 106)?, None);
