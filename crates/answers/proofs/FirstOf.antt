@@ -1,28 +1,22 @@
 -- The first of a list for which there is something, and whether there is one, from a place on.
-use Rattle.std.proofs.Common.{◌≡◌, ℕ, suc, ◌+◌, ◌<◌, ◌≤◌, Bool, true, false, ◌||◌, List, [], ◌∷◌, length, get_or, drop, map, Option, Some, None, refl, sym, ap, ◌∙◌, arith}
+use Rattle.std.proofs.Common.{◌≡◌, ℕ, suc, ◌+◌, ◌<◌, ◌≤◌, Bool, true, false, ◌||◌, List, ◌∷◌, length, get_or, drop, map, Option, Some, None, sym, ap, ◌∙◌, arith}
 use Rattle.std.specs.List.{list_any}
 use Rattle.std.proofs.Math.ListN.{drop_of_length-le}
 use Rattle.std.proofs.Math.Seq.{drop-cons}
+use Rattle.list_laws.proofs.Each.{any_mapped}
 use Rattle.session_model.specs.Lists.{first_some, or_else}
+use Rattle.model_laws.proofs.Choices.{first_mapped}
 
 from_place : {X : Type 0} (xs : List X) (i : ℕ) (d : X) → i < length xs → drop i xs ≡ get_or xs i d ∷ drop (i + 1) xs
 from_place xs i d below =
     let next : suc i ≡ i + 1 = omega arith in
     drop-cons xs i d below ∙ ap (λ n. get_or xs i d ∷ drop n xs) next
 
-pub first_mapped : {X Y Z : Type 0} (f : Y → Option Z) (g : X → Y) (xs : List X) → first_some f (map g xs) ≡ first_some (λ x. f (g x)) xs
-first_mapped f g [] = refl
-first_mapped f g (x ∷ xs) = ap (or_else (f (g x))) (first_mapped f g xs)
-
 pub first_here : {X Y : Type 0} (f : X → Option Y) (xs : List X) (i : ℕ) (d : X) (o : Option Y) → i < length xs → f (get_or xs i d) ≡ o → first_some f (drop i xs) ≡ or_else o (first_some f (drop (i + 1) xs))
 first_here f xs i d o below e = ap (first_some f) (from_place xs i d below) ∙ ap (λ p. or_else p (first_some f (drop (i + 1) xs))) e
 
 pub first_past : {X Y : Type 0} (f : X → Option Y) (xs : List X) (i : ℕ) → length xs ≤ i → first_some f (drop i xs) ≡ None
 first_past f xs i above = ap (first_some f) (drop_of_length-le xs above)
-
-pub any_mapped : {X Y : Type 0} (f : Y → Bool) (g : X → Y) (xs : List X) → list_any f (map g xs) ≡ list_any (λ x. f (g x)) xs
-any_mapped f g [] = refl
-any_mapped f g (x ∷ xs) = ap (λ b. f (g x) || b) (any_mapped f g xs)
 
 pub any_here : {X : Type 0} (f : X → Bool) (xs : List X) (i : ℕ) (d : X) (b : Bool) → i < length xs → f (get_or xs i d) ≡ b → list_any f (drop i xs) ≡ (b || list_any f (drop (i + 1) xs))
 any_here f xs i d b below e = ap (list_any f) (from_place xs i d below) ∙ ap (λ p. p || list_any f (drop (i + 1) xs)) e

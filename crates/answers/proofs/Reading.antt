@@ -1,5 +1,5 @@
 -- Which files were read where something is answered.
-use Rattle.std.proofs.Common.{◌≡◌, ℕ, ◌⊎◌, inl, inr, List, [], length, take, refl, sym, subst}
+use Rattle.std.proofs.Common.{◌≡◌, ℕ, ◌⊎◌, inl, inr, List, [], length, sym, subst}
 use Rattle.std.proofs.Math.Seq.{take-length}
 use Rattle.object_files.specs.Reads.{AreReadIn, AreReadUntil, Use}
 use Rattle.object_files.specs.declared.error.LoadError.{LoadError}

@@ -1,8 +1,8 @@
 -- Instances by the places of their names.
-use Rattle.std.proofs.Common.{◌≡◌, ◌≢◌, ℕ, zero, suc, ◌+◌, ◌<◌, ◌≤◌, ◌==◌, cond, Bool, true, false, ◌&&◌, List, [], ◌∷◌, ◌++◌, length, map, take, drop, get_or, Option, Some, None, refl, sym, ap, subst, ◌∙◌, inl, inr, arith}
+use Rattle.std.proofs.Common.{◌≡◌, ℕ, suc, ◌+◌, ◌<◌, ◌==◌, cond, Bool, true, false, ◌&&◌, List, [], ◌∷◌, ◌++◌, length, map, take, drop, get_or, Some, None, refl, sym, ap, ◌∙◌, arith}
 use Rattle.std.specs.Prelude.{zip}
 use Rattle.std.specs.List.{All, filter}
-use Rattle.std.proofs.lemmas.Bool.{eq-eqb, ne_eqb, cond_both}
+use Rattle.std.proofs.lemmas.Bool.{eq-eqb, ne_eqb}
 use Rattle.std.proofs.lemmas.List.{append-nil, map-append}
 use Rattle.std.proofs.lemmas.List.Elements.{All-nil, All-cons, All-head, All-tail, filter-append}
 use Rattle.std.proofs.lemmas.Option.{same_Some}
@@ -15,7 +15,7 @@ use Rattle.link_model.specs.declared.graph.GPlace.{GPlace}
 use Rattle.link_model.specs.declared.graph.GPlace.TheVariants.{In, Abs, External}
 use Rattle.link_model.specs.declared.graph.GSym.{GSym}
 use Rattle.link_model.specs.declared.graph.LinkGraph.{LinkGraph}
-use Rattle.block_groups.specs.Lists.{row, IsPushed}
+use Rattle.block_groups.specs.Lists.{IsPushed}
 use Rattle.block_groups.specs.Members.{places_of, list_of, AreMembers}
 use Rattle.block_groups.proofs.Rows.{zip_more}
 

@@ -9,7 +9,7 @@ use Rattle.std.proofs.lemmas.Option.{same_Some}
 use Rattle.list_laws.proofs.Each.{contains_later, contains_here}
 use Rattle.link_laws.proofs.Symbols.{length_own, numbers_below}
 use Rattle.link_model.specs.Graph.{own_symbols, is_referred, external_symbols}
-use Rattle.block_groups.specs.Groups.{block_of, is_own, leads_to, next_blocks, refers_to}
+use Rattle.block_groups.specs.Groups.{block_of, is_own, leads_to}
 use Rattle.link_model.specs.Image.{at_or, is_paired, place_of}
 use Rattle.link_model.specs.Sound.{PlaceFits, Sound}
 use Rattle.link_model.specs.declared.graph.Edge.{Edge}

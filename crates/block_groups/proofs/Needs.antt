@@ -1,5 +1,5 @@
 -- What a search backwards finds: the blocks that need a symbol.
-use Rattle.std.proofs.Common.{◌≡◌, ℕ, zero, suc, ◌+◌, ◌<◌, cond, Bool, true, false, List, [], ◌∷◌, ◌++◌, length, map, take, get_or, Option, Some, None, refl, sym, ap, subst, ◌∙◌, ◌⊎◌, inl, inr}
+use Rattle.std.proofs.Common.{◌≡◌, ℕ, ◌+◌, ◌<◌, cond, Bool, true, false, List, [], ◌∷◌, ◌++◌, length, take, get_or, Option, Some, None, refl, sym, ap, subst, ◌∙◌, inl, inr}
 use Rattle.std.specs.Prelude.{Contains, zip}
 use Rattle.std.specs.List.{filter_map}
 use Rattle.std.proofs.lemmas.Bool.{false≢true}
@@ -11,10 +11,10 @@ use Rattle.graph_walks.specs.Walks.{IsPath, Reaches, IsBounded}
 use Rattle.graph_walks.proofs.Paths.{reaches_self, reaches_next, reach_is_transitive, walks_suffice}
 use Rattle.orc_ids.specs.declared.ids.InstId.{InstId}
 use Rattle.block_groups.specs.Groups.{leads_to, next_blocks, refers_to, needs, needed}
-use Rattle.link_model.specs.Sound.{EdgeFits, Sound}
+use Rattle.link_model.specs.Sound.{Sound}
 use Rattle.link_model.specs.declared.graph.LinkGraph.{LinkGraph}
 use Rattle.block_groups.specs.Backwards.{is_seen, IsMore, IsSpread, IsClear, AreHandedOut}
-use Rattle.block_groups.specs.Keys.{AreKeyed, target_of, blocks_with}
+use Rattle.block_groups.specs.Keys.{AreKeyed, target_of}
 use Rattle.block_groups.specs.Lists.{row}
 use Rattle.block_groups.specs.Members.{AreDeps}
 use Rattle.block_groups.specs.declared.backwards.Search.{Search}

@@ -13,16 +13,9 @@ use Rattle.session_model.specs.State.{after, state}
 use Rattle.session_model.specs.declared.change.Change.{Change}
 use Rattle.session_model.specs.declared.entry.Entry.{Entry}
 use Rattle.session_model.specs.declared.rows.InstRow.{InstRow}
-use Rattle.session_laws.proofs.Along.{state_from_push}
-use Rattle.session_laws.proofs.Elements.{same_element}
-use Rattle.session_laws.proofs.Ending.{front_and_rest, front_legal}
-use Rattle.session_laws.proofs.Facts.{test_is}
-use Rattle.session_laws.proofs.Invariant.{legal_is_sound}
-use Rattle.session_laws.proofs.Settling.{settled_rows}
+use Rattle.session_laws.proofs.Declared.{state_from_push, same_element, front_and_rest, front_legal, test_is, legal_is_sound, settled_rows}
 use Rattle.session_laws.specs.Sound.{fits, row_stage}
-use Rattle.closure_laws.proofs.Fields.{BindsBy, HasFields, IsNew, after_fields}
-use Rattle.closure_laws.proofs.Histories.{OneMore, kept_along}
-use Rattle.closure_laws.proofs.Staying.{addresses_stay}
+use Rattle.closure_laws.proofs.Declared.{BindsBy, HasFields, IsNew, after_fields, OneMore, kept_along, addresses_stay}
 use Rattle.closure_laws.specs.Bindings.{IsAt}
 use Rattle.closures.specs.Closures.{Behind, IsEnd, IsOf, Itself}
 use Rattle.chain_ends.specs.Ends.{AliasesHaveForm, EndsAreOne, EndsExist, EndsStandThere}

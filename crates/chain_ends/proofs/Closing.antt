@@ -7,8 +7,7 @@ use Rattle.session_model.specs.Plain.{Plain, UnitRow, address_at, emitted_at, fa
 use Rattle.session_model.specs.State.{state}
 use Rattle.session_model.specs.declared.rows.InstRow.{InstRow}
 use Rattle.session_model.specs.declared.rows.UnitPhase.TheVariants as stage
-use Rattle.session_laws.proofs.Elements.{same_element}
-use Rattle.session_laws.proofs.Paths.{reaches_self}
+use Rattle.session_laws.proofs.Declared.{same_element, reaches_self}
 use Rattle.closure_laws.specs.Bindings.{IsAt}
 use Rattle.static_links.proofs.Program.{program_is_there}
 use Rattle.static_links.specs.Laws.{IsLaidOut, IsNeededMember, LieApart}

@@ -24,20 +24,9 @@ use Rattle.session_model.specs.declared.rows.InstRow.{InstRow}
 use Rattle.session_model.specs.declared.rows.Phase.{Phase}
 use Rattle.session_model.specs.declared.rows.Phase.TheVariants as phase
 use Rattle.session_model.specs.declared.rows.Verdict.{Verdict}
-use Rattle.session_laws.proofs.Along.{state_from_push}
-use Rattle.session_laws.proofs.Defining.{new_rows_phase}
-use Rattle.session_laws.proofs.Elements.{appended_cases, numbered_parts, same_element}
-use Rattle.session_laws.proofs.Ending.{front_and_rest}
-use Rattle.session_laws.proofs.Facts.{ready_emitted, test_from, test_parts}
-use Rattle.session_laws.proofs.Invariant.{legal_is_sound}
-use Rattle.session_laws.proofs.Replies.{Guard}
-use Rattle.session_laws.proofs.Settling.{settled_rows}
+use Rattle.session_laws.proofs.Declared.{state_from_push, new_rows_phase, appended_cases, numbered_parts, same_element, front_and_rest, ready_emitted, test_from, test_parts, legal_is_sound, Guard, settled_rows}
 use Rattle.session_laws.specs.Sound.{IsSound, is_underway}
-use Rattle.closure_laws.proofs.Fields.{is_define}
-use Rattle.closure_laws.proofs.Histories.{OneMore, kept_along}
-use Rattle.closure_laws.proofs.OwnRows.{define_or}
-use Rattle.closure_laws.proofs.RowMoving.{RowMoves, RowStays, RowYields, RowClaimed, RowResolved, RowEmitted, RowFails, RowGoes, RowRuns, RowHere, RowOn, change_rows}
-use Rattle.closure_laws.proofs.RowSources.{row_was}
+use Rattle.closure_laws.proofs.Declared.{is_define, OneMore, kept_along, define_or, RowMoves, RowStays, RowYields, RowClaimed, RowResolved, RowEmitted, RowFails, RowGoes, RowRuns, RowHere, RowOn, change_rows, row_was}
 
 -- after so many entries the instance was present, at this address
 pub record HadAddress (h : List (Entry Meaning)) (i a : ℕ) : Type 0 where

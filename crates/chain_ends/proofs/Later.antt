@@ -9,15 +9,8 @@ use Rattle.session_model.specs.State.{state, after}
 use Rattle.session_model.specs.declared.change.Change.{Change}
 use Rattle.session_model.specs.declared.entry.Entry.{Entry}
 use Rattle.session_model.specs.declared.rows.InstRow.{InstRow}
-use Rattle.session_laws.proofs.Along.{state_from_push}
-use Rattle.session_laws.proofs.Elements.{none_there, same_element}
-use Rattle.session_laws.proofs.Replies.{Guard}
-use Rattle.session_laws.proofs.Rising.{after_rises, finish_linked}
-use Rattle.session_laws.proofs.Settling.{settled_rows}
-use Rattle.closure_laws.proofs.Fields.{BindsBy, HasFields, IsNew, after_fields}
-use Rattle.closure_laws.proofs.Histories.{OneMore, kept_along}
-use Rattle.closure_laws.proofs.RowMoving.{change_rows, run_same}
-use Rattle.closure_laws.proofs.Working.{all_work, is_unbound}
+use Rattle.session_laws.proofs.Declared.{state_from_push, none_there, same_element, Guard, after_rises, finish_linked, settled_rows}
+use Rattle.closure_laws.proofs.Declared.{BindsBy, HasFields, IsNew, after_fields, OneMore, kept_along, change_rows, run_same, all_work, is_unbound}
 
 -- a unit is what it was, and is bound to what it was
 pub record SameUnit (x y : UnitRow) : Type 0 where

@@ -13,7 +13,7 @@ use Rattle.session_model.specs.Meaning.{Bindings, Meaning}
 use Rattle.session_model.specs.Plain.{Plain, UnitRow, address_at, failed_at}
 use Rattle.session_model.specs.State.{state}
 use Rattle.session_model.specs.declared.entry.Entry.{Entry}
-use Rattle.closure_laws.proofs.Ends.{bound_addresses_are_kept}
+use Rattle.closure_laws.proofs.Declared.{bound_addresses_are_kept}
 use Rattle.closure_laws.specs.Bindings.{IsAt}
 use Rattle.static_links.specs.Links.{Spot, Spots}
 use Rattle.closures.specs.Closures.{AreObjects, IsBlockOf, IsBoundAt, IsEnd, IsMapOf, block_at, member_of, nowhere, own_spot}

@@ -23,18 +23,9 @@ use Rattle.session_model.specs.declared.rows.Phase.TheVariants as phase
 use Rattle.session_model.specs.declared.rows.UnitPhase.{UnitPhase}
 use Rattle.session_model.specs.declared.rows.UnitPhase.TheVariants as stage
 use Rattle.session_model.specs.declared.rows.Verdict.{Verdict}
-use Rattle.session_laws.proofs.Addresses.{addresses_are_kept}
-use Rattle.session_laws.proofs.Meeting.{one_end}
-use Rattle.session_laws.proofs.Moving.{Moves, Stays, Loses, Claims, Starts, Finishes, Places, Resolves, Waits, Links, Emits, Fails, Goes, Changes, Leaves, Runs, Here, On, UnitsMove, change_moves, settled_run, Doing, Other, doing_of}
-use Rattle.session_laws.proofs.Paths.{ready_from_test}
-use Rattle.session_laws.proofs.RowStages.{stage_of}
+use Rattle.session_laws.proofs.Declared.{addresses_are_kept, one_end, Moves, Stays, Loses, Claims, Starts, Finishes, Places, Resolves, Waits, Links, Emits, Fails, Goes, Changes, Leaves, Runs, Here, On, UnitsMove, change_moves, settled_run, Doing, Other, doing_of, ready_from_test, stage_of}
 use Rattle.session_laws.specs.Sound.{fits, row_stage, until_based}
-use Rattle.closure_laws.proofs.Ends.{FoundAt, bindings_are_ends, found_parts}
-use Rattle.closure_laws.proofs.Histories.{kept_by_changes}
-use Rattle.closure_laws.proofs.Linking.{some_there}
-use Rattle.closure_laws.proofs.Offering.{instances_are_offered}
-use Rattle.closure_laws.proofs.Standing.{aliases_stand}
-use Rattle.closure_laws.proofs.Working.{all_work}
+use Rattle.closure_laws.proofs.Declared.{FoundAt, bindings_are_ends, found_parts, kept_by_changes, some_there, instances_are_offered, aliases_stand, all_work}
 use Rattle.closure_laws.specs.Aliases.{StandsAt}
 use Rattle.closure_laws.specs.Bindings.{IsItsEnd}
 use Rattle.chain_ends.proofs.Had.{HadAddress, ready_address}

@@ -21,15 +21,7 @@ use Rattle.session_model.specs.declared.rows.Phase.TheVariants as phase
 use Rattle.session_model.specs.declared.rows.UnitPhase.{UnitPhase}
 use Rattle.session_model.specs.declared.rows.UnitPhase.TheVariants as stage
 use Rattle.session_model.specs.declared.rows.Verdict.{Verdict}
-use Rattle.session_laws.proofs.Defining.{sound_settled}
-use Rattle.session_laws.proofs.Elements.{same_element, none_there, element_below, changed_some, mapped_some}
-use Rattle.session_laws.proofs.Invariant.{sound_changed}
-use Rattle.session_laws.proofs.Losing.{unit_of_is}
-use Rattle.session_laws.proofs.Moving.{Moves, Stays, Loses, Claims, Starts, Finishes, Places, Resolves, Waits, Links, Emits, Fails, Goes, Changes, Leaves, Runs, Here, On, change_moves, settled_run, Doing, Other, doing_of}
-use Rattle.session_laws.proofs.Origins.{rows_from}
-use Rattle.session_laws.proofs.Replies.{Guard, IsOwnEmission}
-use Rattle.session_laws.proofs.RowStages.{stage_of, linkable, resolvable, emittable}
-use Rattle.session_laws.proofs.Settling.{settled_rows}
+use Rattle.session_laws.proofs.Declared.{sound_settled, same_element, none_there, element_below, changed_some, mapped_some, sound_changed, unit_of_is, Moves, Stays, Loses, Claims, Starts, Finishes, Places, Resolves, Waits, Links, Emits, Fails, Goes, Changes, Leaves, Runs, Here, On, change_moves, settled_run, Doing, Other, doing_of, rows_from, Guard, IsOwnEmission, stage_of, linkable, resolvable, emittable, settled_rows}
 use Rattle.session_laws.specs.Sound.{IsSound, fits, row_stage, is_unbased}
 use Rattle.closure_laws.proofs.Fields.{is_define}
 use Rattle.closure_laws.proofs.Histories.{kept_by_changes}

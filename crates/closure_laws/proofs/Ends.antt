@@ -24,13 +24,7 @@ use Rattle.session_model.specs.declared.rows.InstRow.{InstRow}
 use Rattle.session_model.specs.declared.rows.Phase.{Phase}
 use Rattle.session_model.specs.declared.rows.Phase.TheVariants as phase
 use Rattle.session_model.specs.declared.rows.Query.{Query}
-use Rattle.session_laws.proofs.Along.{state_from_push}
-use Rattle.session_laws.proofs.Elements.{same_element}
-use Rattle.session_laws.proofs.Ending.{end_stays, front_and_rest}
-use Rattle.session_laws.proofs.Facts.{test_parts}
-use Rattle.session_laws.proofs.Paths.{ready_from_test}
-use Rattle.session_laws.proofs.Facts.{ready_emitted}
-use Rattle.session_laws.proofs.Replies.{Guard}
+use Rattle.session_laws.proofs.Declared.{state_from_push, same_element, end_stays, front_and_rest, test_parts, ready_from_test, ready_emitted, Guard}
 use Rattle.closure_laws.proofs.Fields.{IsNew, link_isnt_finish, HasFields, LinksTo, BindsBy, after_fields}
 use Rattle.closure_laws.proofs.Finishes.{bound_by_end}
 use Rattle.closure_laws.proofs.Histories.{OneMore, kept_along}

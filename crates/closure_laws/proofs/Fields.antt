@@ -22,9 +22,7 @@ use Rattle.session_model.specs.declared.rows.InstRow.{InstRow}
 use Rattle.session_model.specs.declared.rows.Query.{Query}
 use Rattle.session_model.specs.declared.rows.UnitPhase.TheVariants as stage
 use Rattle.session_model.specs.declared.rows.Verdict.{Verdict}
-use Rattle.session_laws.proofs.Elements.{none_past, numbered_length, changed_cases, pushed_cases, mapped_parts, numbered_parts}
-use Rattle.session_laws.proofs.Resting.{is_link}
-use Rattle.session_laws.proofs.Settling.{chosen, settling_keeps}
+use Rattle.session_laws.proofs.Declared.{none_past, numbered_length, changed_cases, pushed_cases, mapped_parts, numbered_parts, is_link, chosen, settling_keeps}
 
 -- only a link gives a unit a query
 abbrev pub LinksTo : Plain → Change Meaning → ℕ → UnitRow → Type 0

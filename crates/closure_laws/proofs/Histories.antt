@@ -10,10 +10,7 @@ use Rattle.session_model.specs.declared.change.Change.{Change}
 use Rattle.session_model.specs.declared.entry.Entry.{Entry}
 use Rattle.session_model.specs.declared.rows.InstRow.{InstRow}
 use Rattle.session_model.specs.declared.rows.Query.{Query}
-use Rattle.session_laws.proofs.Along.{prefixes_legal, one_more_legal, state_from_push}
-use Rattle.session_laws.proofs.Guards.{guard_of}
-use Rattle.session_laws.proofs.Invariant.{sound_changed, legal_is_sound}
-use Rattle.session_laws.proofs.Replies.{Guard}
+use Rattle.session_laws.proofs.Declared.{prefixes_legal, one_more_legal, state_from_push, guard_of, sound_changed, legal_is_sound, Guard}
 use Rattle.session_laws.specs.Sound.{IsSound}
 
 -- one more entry of a legal history

@@ -19,7 +19,7 @@ use Rattle.session_model.specs.declared.entry.Event.TheVariants as event
 use Rattle.session_model.specs.declared.entry.Reply.{Reply}
 use Rattle.session_model.specs.declared.entry.Reply.TheVariants as reply
 use Rattle.session_model.specs.declared.rows.Track.{Track}
-use Rattle.session_laws.proofs.Replies.{AllReplies, replies_first, replies_only, none_given}
+use Rattle.session_laws.proofs.Declared.{AllReplies, replies_first, replies_only, none_given}
 use Rattle.closure_laws.specs.Homes.{IsTrackerIn}
 
 -- the tracker is there, and not gone

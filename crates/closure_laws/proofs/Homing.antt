@@ -21,12 +21,7 @@ use Rattle.session_model.specs.declared.entry.Entry.{Entry}
 use Rattle.session_model.specs.declared.rows.InstRow.{InstRow}
 use Rattle.session_model.specs.declared.rows.Track.{Track}
 use Rattle.session_model.specs.declared.rows.Verdict.{Verdict}
-use Rattle.session_laws.proofs.Along.{state_from_push}
-use Rattle.session_laws.proofs.Defining.{new_rows_unit}
-use Rattle.session_laws.proofs.Elements.{same_element, none_there, element_below, front_some, appended_cases, changed_cases, changed_elsewhere, changed_length, changed_some, mapped_parts, numbered_length, numbered_parts, pushed_cases, pushed_last}
-use Rattle.session_laws.proofs.Replies.{Guard}
-use Rattle.session_laws.proofs.Rising.{change_rises}
-use Rattle.session_laws.proofs.Settling.{chosen, settling_keeps, settled_rows}
+use Rattle.session_laws.proofs.Declared.{state_from_push, new_rows_unit, same_element, none_there, element_below, front_some, appended_cases, changed_cases, changed_elsewhere, changed_length, changed_some, mapped_parts, numbered_length, numbered_parts, pushed_cases, pushed_last, Guard, change_rises, chosen, settling_keeps, settled_rows}
 use Rattle.session_laws.specs.Sound.{IsSound}
 use Rattle.closure_laws.proofs.Fields.{is_define, IsNew, HasFields, MovesTo, change_fields, settled_fields}
 use Rattle.closure_laws.proofs.Histories.{OneMore, kept_along}

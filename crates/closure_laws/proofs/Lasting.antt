@@ -10,11 +10,7 @@ use Rattle.session_model.specs.declared.entry.Entry.{Entry}
 use Rattle.session_model.specs.declared.rows.UnitPhase.{UnitPhase}
 use Rattle.session_model.specs.declared.rows.UnitPhase.TheVariants as stage
 use Rattle.session_model.specs.declared.rows.Verdict.{Verdict}
-use Rattle.session_laws.proofs.Along.{state_from_push}
-use Rattle.session_laws.proofs.Elements.{none_there, none_past, same_element}
-use Rattle.session_laws.proofs.Moving.{Runs, Other, change_moves, settled_run, doing_of}
-use Rattle.session_laws.proofs.Replies.{Guard}
-use Rattle.session_laws.proofs.Rising.{after_rises, defunct_stays}
+use Rattle.session_laws.proofs.Declared.{state_from_push, none_there, none_past, same_element, Runs, Other, change_moves, settled_run, doing_of, Guard, after_rises, defunct_stays}
 use Rattle.session_laws.specs.Sound.{is_held_phase}
 use Rattle.closure_laws.proofs.Depending.{DoneOrOver, is_over, run_done}
 use Rattle.closure_laws.proofs.Fields.{IsNew, HasFields, FailsBy, after_fields}

@@ -12,11 +12,7 @@ use Rattle.session_model.specs.History.{IsLegal}
 use Rattle.session_model.specs.declared.change.Change.{Change}
 use Rattle.session_model.specs.declared.entry.Entry.{Entry}
 use Rattle.session_model.specs.declared.rows.InstRow.{InstRow}
-use Rattle.session_laws.proofs.Facts.{test_is}
-use Rattle.session_laws.proofs.Paths.{ready_from_test, test_from_ready}
-use Rattle.session_laws.proofs.Readying.{ready_stays_ready}
-use Rattle.session_laws.proofs.Replies.{Guard}
-use Rattle.session_laws.proofs.Settling.{settled_rows}
+use Rattle.session_laws.proofs.Declared.{test_is, ready_from_test, test_from_ready, ready_stays_ready, Guard, settled_rows}
 use Rattle.session_laws.specs.Sound.{IsSound}
 use Rattle.closure_laws.proofs.Histories.{kept_by_changes}
 use Rattle.closure_laws.proofs.Linking.{some_there}

@@ -1,24 +1,25 @@
-pub mod Depending
-pub mod Ends
-pub mod Fields
-pub mod Finishes
-pub mod Histories
-pub mod HomeGuards
-pub mod Homing
-pub mod Lasting
-pub mod LevelsStaying
-pub mod LinkedOnce
-pub mod Linking
-pub mod NamesOnce
-pub mod Naming
-pub mod Offering
-pub mod OwnRows
-pub mod PresentStaying
-pub mod RowMoving
-pub mod RowSources
-pub mod Standing
-pub mod Staying
-pub mod Unrefused
-pub mod Unstirred
-pub mod Working
-pub mod Unspent
+mod Depending
+mod Ends
+mod Fields
+mod Finishes
+mod Histories
+mod HomeGuards
+mod Homing
+mod Lasting
+mod LevelsStaying
+mod LinkedOnce
+mod Linking
+mod NamesOnce
+mod Naming
+mod Offering
+mod OwnRows
+mod PresentStaying
+mod RowMoving
+mod RowSources
+mod Standing
+mod Staying
+mod Unrefused
+mod Unstirred
+mod Working
+mod Unspent
+pub mod Declared

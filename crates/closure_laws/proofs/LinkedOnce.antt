@@ -21,14 +21,7 @@ use Rattle.session_model.specs.declared.rows.InstRow.{InstRow}
 use Rattle.session_model.specs.declared.rows.Query.{Query}
 use Rattle.session_model.specs.declared.rows.UnitPhase.TheVariants as stage
 use Rattle.session_model.specs.declared.rows.Verdict.{Verdict}
-use Rattle.session_laws.proofs.Elements.{same_element, none_there, element_below, changed_some, pushed_cases}
-use Rattle.session_laws.proofs.Ending.{all_claimed_queries}
-use Rattle.session_laws.proofs.Invariant.{good_here, claims_leave}
-use Rattle.session_laws.proofs.Moving.{Moves, Stays, Loses, Claims, Starts, Finishes, Places, Resolves, Waits, Links, Emits, Fails, Goes, Changes, Leaves, Runs, Here, On, UnitsMove, change_moves, settled_run, Doing, Other, doing_of}
-use Rattle.session_laws.proofs.Replies.{Guard}
-use Rattle.session_laws.proofs.Rising.{change_rises}
-use Rattle.session_laws.proofs.RowStages.{linkable, linkable_held, resolvable}
-use Rattle.session_laws.proofs.Settling.{chosen, settled_queries}
+use Rattle.session_laws.proofs.Declared.{same_element, none_there, element_below, changed_some, pushed_cases, all_claimed_queries, good_here, claims_leave, Moves, Stays, Loses, Claims, Starts, Finishes, Places, Resolves, Waits, Links, Emits, Fails, Goes, Changes, Leaves, Runs, Here, On, UnitsMove, change_moves, settled_run, Doing, Other, doing_of, Guard, change_rises, linkable, linkable_held, resolvable, chosen, settled_queries}
 use Rattle.session_laws.specs.Sound.{IsSound, is_held_phase}
 use Rattle.closure_laws.proofs.Fields.{IsNew, HasFields, LinksTo, change_fields, settled_fields}
 use Rattle.closure_laws.proofs.Histories.{kept_by_changes}

@@ -17,13 +17,7 @@ use Rattle.session_model.specs.declared.change.Change.{Change}
 use Rattle.session_model.specs.declared.entry.Entry.{Entry}
 use Rattle.session_model.specs.declared.rows.Query.{Query}
 use Rattle.session_model.specs.declared.rows.UnitPhase.TheVariants as stage
-use Rattle.session_laws.proofs.Along.{state_from_push}
-use Rattle.session_laws.proofs.Elements.{same_element, mapped_length, mapped_some, pushed_last}
-use Rattle.session_laws.proofs.Ending.{after_query, query_kept, all_claimed_queries, entries_are}
-use Rattle.session_laws.proofs.Ranges.{live_names_stay}
-use Rattle.session_laws.proofs.Replies.{Guard}
-use Rattle.session_laws.proofs.RowStages.{linkable_held}
-use Rattle.session_laws.proofs.Settling.{settled_queries}
+use Rattle.session_laws.proofs.Declared.{state_from_push, same_element, mapped_length, mapped_some, pushed_last, after_query, query_kept, all_claimed_queries, entries_are, live_names_stay, Guard, linkable_held, settled_queries}
 use Rattle.session_laws.specs.Sound.{is_held_phase}
 use Rattle.closure_laws.proofs.Ends.{bindings_are_ends, bindings_are_matches, bound_found}
 use Rattle.closure_laws.proofs.Fields.{IsNew, HasFields, LinksTo, after_fields}

@@ -23,10 +23,7 @@ use Rattle.session_model.specs.declared.rows.Query.{Query}
 use Rattle.session_model.specs.declared.rows.Row.{Row}
 use Rattle.session_model.specs.declared.rows.Verdict.{Verdict}
 use Rattle.session_model.specs.declared.rows.Verdict.TheVariants.{Kept, Replaces, Discarded, Clashes}
-use Rattle.session_laws.proofs.Elements.{same_element, none_there, element_below, changed_length, appended_cases, mapped_some, numbered_length, numbered_parts, pushed_last}
-use Rattle.session_laws.proofs.Replies.{Guard}
-use Rattle.session_laws.proofs.Rising.{change_rises}
-use Rattle.session_laws.proofs.Settling.{chosen, settling_keeps, settled_rows}
+use Rattle.session_laws.proofs.Declared.{same_element, none_there, element_below, changed_length, appended_cases, mapped_some, numbered_length, numbered_parts, pushed_last, Guard, change_rises, chosen, settling_keeps, settled_rows}
 use Rattle.session_laws.specs.Sound.{IsSound}
 use Rattle.closure_laws.proofs.Fields.{is_define, IsNew, HasFields, change_fields, settled_fields}
 use Rattle.closure_laws.proofs.Histories.{kept_by_changes}

@@ -24,10 +24,7 @@ use Rattle.session_model.specs.declared.rows.Match.{Match}
 use Rattle.session_model.specs.declared.rows.Match.TheVariants.{Instance, Offered}
 use Rattle.session_model.specs.declared.rows.Query.{Query}
 use Rattle.session_model.specs.declared.rows.Row.{Row}
-use Rattle.session_laws.proofs.Elements.{mapped_some}
-use Rattle.session_laws.proofs.Ending.{front_and_rest}
-use Rattle.session_laws.proofs.Replies.{Guard}
-use Rattle.session_laws.proofs.Settling.{settled_rows}
+use Rattle.session_laws.proofs.Declared.{mapped_some, front_and_rest, Guard, settled_rows}
 use Rattle.session_laws.specs.Sound.{IsSound}
 use Rattle.closure_laws.proofs.Ends.{bindings_are_ends, bindings_are_matches}
 use Rattle.closure_laws.proofs.Histories.{kept_by_changes}

@@ -17,11 +17,7 @@ use Rattle.session_model.specs.declared.change.Change.{Change}
 use Rattle.session_model.specs.declared.change.Change.TheVariants.{Define, Generate}
 use Rattle.session_model.specs.declared.rows.InstRow.{InstRow}
 use Rattle.session_model.specs.declared.rows.Verdict.{Verdict}
-use Rattle.session_laws.proofs.Defining.{new_rows_unit}
-use Rattle.session_laws.proofs.Elements.{same_element, none_there, element_below, appended_cases, numbered_length, numbered_parts, pushed_last}
-use Rattle.session_laws.proofs.Origins.{rows_from}
-use Rattle.session_laws.proofs.Replies.{Guard}
-use Rattle.session_laws.proofs.Settling.{chosen, settled_rows}
+use Rattle.session_laws.proofs.Declared.{new_rows_unit, same_element, none_there, element_below, appended_cases, numbered_length, numbered_parts, pushed_last, rows_from, Guard, chosen, settled_rows}
 use Rattle.session_laws.specs.Sound.{IsSound}
 use Rattle.closure_laws.proofs.Fields.{is_define, IsNew, HasFields, change_fields, settled_fields}
 use Rattle.closure_laws.proofs.Histories.{kept_by_changes}

@@ -31,15 +31,7 @@ use Rattle.session_model.specs.declared.rows.Query.{Query}
 use Rattle.session_model.specs.declared.rows.UnitPhase.{UnitPhase}
 use Rattle.session_model.specs.declared.rows.UnitPhase.TheVariants as stage
 use Rattle.session_model.specs.declared.rows.Verdict.{Verdict}
-use Rattle.session_laws.proofs.Changes.{owned_parts, owned_from}
-use Rattle.session_laws.proofs.Defining.{waiting_parts, new_rows_unit}
-use Rattle.session_laws.proofs.Elements.{same_element, none_there, none_past, element_below, changed_cases, pushed_cases, mapped_length, mapped_some, numbered_length, numbered_parts, numbered_some}
-use Rattle.session_laws.proofs.Facts.{test_is}
-use Rattle.session_laws.proofs.Living.{any_flag, replaced_here}
-use Rattle.session_laws.proofs.Losing.{unit_of_is}
-use Rattle.session_laws.proofs.Replies.{Guard}
-use Rattle.session_laws.proofs.Rising.{change_rises}
-use Rattle.session_laws.proofs.Settling.{settling_keeps, settled_rows}
+use Rattle.session_laws.proofs.Declared.{owned_parts, owned_from, waiting_parts, new_rows_unit, same_element, none_there, none_past, element_below, changed_cases, pushed_cases, mapped_length, mapped_some, numbered_length, numbered_parts, numbered_some, test_is, any_flag, replaced_here, unit_of_is, Guard, change_rises, settling_keeps, settled_rows}
 use Rattle.session_laws.specs.Sound.{IsSound}
 use Rattle.session_laws.specs.Work.{rank}
 use Rattle.closure_laws.proofs.Depending.{Holds, RowCase, row_cases}

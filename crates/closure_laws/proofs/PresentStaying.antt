@@ -13,13 +13,7 @@ use Rattle.session_model.specs.declared.change.Change.{Change}
 use Rattle.session_model.specs.declared.change.Change.TheVariants.{Remove}
 use Rattle.session_model.specs.declared.rows.InstRow.{InstRow}
 use Rattle.session_model.specs.declared.rows.UnitPhase.TheVariants as stage
-use Rattle.session_laws.proofs.Elements.{same_element, mapped_some}
-use Rattle.session_laws.proofs.Facts.{test_from}
-use Rattle.session_laws.proofs.Losing.{unit_of_is}
-use Rattle.session_laws.proofs.Replies.{Guard}
-use Rattle.session_laws.proofs.Rising.{change_rises}
-use Rattle.session_laws.proofs.RowStages.{row_is}
-use Rattle.session_laws.proofs.Settling.{settled_rows}
+use Rattle.session_laws.proofs.Declared.{same_element, mapped_some, test_from, unit_of_is, Guard, change_rises, row_is, settled_rows}
 use Rattle.session_laws.specs.Sound.{IsSound, fits}
 use Rattle.closure_laws.proofs.Histories.{kept_by_changes}
 use Rattle.closure_laws.proofs.NamesOnce.{settled_there}

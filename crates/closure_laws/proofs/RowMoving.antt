@@ -21,13 +21,7 @@ use Rattle.session_model.specs.declared.rows.InstRow.{InstRow}
 use Rattle.session_model.specs.declared.rows.Phase.{Phase}
 use Rattle.session_model.specs.declared.rows.Phase.TheVariants as phase
 use Rattle.session_model.specs.declared.rows.UnitPhase.TheVariants as stage
-use Rattle.session_laws.proofs.Changes.{owned_parts}
-use Rattle.session_laws.proofs.Defining.{replaced_unsearched}
-use Rattle.session_laws.proofs.Elements.{front_some, mapped_some, numbered_some, same_element}
-use Rattle.session_laws.proofs.Facts.{test_is, unsearched_unclaimed}
-use Rattle.session_laws.proofs.Replies.{Guard, IsOwnEmission}
-use Rattle.session_laws.proofs.RowStages.{stage_of, row_is, unclaimed_row, finishing_stage, resolvable, emitting_stage, emittable}
-use Rattle.session_laws.proofs.Settling.{chosen}
+use Rattle.session_laws.proofs.Declared.{owned_parts, replaced_unsearched, front_some, mapped_some, numbered_some, same_element, test_is, unsearched_unclaimed, Guard, IsOwnEmission, stage_of, row_is, unclaimed_row, finishing_stage, resolvable, emitting_stage, emittable, chosen}
 use Rattle.closure_laws.proofs.Fields.{is_define}
 use Rattle.session_laws.specs.Sound.{IsSound, fits, row_stage, is_claimed, is_resolved}
 

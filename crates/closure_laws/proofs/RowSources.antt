@@ -11,9 +11,7 @@ use Rattle.session_model.specs.Change.{changed, all_claimed, claimed_for, claime
 use Rattle.session_model.specs.declared.change.Change.{Change}
 use Rattle.session_model.specs.declared.change.Change.TheVariants.{Nothing, MakeDylib, MakeTracker, SetOrder, Attach, Define, Generate, Spend, Ask, Start, Finish, Place, Resolve, Link, Emit, Fail, Move, Remove, LetGo}
 use Rattle.session_model.specs.declared.rows.InstRow.{InstRow}
-use Rattle.session_laws.proofs.Elements.{same_element, element_below, mapped_length, numbered_length}
-use Rattle.session_laws.proofs.Replies.{Guard}
-use Rattle.session_laws.proofs.Settling.{chosen}
+use Rattle.session_laws.proofs.Declared.{same_element, element_below, mapped_length, numbered_length, Guard, chosen}
 use Rattle.session_laws.specs.Sound.{IsSound}
 use Rattle.closure_laws.proofs.Fields.{is_define}
 use Rattle.closure_laws.proofs.LevelsStaying.{row_below}

@@ -1,23 +1,23 @@
 -- An alias that has a base stands at its target's address.
 use Rattle.std.proofs.Common.{◌≡◌, ℕ, Bool, true, false, ◌&&◌, ◌||◌, List, [], ◌∷◌, length, slice_get, ◌⊎◌, inl, inr, subst, sym, refl, ap, ◌∙◌, Option, Some, None, is_some, option_map, unwrap_or, arith}
-use Rattle.std.specs.Prelude.{is_none}
+use Rattle.std.specs.Prelude.{is_none, IfSome}
 use Rattle.std.specs.Bool.{if◌then◌else◌}
 use Rattle.std.proofs.lemmas.Bool.{both_ways, and_parts}
 use Rattle.std.proofs.lemmas.Option.{none-some, same_Some}
+use Rattle.orc_ids.specs.declared.ids.DylibId.{DylibId}
 use Rattle.orc_ids.specs.declared.ids.InstId.{InstId}
 use Rattle.orc_ids.specs.declared.lookup.Wanted.{Wanted}
 use Rattle.session_model.specs.Lists.{first_some}
 use Rattle.session_model.specs.Answer.{is_stage, can_resolve}
 use Rattle.session_model.specs.Change.{changed, settled, new_unit, resolved_unit, target_address}
 use Rattle.session_model.specs.History.{IsLegal}
-use Rattle.session_model.specs.Meaning.{Meaning, Bindings}
+use Rattle.session_model.specs.Meaning.{Meaning, Bindings, IsAlias, IsLawful}
 use Rattle.session_model.specs.Plain.{Plain, UnitRow, is_alias, unit_shape}
 use Rattle.session_model.specs.State.{state}
 use Rattle.session_model.specs.declared.entry.Entry.{Entry}
 use Rattle.session_model.specs.declared.rows.UnitPhase.TheVariants as stage
 use Rattle.session_model.specs.declared.rows.Verdict.{Verdict}
-use Rattle.session_laws.proofs.Moving.{Moves, Stays, Loses, Claims, Starts, Finishes, Places, Resolves, Waits, Links, Emits, Fails, Goes, Changes, Leaves, Runs, Here, On, UnitsMove, change_moves, settled_run, Doing, Other, doing_of}
-use Rattle.session_laws.proofs.RowStages.{linkable, resolvable}
+use Rattle.session_laws.proofs.Declared.{Moves, Stays, Loses, Claims, Starts, Finishes, Places, Resolves, Waits, Links, Emits, Fails, Goes, Changes, Leaves, Runs, Here, On, UnitsMove, change_moves, settled_run, Doing, Other, doing_of, linkable, resolvable}
 use Rattle.closure_laws.proofs.Ends.{bound_addresses_are_kept}
 use Rattle.closure_laws.proofs.Histories.{kept_by_changes}
 use Rattle.closure_laws.proofs.Linking.{done_is_bound, some_there, unbound_is_weak}
@@ -25,6 +25,14 @@ use Rattle.closure_laws.proofs.Working.{is_unbound, never, shapeless}
 use Rattle.closure_laws.specs.Aliases.{StandsAt, AliasesStand}
 use Rattle.closure_laws.specs.Bindings.{IsAt}
 use Rattle.closure_laws.specs.Bound.{IsBound}
+
+-- a lawful unit that has a source has the form of an alias
+pub lawful_alias : (u : Meaning) → IsLawful u → is_some u.source ≡ true → IsAlias u
+lawful_alias u lawful = by_source u.source lawful.alias
+  where
+    by_source : (o : Option DylibId) → IfSome o (λ d. IsAlias u) → is_some o ≡ true → IsAlias u
+    by_source None a e = absurd (both_ways false refl e)
+    by_source (Some d) a e = a
 
 -- an alias has no base before it is bound, and then its target's address
 record IsTargeted (x : UnitRow) : Type 0 where

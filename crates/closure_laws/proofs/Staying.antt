@@ -13,10 +13,7 @@ use Rattle.session_model.specs.declared.entry.Entry.{Entry}
 use Rattle.session_model.specs.declared.rows.InstRow.{InstRow}
 use Rattle.session_model.specs.declared.rows.Phase.{Phase}
 use Rattle.session_model.specs.declared.rows.Phase.TheVariants as phase
-use Rattle.session_laws.proofs.Elements.{same_element}
-use Rattle.session_laws.proofs.Facts.{test_parts, test_from}
-use Rattle.session_laws.proofs.Replies.{Guard}
-use Rattle.session_laws.proofs.Settling.{settled_rows}
+use Rattle.session_laws.proofs.Declared.{same_element, test_parts, test_from, Guard, settled_rows}
 use Rattle.session_laws.specs.Sound.{IsSound, is_claimed, is_resolved}
 use Rattle.closure_laws.proofs.Histories.{kept_by_changes}
 use Rattle.closure_laws.proofs.RowMoving.{RowMoves, RowStays, RowYields, RowClaimed, RowResolved, RowEmitted, RowFails, RowGoes, RowRuns, RowHere, RowOn, change_rows}

@@ -25,10 +25,7 @@ use Rattle.session_model.specs.declared.entry.Reply.{Reply}
 use Rattle.session_model.specs.declared.entry.Reply.TheVariants as reply
 use Rattle.session_model.specs.declared.rows.Match.{Match}
 use Rattle.session_model.specs.declared.rows.Match.TheVariants.{Instance, Offered}
-use Rattle.session_laws.proofs.Guards.{call_cases}
-use Rattle.session_laws.proofs.Losing.{none_of_first}
-use Rattle.session_laws.proofs.Replies.{AllReplies, replies_only, replies_first, replies_else, none_given, is_lodged_reply}
-use Rattle.session_laws.proofs.Resting.{is_link}
+use Rattle.session_laws.proofs.Declared.{call_cases, none_of_first, AllReplies, replies_only, replies_first, replies_else, none_given, is_lodged_reply, is_link}
 use Rattle.closure_laws.specs.Links.{refused_link}
 
 -- The event of a link

@@ -3,7 +3,7 @@ use Rattle.std.proofs.Common.{◌≡◌, ℕ, Bool, true, false, ◌==◌, map, 
 use Rattle.std.specs.Prelude.{◌&&◌, not}
 use Rattle.std.specs.Bool.{if◌then◌else◌}
 use Rattle.std.specs.Option.{option_map_or}
-use Rattle.std.proofs.lemmas.Bool.{both_ways, cases_eq, or_parts, eq-eqb, and_from}
+use Rattle.std.proofs.lemmas.Bool.{both_ways, or_parts, eq-eqb, and_from}
 use Rattle.std.proofs.lemmas.Option.{none-some}
 use Rattle.session_model.specs.Lists.{changed_at}
 use Rattle.session_model.specs.Change.{change_of, changed, settled, defined, spent, resolved_row, resolved_unit, spent_generator, moved_unit, moved_generator, removed_generator, gone_tracker}
@@ -15,9 +15,7 @@ use Rattle.session_model.specs.declared.change.Change.TheVariants.{Nothing, Make
 use Rattle.session_model.specs.declared.entry.Entry.{Entry}
 use Rattle.session_model.specs.declared.rows.Track.{Track}
 use Rattle.session_model.specs.declared.rows.Verdict.{Verdict}
-use Rattle.session_laws.proofs.Along.{state_from_push}
-use Rattle.session_laws.proofs.Elements.{same_element, front_some, changed_cases, changed_elsewhere, mapped_parts, pushed_cases}
-use Rattle.session_laws.proofs.Settling.{chosen}
+use Rattle.session_laws.proofs.Declared.{state_from_push, same_element, front_some, changed_cases, changed_elsewhere, mapped_parts, pushed_cases, chosen}
 use Rattle.closure_laws.proofs.Histories.{OneMore, kept_along}
 use Rattle.closure_laws.proofs.HomeGuards.{HomeGuard, home_guard}
 use Rattle.closure_laws.proofs.Homing.{SameFrame, same_frame, claims_frame, settled_frame, rows_have_homes}

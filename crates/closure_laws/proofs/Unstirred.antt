@@ -22,15 +22,7 @@ use Rattle.session_model.specs.declared.entry.Entry.{Entry}
 use Rattle.session_model.specs.declared.rows.InstRow.{InstRow}
 use Rattle.session_model.specs.declared.rows.Query.{Query}
 use Rattle.session_model.specs.declared.rows.Verdict.{Verdict}
-use Rattle.session_laws.proofs.Along.{state_from_push}
-use Rattle.session_laws.proofs.Defining.{replaced_unsearched}
-use Rattle.session_laws.proofs.Elements.{front_some, numbered_some}
-use Rattle.session_laws.proofs.Ending.{query_was_asked}
-use Rattle.session_laws.proofs.Facts.{test_parts, test_from, test_is, ready_emitted}
-use Rattle.session_laws.proofs.Paths.{closed_reached, reaches_self, reaches_dep, ready_from_test, test_from_ready}
-use Rattle.session_laws.proofs.Readying.{reached_ready}
-use Rattle.session_laws.proofs.Replies.{Guard}
-use Rattle.session_laws.proofs.Settling.{chosen, settled_rows, settled_queries}
+use Rattle.session_laws.proofs.Declared.{state_from_push, replaced_unsearched, front_some, numbered_some, query_was_asked, test_parts, test_from, test_is, ready_emitted, closed_reached, reaches_self, reaches_dep, ready_from_test, test_from_ready, reached_ready, Guard, chosen, settled_rows, settled_queries}
 use Rattle.session_laws.specs.Sound.{IsSound, AllMatched, is_sure, sure_at, searched_at}
 use Rattle.closure_laws.proofs.Histories.{OneMore, one_more}
 use Rattle.closure_laws.specs.Quiet.{stirs, QuietSettlesNone}

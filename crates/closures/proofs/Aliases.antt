@@ -1,30 +1,26 @@
 -- The end of an instance that an intact one reaches is reached too: an alias depends on what it is bound to.
-use Rattle.std.proofs.Common.{◌≡◌, ℕ, ◌==◌, Bool, true, false, List, [], ◌∷◌, length, map, slice_get, Contains, inl, inr, subst, sym, refl, ap, ◌∙◌, arith, Option, Some, None, unwrap_or, is_some, cond}
+use Rattle.std.proofs.Common.{◌≡◌, ℕ, ◌==◌, Bool, true, false, List, [], ◌∷◌, length, map, slice_get, Contains, inl, inr, subst, sym, refl, ap, ◌∙◌, arith, Option, Some, None, unwrap_or, is_some}
 use Rattle.std.specs.Prelude.{IfSome}
 use Rattle.std.specs.List.{list_any}
 use Rattle.std.specs.Option.{option_map_or}
 use Rattle.std.proofs.lemmas.Bool.{both_ways, and_from, eq-eqb}
-use Rattle.std.proofs.lemmas.Option.{none-some}
 use Rattle.list_laws.proofs.Lists.{some_below}
 use Rattle.list_laws.proofs.Each.{contains_here}
 use Rattle.orc_ids.specs.declared.ids.DylibId.{DylibId}
 use Rattle.orc_ids.specs.declared.ids.InstId.{InstId}
 use Rattle.closure_laws.specs.Dependencies.{DependsSo, unit_groups}
 use Rattle.link_model.specs.declared.graph.LinkGraph.{LinkGraph}
-use Rattle.session_laws.proofs.Elements.{element_below, same_element}
-use Rattle.session_laws.proofs.Paths.{reaches_self, reaches_dep, reach_transitive}
+use Rattle.session_laws.proofs.Declared.{element_below, same_element, reaches_self, reaches_dep, reach_transitive}
 use Rattle.session_model.specs.Change.{deps_in}
 use Rattle.session_model.specs.Lists.{only_if, or_else}
 use Rattle.session_model.specs.Meaning.{Bindings, IsAlias, Meaning, bound_instances}
 use Rattle.session_model.specs.Owed.{IsIntact}
-use Rattle.session_model.specs.Plain.{Plain, UnitRow, emitted_at, is_alias, is_emitted, is_owned, own_rows, phase_deps, present_at}
+use Rattle.session_model.specs.Plain.{Plain, UnitRow, emitted_at, is_alias, is_emitted, own_rows, phase_deps, present_at}
 use Rattle.session_model.specs.Reach.{Reaches, deps_at}
 use Rattle.session_model.specs.declared.rows.InstRow.{InstRow}
 use Rattle.session_model.specs.declared.rows.Phase.TheVariants as phase
-use Rattle.session_units.specs.Meaning.{graph_meaning}
 use Rattle.static_links.proofs.Lists.{any_there}
 use Rattle.closures.specs.Closures.{AreObjects, Behind, IsBlockOf, IsEnd, IsGraphUnit, IsObject, IsOf, Itself, block_at}
-use Rattle.closures.proofs.Lists.{map_here}
 use Rattle.closures.proofs.Members.{owned_here}
 use Rattle.closures.proofs.Units.{IsKept, emitted_parts, graph_there, lies_in}
 

@@ -10,7 +10,7 @@ use Rattle.closure_laws.specs.Bound.{wants_base}
 use Rattle.link_model.specs.Image.{image_bytes, listed}
 use Rattle.link_model.specs.Layout.{layout_of, unit_need}
 use Rattle.link_model.specs.declared.graph.LinkGraph.{LinkGraph}
-use Rattle.session_laws.proofs.Elements.{none_past}
+use Rattle.session_laws.proofs.Declared.{none_past}
 use Rattle.session_laws.specs.Placements.{AreApart}
 use Rattle.session_model.specs.Lists.{first_some, or_else}
 use Rattle.session_model.specs.Meaning.{Meaning}

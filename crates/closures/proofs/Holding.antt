@@ -1,16 +1,10 @@
 -- Memory holds the program of each intact instance.
-use Rattle.std.proofs.Common.{◌≡◌, ℕ, ◌+◌, ◌<◌, Bool, true, ◌&&◌, ◌==◌, List, [], slice_get, inl, inr, subst, sym, refl, ap, ◌∙◌, Option, Some, is_some, unwrap_or}
-use Rattle.std.proofs.lemmas.Bool.{and_parts, or_cases}
-use Rattle.closure_laws.proofs.Depending.{dependencies_are_kept}
-use Rattle.closure_laws.proofs.Linking.{done_is_bound}
-use Rattle.closure_laws.proofs.OwnRows.{instances_are_live}
+use Rattle.std.proofs.Common.{◌≡◌, ℕ, ◌+◌, ◌<◌, Bool, List, [], slice_get, subst, sym, refl, ap, ◌∙◌, Option, Some, is_some, unwrap_or}
+use Rattle.closure_laws.proofs.Declared.{dependencies_are_kept, done_is_bound, instances_are_live}
 use Rattle.closure_laws.specs.Bound.{HasAll}
-use Rattle.link_model.specs.Image.{offset_of}
-use Rattle.link_model.specs.Layout.{needs_cell, needs_stub, some_edge, unit_need}
-use Rattle.link_model.specs.declared.graph.Edge.{Edge}
+use Rattle.link_model.specs.Layout.{unit_need}
 use Rattle.link_model.specs.declared.graph.LinkGraph.{LinkGraph}
-use Rattle.session_laws.proofs.Elements.{same_element}
-use Rattle.session_laws.proofs.Ranges.{placements_lie_apart}
+use Rattle.session_laws.proofs.Declared.{same_element, placements_lie_apart}
 use Rattle.session_model.specs.History.{IsLegal}
 use Rattle.session_model.specs.Meaning.{Meaning}
 use Rattle.session_model.specs.Memory.{memory}
@@ -23,7 +17,7 @@ use Rattle.static_links.proofs.Apart.{lies_apart}
 use Rattle.static_links.proofs.Chosen.{mapped_chosen}
 use Rattle.static_links.proofs.Mapped.{mapped_inside}
 use Rattle.static_links.specs.Laws.{HasLabels, ImageIsLinked, IsToldSo}
-use Rattle.static_links.specs.Links.{Member, Spots, Pairs, IsMapped, InBlock, InCell, InStub, IsLinkedProgram, chosen_edges, linked_byte, uses_cell, uses_stub}
+use Rattle.static_links.specs.Links.{Member, Spots, Pairs, IsMapped, IsLinkedProgram, linked_byte}
 use Rattle.closures.specs.Closures.{IsBlockOf, IsGraphUnit, member_of, members_of}
 use Rattle.closures.specs.Laws.{IntactHoldsClosure}
 use Rattle.closures.proofs.Held.{memory_holds, wants_one}

@@ -2,16 +2,9 @@
 use Rattle.std.proofs.Common.{◌≡◌, ℕ, zero, suc, ◌+◌, ◌<◌, ◌≤◌, Bool, true, false, cond, List, [], ◌∷◌, map, filter, filter_map, zip, slice_get, Contains, inl, inr, subst, refl, ap, ◌∙◌, arith, Option, Some, None}
 use Rattle.std.specs.List.{cons_option, range_with_len}
 use Rattle.std.proofs.lemmas.Bool.{both_ways, cases_eq}
-use Rattle.std.proofs.lemmas.Option.{none-some, same_Some, get_or_from_slice_get, slice_get-get_or}
+use Rattle.std.proofs.lemmas.Option.{none-some, same_Some}
 use Rattle.list_laws.proofs.Each.{contains_later, contains_here}
 use Rattle.block_groups.proofs.Rows.{contains_cases, contains_none}
-use Rattle.session_laws.proofs.Elements.{element_below}
-
-pub contained : {X : Type 0} (xs : List X) (k : ℕ) (x : X) → slice_get xs k ≡ Some x → Contains xs x
-contained xs k x e = (k, element_below xs k x e, get_or_from_slice_get xs k x x e)
-
-pub number_of : {X : Type 0} (xs : List X) (x : X) → Contains xs x → (k : ℕ) × (slice_get xs k ≡ Some x)
-number_of xs x c = (c.0, slice_get-get_or xs c.0 x c.1 ∙ ap Some c.2)
 
 -- Pairs
 

@@ -6,7 +6,7 @@ use Rattle.std.proofs.lemmas.Bool.{both_ways, eqb-true, eq-eqb}
 use Rattle.std.proofs.lemmas.List.{length-map}
 use Rattle.std.proofs.lemmas.List.Elements.{All-head, All-tail, All-filter, Contains-append_left, Contains-append_cases}
 use Rattle.std.proofs.lemmas.Option.{none-some, same_Some}
-use Rattle.list_laws.proofs.Each.{contains_later, contains_here}
+use Rattle.list_laws.proofs.Each.{contains_later, contains_here, at_contains, contains_at}
 use Rattle.orc_ids.specs.declared.groups.Group.{Group}
 use Rattle.orc_ids.specs.declared.ids.InstId.{InstId}
 use Rattle.block_groups.specs.Groups.{block_of, group_of, groups_of, is_absolute, is_in, live_places, members_at, needed, needs}
@@ -23,14 +23,14 @@ use Rattle.link_model.specs.declared.graph.GPlace.{GPlace}
 use Rattle.link_model.specs.declared.graph.GPlace.TheVariants.{In, Abs, External}
 use Rattle.link_model.specs.declared.graph.GSym.{GSym}
 use Rattle.link_model.specs.declared.graph.LinkGraph.{LinkGraph}
-use Rattle.session_laws.proofs.Elements.{mapped_some, same_element}
+use Rattle.session_laws.proofs.Declared.{mapped_some, same_element}
 use Rattle.session_model.specs.Change.{deps_in}
 use Rattle.session_model.specs.Lists.{first_some, only_if, or_else}
 use Rattle.session_model.specs.Plain.{is_owned, own_rows}
 use Rattle.session_model.specs.declared.rows.InstRow.{InstRow}
 use Rattle.static_links.proofs.Lists.{any_found, any_there, contains_flat, filtered, flat_mapped}
 use Rattle.closures.specs.Closures.{offer_place}
-use Rattle.closures.proofs.Lists.{chosen_here, contained, filter_here, map_here, map_there, number_of, pair_parts, pair_there, range_here}
+use Rattle.closures.proofs.Lists.{chosen_here, filter_here, map_here, map_there, pair_parts, pair_there, range_here}
 
 -- The places of the live names
 
@@ -152,7 +152,7 @@ member_passes test places own f i is any =
     let kept : List (GPlace × InstId) = filter (λ (p : GPlace × InstId). test p.0) (zip places own) in
     let pair = map_there (λ (p : GPlace × InstId). p.1) kept member.0 member.1 in
     let from = filtered (λ (p : GPlace × InstId). test p.0) (zip places own) pair.0 pair.1 in
-    let at = number_of (zip places own) pair.0 from.0 in
+    let at = contains_at (zip places own) pair.0 from.0 in
     let parts = pair_parts places own at.0 pair.0 at.1 in
     let place : pair.0.0 ≡ f pair.0.1 = same_element (slice_get places at.0) pair.0.0 (f pair.0.1) parts.0 (ap (λ (ps : List GPlace). slice_get ps at.0) is ∙ mapped_some f own at.0 pair.0.1 parts.1) in
     let same : pair.0.1.0 ≡ i = ap (λ (j : InstId). j.0) pair.2 ∙ eqb-true member.0.0 i member.2 in
@@ -161,10 +161,10 @@ member_passes test places own f i is any =
 -- an instance whose place passes is a member
 member_there : (test : GPlace → Bool) (places : List GPlace) (own : List InstId) (f : InstId → GPlace) (i : InstId) → places ≡ map f own → Contains own i → test (f i) ≡ true → Contains (members_at test places own) i
 member_there test places own f i is c on =
-    let at = number_of own i c in
+    let at = contains_at own i c in
     let place : slice_get places at.0 ≡ Some (f i) = ap (λ (ps : List GPlace). slice_get ps at.0) is ∙ mapped_some f own at.0 i at.1 in
     map_here (λ (p : GPlace × InstId). p.1) (filter (λ (p : GPlace × InstId). test p.0) (zip places own)) (f i, i)
-    (filter_here (λ (p : GPlace × InstId). test p.0) (zip places own) (f i, i) (contained (zip places own) at.0 (f i, i) (pair_there places own at.0 (f i) i place at.1)) on)
+    (filter_here (λ (p : GPlace × InstId). test p.0) (zip places own) (f i, i) (at_contains (zip places own) at.0 (f i, i) (pair_there places own at.0 (f i) i place at.1)) on)
 
 -- a place in one block is in no other, and isn't absolute
 in_block : (p : GPlace) (a b : ℕ) → block_of p ≡ Some b → is_in a p ≡ true → a ≡ b
@@ -242,5 +242,5 @@ instance_deps g live rows own bound i b sound offered c at =
 pub bound_needed : (g : LinkGraph) (live : List Bool) (bound : List (Option InstId)) (k s b : ℕ) (i : InstId) → slice_get (external_symbols g live) k ≡ Some s → slice_get bound k ≡ Some (Some i) → needs g live s b ≡ true → Contains (block_deps g live bound b) i
 bound_needed g live bound k s b i external at needs_it =
     chosen_here (λ (p : ℕ × Option InstId). if needs g live p.0 b then p.1 else None) (zip (external_symbols g live) bound) (s, Some i) i
-    (contained (zip (external_symbols g live) bound) k (s, Some i) (pair_there (external_symbols g live) bound k s (Some i) external at))
+    (at_contains (zip (external_symbols g live) bound) k (s, Some i) (pair_there (external_symbols g live) bound k s (Some i) external at))
     (ap (λ (t : Bool). if t then Some i else None) needs_it)

@@ -17,9 +17,7 @@ use Rattle.link_model.specs.Sound.{EdgeFits}
 use Rattle.link_model.specs.declared.graph.Edge.{Edge}
 use Rattle.link_model.specs.declared.graph.GPlace.TheVariants.{In}
 use Rattle.link_model.specs.declared.graph.LinkGraph.{LinkGraph}
-use Rattle.session_laws.proofs.Elements.{map_parts, mapped_parts, mapped_length, element_below, same_element}
-use Rattle.session_laws.proofs.Facts.{test_is, test_parts}
-use Rattle.session_laws.proofs.Paths.{reaches_self, reaches_dep, reach_transitive}
+use Rattle.session_laws.proofs.Declared.{map_parts, mapped_parts, mapped_length, element_below, same_element, test_is, test_parts, reaches_self, reaches_dep, reach_transitive}
 use Rattle.session_model.specs.Meaning.{Meaning, Bindings}
 use Rattle.session_model.specs.Owed.{IsIntact}
 use Rattle.session_model.specs.Plain.{Plain, UnitRow, emitted_at, failed_at, is_emitted, is_failed}

@@ -12,7 +12,6 @@ use Rattle.link_model.specs.declared.graph.Edge.{Edge}
 use Rattle.link_model.specs.declared.graph.LinkGraph.{LinkGraph}
 use Rattle.session_model.specs.Meaning.{Bindings}
 use Rattle.session_model.specs.Plain.{Plain, UnitRow}
-use Rattle.session_model.specs.declared.rows.InstRow.{InstRow}
 use Rattle.session_model.specs.declared.rows.UnitPhase.TheVariants as stage
 use Rattle.session_units.specs.Meaning.{addresses}
 use Rattle.static_links.specs.Links.{Spot, Spots}

@@ -12,7 +12,7 @@ use Rattle.closure_laws.specs.Dependencies.{DependenciesFit, DependsSo, unit_gro
 use Rattle.closure_laws.specs.Instances.{AreLive}
 use Rattle.link_model.specs.Graph.{external_symbols}
 use Rattle.link_model.specs.declared.graph.LinkGraph.{LinkGraph}
-use Rattle.session_laws.proofs.Elements.{element_below, map_parts, mapped_some}
+use Rattle.session_laws.proofs.Declared.{element_below, map_parts, mapped_some}
 use Rattle.session_laws.specs.Placements.{AreApart}
 use Rattle.session_model.specs.Change.{deps_in}
 use Rattle.session_model.specs.Meaning.{Meaning}

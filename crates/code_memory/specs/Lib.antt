@@ -1,5 +1,6 @@
 pub mod Apart
 pub mod Gaps
+pub mod Held
 pub mod Kept
 pub mod LastImage
 pub mod Laws

@@ -2,19 +2,20 @@ ghost use Rattle.std.specs.Prelude.{◌≡◌, ◌<◌, length, slice_get, optio
 ghost use Rattle.std.specs.Arc.{arc_value};
 ghost use Rattle.code_memory.specs.Mapped.{AreSegments};
 
-use orc_ids::Bytes;
+use crate::deposit_bytes::DepositBytes;
 use std::alloc::{AllocError, Global};
 use std::marker::Model;
 use std::sync::Arc;
 
-/// A range of memory with its bytes, of which there is at least one.
+/// A range of memory with its bytes, of which there is at least one. The space and its images share
+/// them.
 #[derive(Debug, Drop)]
 pub struct Segment {
     pub base: u64,
-    pub bytes: Bytes,
+    pub bytes: DepositBytes,
 }
 
-/// A copy of the deposited ranges, in rising order, which stays as it is. Contracts see the list.
+/// The deposited ranges as they were once, in rising order. It stays as it is. Contracts see the list.
 #[derive(Debug, Drop)]
 pub struct Image {
     segments: Arc<Vec<Segment>, Global>,

@@ -8,7 +8,7 @@ ghost use Rattle.code_memory.specs.Places.{deposits, AreLaidOut};
 
 use crate::image::{Image, Segment};
 use crate::placement::Placement;
-use crate::ranges::{copy_deposits, is_deposited, renew};
+use crate::ranges::{is_deposited, list_deposits, renew};
 use std::alloc::{AllocError, Global};
 use std::collections::BTreeMap;
 use std::sync::Arc;
@@ -29,6 +29,14 @@ impl LastImage {
         LastImage {
             image: None,
             changed: None,
+        }
+    }
+
+    /// From which base on there may be deposits that no image has shared.
+    pub(crate) fn unshared_from(&self) -> u64 {
+        match &self.image {
+            Some(_) => self.changed.unwrap_or(u64::MAX),
+            None => 0,
         }
     }
 
@@ -83,7 +91,7 @@ impl LastImage {
     {
         match self.image.take() {
             Some(image) => up_to_date(alloc, image, self.changed, placed),
-            None => copy_image(alloc, placed),
+            None => new_image(alloc, placed),
         }
     }
 }
@@ -133,7 +141,7 @@ fn renew_image(
     if renew_alone(alloc, &mut list, base, placed)? {
         return Ok(Image::from_list(list));
     }
-    copy_image(alloc, placed)
+    new_image(alloc, placed)
 }
 
 /// Brings a list up to date that is so below a base, unless another image has it.
@@ -159,10 +167,10 @@ fn renew_alone(
 }
 
 /// An image that has nothing of an earlier one.
-fn copy_image(alloc: Global, placed: &BTreeMap<u64, Placement>) -> Result<Image, AllocError>
+fn new_image(alloc: Global, placed: &BTreeMap<u64, Placement>) -> Result<Image, AllocError>
     requires { AreLaidOut (tree.values placed.now) }
     ensures { IfOk result (λ image. image ≡ deposits (tree.values placed.now)) }
 {
-    let copies = copy_deposits(alloc, placed)?;
-    Ok(Image::from_list(Arc::new(alloc, copies)?))
+    let segments = list_deposits(alloc, placed)?;
+    Ok(Image::from_list(Arc::new(alloc, segments)?))
 }

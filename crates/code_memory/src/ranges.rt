@@ -9,6 +9,7 @@ ghost use Rattle.code_memory.specs.LastImage.{based_below};
 ghost use Rattle.code_memory.specs.Mapped.{AreSegments};
 ghost use Rattle.code_memory.specs.Places.{deposits, AreLaidOut};
 
+use crate::deposit::Deposit;
 use crate::gaps::{Gap, add_gap, count_below, raise_start, take_ending, take_starting};
 use crate::image::Segment;
 use crate::placement::Placement;
@@ -39,7 +40,7 @@ pub(crate) fn fill(placed: &mut BTreeMap<u64, Placement>, base: u64, bytes: Byte
     ensures { Fills placed.old.entries base bytes placed.new.entries }
 {
     if let Some(placement) = placed.get_mut(&base) {
-        placement.bytes = Some(bytes);
+        placement.bytes = Some(Deposit::new(bytes));
     }
 }
 
@@ -99,35 +100,35 @@ pub(crate) fn give_back(gaps: &mut VecDeque<Gap>, last: u64, base: u64, end: u64
 }
 
 /// The deposited ranges.
-pub(crate) fn copy_deposits(
+pub(crate) fn list_deposits(
     alloc: Global,
     placed: &BTreeMap<u64, Placement>,
 ) -> Result<Vec<Segment>, AllocError>
-    ensures { IfOk result (λ copies. copies.items ≡ deposits (tree.values placed.now)) }
+    ensures { IfOk result (λ segments. segments.items ≡ deposits (tree.values placed.now)) }
 {
-    let mut copies = Vec::new(alloc);
+    let mut segments = Vec::new(alloc);
     for placement in placed.values() {
-        push_copy(alloc, &mut copies, placement)?;
+        push_segment(alloc, &mut segments, placement)?;
     }
-    Ok(copies)
+    Ok(segments)
 }
 
-/// Brings copies of the deposited ranges up to date that are so below a base.
+/// Brings a list of the deposited ranges up to date that is so below a base.
 pub(crate) fn renew(
     alloc: Global,
-    copies: &mut Vec<Segment>,
+    segments: &mut Vec<Segment>,
     base: u64,
     placed: &BTreeMap<u64, Placement>,
 ) -> Result<(), AllocError>
     requires laid_out { AreLaidOut (tree.values placed.now) }
     requires by_base { placed.now.entries ≡ keyed (tree.values placed.now) }
-    requires segments { AreSegments copies.old.items }
-    requires same { based_below base copies.old.items ≡ based_below base (deposits (tree.values placed.now)) }
-    ensures { IfOk result (λ _. copies.new.items ≡ deposits (tree.values placed.now)) }
+    requires segments { AreSegments segments.old.items }
+    requires same { based_below base segments.old.items ≡ based_below base (deposits (tree.values placed.now)) }
+    ensures { IfOk result (λ _. segments.new.items ≡ deposits (tree.values placed.now)) }
 {
-    let kept = count_based_below(copies.as_slice(), base);
-    copies.truncate(kept);
-    push_from(alloc, copies, base, placed)
+    let kept = count_based_below(segments.as_slice(), base);
+    segments.truncate(kept);
+    push_from(alloc, segments, base, placed)
 }
 
 /// How many ranges have bases below an address.
@@ -141,30 +142,31 @@ fn count_based_below(segments: &[Segment], at: u64) -> usize
 /// Adds the deposited ranges from a base on.
 fn push_from(
     alloc: Global,
-    copies: &mut Vec<Segment>,
+    segments: &mut Vec<Segment>,
     base: u64,
     placed: &BTreeMap<u64, Placement>,
 ) -> Result<(), AllocError>
-    ensures { IfOk result (λ _. copies.new.items ≡ copies.old.items ++ deposits (placements_from base placed.now.entries)) }
+    ensures { IfOk result (λ _. segments.new.items ≡ segments.old.items ++ deposits (placements_from base placed.now.entries)) }
 {
     for (_, placement) in placed.range(base..) {
-        push_copy(alloc, copies, placement)?;
+        push_segment(alloc, segments, placement)?;
     }
     Ok(())
 }
 
 /// Adds the range of a placement, if it has bytes.
-fn push_copy(
+fn push_segment(
     alloc: Global,
-    copies: &mut Vec<Segment>,
+    segments: &mut Vec<Segment>,
     placement: &Placement,
 ) -> Result<(), AllocError>
-    ensures { IfOk result (λ _. copies.new.items ≡ copies.old.items ++ deposits (placement.now ∷ [])) }
+    ensures { IfOk result (λ _. segments.new.items ≡ segments.old.items ++ deposits (placement.now ∷ [])) }
 {
-    if let Some(bytes) = &placement.bytes {
-        copies.push(Segment {
+    if let Some(deposit) = &placement.bytes {
+        let bytes = deposit.share(alloc)?;
+        segments.push(Segment {
             base: placement.base,
-            bytes: Bytes::copy_of(alloc, bytes.as_slice())?,
+            bytes,
         })?;
     }
     Ok(())

@@ -7,6 +7,7 @@ use crate::image::Image;
 use crate::last_image::LastImage;
 use crate::placement::Placement;
 use crate::ranges::{fill, give_back, record, take_at, take_out};
+use crate::sharing::share_from;
 use orc_ids::{Bytes, CODE_START, Shape, UnitId};
 use std::alloc::{AllocError, Global};
 use std::collections::{BTreeMap, HashMap, VecDeque};
@@ -117,13 +118,15 @@ impl Space {
         }
     }
 
-    /// A copy of the deposited ranges, at the cost of those that changed since the last one. Only
-    /// where that one is still held by somebody, and not all is as it was, is each range copied.
+    /// The deposited ranges, at the cost of those from the lowest on that changed since the last
+    /// image. Only where that one is still held by somebody, and not all is as it was, is the whole
+    /// list made anew. The bytes are shared, and none is copied.
     pub fn image(&mut self) -> Result<Image, AllocError>
         ensures image { IfOk result (λ image. image ≡ deposits self.old) }
         ensures same { self.new ≡ self.old }
         ensures laid_out { AreLaidOut self.old }
     {
+        share_from(self.alloc, &mut self.placed, self.shown.unshared_from())?;
         self.shown.show(self.alloc, &self.placed)
     }
 }

@@ -1,11 +1,7 @@
 //! Images after what was deposited and freed since the one before.
-ghost use Rattle.std.specs.Prelude.{◌≡◌, None, length, IfOk};
-ghost use Rattle.code_memory.specs.Places.{placement_of, with_range};
-
-use code_memory::{Image, Space, SpaceError};
-use orc_ids::{Bytes, Shape, UnitId};
-use std::alloc::Global;
-use std::process::Abort;
+use crate::play::{Step, play};
+use code_memory::Space;
+use orc_ids::Shape;
 
 /// Three such ranges lie at 0x1000_0000, 0x1000_0010 and 0x1000_0020.
 const SMALL: Shape = Shape {
@@ -13,113 +9,116 @@ const SMALL: Shape = Shape {
     align: 16,
 };
 
-fn place(space: &mut Space, u: UnitId) -> Result<u64, SpaceError>
-    requires { placement_of space.old u ≡ None }
-    ensures { IfOk result (λ base. space.new ≡ with_range space.old u SMALL base) }
-{
-    space.place(u, SMALL)
-}
+// What units deposit.
+const SEVENS: [u8; 16] = [7; 16];
 
-/// Sixteen times a byte.
-fn sixteen(rt: &impl Abort, alloc: Global, byte: u8) -> Bytes
-    ensures { length result ≡ 16 }
-{
-    Bytes::copy_of(alloc, &[byte; 16]).expect(rt, "memory")
-}
+const EIGHTS: [u8; 16] = [8; 16];
 
-fn shown(rt: &impl Abort, space: &mut Space) -> Image
-    ensures { space.new ≡ space.old }
-{
-    space.image().expect(rt, "memory")
-}
+const NINES: [u8; 16] = [9; 16];
 
-/// Whether range k has that base, and sixteen times that byte.
-fn has(image: &Image, k: u32, base: u64, byte: u8) -> bool {
-    k < image.count() && image.base(k) == base && image.bytes(k) == [byte; 16].as_slice()
+// The session's space is handed from thread to thread, and an image is read in any.
+fn is_shared<T: Send + Sync>(_value: &T) {}
+
+#[test]
+fn spaces_and_images_cross_threads(rt: HostRuntime) {
+    let mut space = Space::new(rt.alloc());
+    is_shared(&space);
+    is_shared(&space.image());
 }
 
 #[test]
 fn a_deposit_above_is_added(rt: HostRuntime) {
-    let mut space = Space::new(rt.alloc());
-    assert!(rt; matches!(place(&mut space, UnitId(0)), Ok(0x1000_0000)));
-    assert!(rt; matches!(place(&mut space, UnitId(1)), Ok(0x1000_0010)));
-    space.deposit(UnitId(0), sixteen(&rt, rt.alloc(), 7));
-    assert_eq!(rt; shown(&rt, &mut space).count(), 1);
-    space.deposit(UnitId(1), sixteen(&rt, rt.alloc(), 8));
-    let image = shown(&rt, &mut space);
-    assert_eq!(rt; image.count(), 2);
-    assert!(rt; has(&image, 0, 0x1000_0000, 7));
-    assert!(rt; has(&image, 1, 0x1000_0010, 8));
+    let steps = [
+        Step::Place(0, SMALL, 0x1000_0000),
+        Step::Place(1, SMALL, 0x1000_0010),
+        Step::Deposit(0, &SEVENS),
+        Step::Shows(&[(0x1000_0000, &SEVENS)]),
+        Step::Deposit(1, &EIGHTS),
+        Step::Shows(&[(0x1000_0000, &SEVENS), (0x1000_0010, &EIGHTS)]),
+    ];
+    assert_eq!(rt; play(rt.alloc(), &steps), None);
 }
 
 #[test]
 fn a_deposit_below_comes_first(rt: HostRuntime) {
-    let mut space = Space::new(rt.alloc());
-    assert!(rt; matches!(place(&mut space, UnitId(0)), Ok(0x1000_0000)));
-    assert!(rt; matches!(place(&mut space, UnitId(1)), Ok(0x1000_0010)));
-    space.deposit(UnitId(1), sixteen(&rt, rt.alloc(), 8));
-    assert!(rt; has(&shown(&rt, &mut space), 0, 0x1000_0010, 8));
-    space.deposit(UnitId(0), sixteen(&rt, rt.alloc(), 7));
-    let image = shown(&rt, &mut space);
-    assert_eq!(rt; image.count(), 2);
-    assert!(rt; has(&image, 0, 0x1000_0000, 7));
-    assert!(rt; has(&image, 1, 0x1000_0010, 8));
+    let steps = [
+        Step::Place(0, SMALL, 0x1000_0000),
+        Step::Place(1, SMALL, 0x1000_0010),
+        Step::Deposit(1, &EIGHTS),
+        Step::Shows(&[(0x1000_0010, &EIGHTS)]),
+        Step::Deposit(0, &SEVENS),
+        Step::Shows(&[(0x1000_0000, &SEVENS), (0x1000_0010, &EIGHTS)]),
+    ];
+    assert_eq!(rt; play(rt.alloc(), &steps), None);
 }
 
 #[test]
 fn what_was_freed_is_left_out(rt: HostRuntime) {
-    let mut space = Space::new(rt.alloc());
-    assert!(rt; matches!(place(&mut space, UnitId(0)), Ok(0x1000_0000)));
-    assert!(rt; matches!(place(&mut space, UnitId(1)), Ok(0x1000_0010)));
-    assert!(rt; matches!(place(&mut space, UnitId(2)), Ok(0x1000_0020)));
-    space.deposit(UnitId(0), sixteen(&rt, rt.alloc(), 7));
-    space.deposit(UnitId(1), sixteen(&rt, rt.alloc(), 8));
-    space.deposit(UnitId(2), sixteen(&rt, rt.alloc(), 9));
-    assert_eq!(rt; shown(&rt, &mut space).count(), 3);
-    space.free(UnitId(1));
-    let image = shown(&rt, &mut space);
-    assert_eq!(rt; image.count(), 2);
-    assert!(rt; has(&image, 0, 0x1000_0000, 7));
-    assert!(rt; has(&image, 1, 0x1000_0020, 9));
-    space.free(UnitId(2));
-    let image = shown(&rt, &mut space);
-    assert_eq!(rt; image.count(), 1);
-    assert!(rt; has(&image, 0, 0x1000_0000, 7));
+    let steps = [
+        Step::Place(0, SMALL, 0x1000_0000),
+        Step::Place(1, SMALL, 0x1000_0010),
+        Step::Place(2, SMALL, 0x1000_0020),
+        Step::Deposit(0, &SEVENS),
+        Step::Deposit(1, &EIGHTS),
+        Step::Deposit(2, &NINES),
+        Step::Shows(&[
+            (0x1000_0000, &SEVENS),
+            (0x1000_0010, &EIGHTS),
+            (0x1000_0020, &NINES),
+        ]),
+        Step::Free(1),
+        Step::Hold,
+        Step::Held(0, &[(0x1000_0000, &SEVENS), (0x1000_0020, &NINES)]),
+        Step::Free(2),
+        Step::Shows(&[(0x1000_0000, &SEVENS)]),
+    ];
+    assert_eq!(rt; play(rt.alloc(), &steps), None);
 }
 
 #[test]
 fn an_image_that_is_held_stays(rt: HostRuntime) {
-    let mut space = Space::new(rt.alloc());
-    assert!(rt; matches!(place(&mut space, UnitId(0)), Ok(0x1000_0000)));
-    assert!(rt; matches!(place(&mut space, UnitId(1)), Ok(0x1000_0010)));
-    space.deposit(UnitId(0), sixteen(&rt, rt.alloc(), 7));
-    let first = shown(&rt, &mut space);
-    let again = shown(&rt, &mut space);
-    space.deposit(UnitId(1), sixteen(&rt, rt.alloc(), 8));
-    let both = shown(&rt, &mut space);
-    space.free(UnitId(0));
-    let last = shown(&rt, &mut space);
-    assert_eq!(rt; first.count(), 1);
-    assert!(rt; has(&first, 0, 0x1000_0000, 7));
-    assert_eq!(rt; again.count(), 1);
-    assert!(rt; has(&again, 0, 0x1000_0000, 7));
-    assert_eq!(rt; both.count(), 2);
-    assert!(rt; has(&both, 0, 0x1000_0000, 7));
-    assert!(rt; has(&both, 1, 0x1000_0010, 8));
-    assert_eq!(rt; last.count(), 1);
-    assert!(rt; has(&last, 0, 0x1000_0010, 8));
+    let steps = [
+        Step::Place(0, SMALL, 0x1000_0000),
+        Step::Place(1, SMALL, 0x1000_0010),
+        Step::Deposit(0, &SEVENS),
+        Step::Hold,
+        Step::Hold,
+        Step::Deposit(1, &EIGHTS),
+        Step::Hold,
+        Step::Free(0),
+        Step::Hold,
+        Step::Held(0, &[(0x1000_0000, &SEVENS)]),
+        Step::Held(1, &[(0x1000_0000, &SEVENS)]),
+        Step::Held(2, &[(0x1000_0000, &SEVENS), (0x1000_0010, &EIGHTS)]),
+        Step::Held(3, &[(0x1000_0010, &EIGHTS)]),
+    ];
+    assert_eq!(rt; play(rt.alloc(), &steps), None);
 }
 
 #[test]
 fn a_range_that_is_used_again_has_its_new_bytes(rt: HostRuntime) {
-    let mut space = Space::new(rt.alloc());
-    assert!(rt; matches!(place(&mut space, UnitId(0)), Ok(0x1000_0000)));
-    space.deposit(UnitId(0), sixteen(&rt, rt.alloc(), 7));
-    assert!(rt; has(&shown(&rt, &mut space), 0, 0x1000_0000, 7));
-    space.free(UnitId(0));
-    assert!(rt; matches!(place(&mut space, UnitId(1)), Ok(0x1000_0000)));
-    space.deposit(UnitId(1), sixteen(&rt, rt.alloc(), 8));
-    let image = shown(&rt, &mut space);
-    assert_eq!(rt; image.count(), 1);
-    assert!(rt; has(&image, 0, 0x1000_0000, 8));
+    let steps = [
+        Step::Place(0, SMALL, 0x1000_0000),
+        Step::Deposit(0, &SEVENS),
+        Step::Shows(&[(0x1000_0000, &SEVENS)]),
+        Step::Free(0),
+        Step::Place(1, SMALL, 0x1000_0000),
+        Step::Deposit(1, &EIGHTS),
+        Step::Shows(&[(0x1000_0000, &EIGHTS)]),
+    ];
+    assert_eq!(rt; play(rt.alloc(), &steps), None);
+}
+
+#[test]
+fn a_second_deposit_leaves_an_earlier_image(rt: HostRuntime) {
+    let steps = [
+        Step::Place(0, SMALL, 0x1000_0000),
+        Step::Deposit(0, &SEVENS),
+        Step::Hold,
+        Step::Deposit(0, &EIGHTS),
+        Step::Hold,
+        Step::Held(0, &[(0x1000_0000, &SEVENS)]),
+        Step::Held(1, &[(0x1000_0000, &EIGHTS)]),
+    ];
+    assert_eq!(rt; play(rt.alloc(), &steps), None);
 }

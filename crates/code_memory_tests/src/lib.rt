@@ -8,4 +8,6 @@
 #[cfg(test)]
 mod images;
 #[cfg(test)]
+mod play;
+#[cfg(test)]
 mod tests;

@@ -19,6 +19,3 @@ mod syntax;
 pub use command::{AssemblyWords, Command, GenerationWords, RunWords, SessionWords, read_command};
 pub use error::{CommandError, UsageKind};
 pub use limits::{FILES_LIMIT, FUEL_LIMIT, NAME_LIMIT, OBJECTS_LIMIT, WORKER_LIMIT};
-
-#[cfg(test)]
-mod tests;

@@ -5,7 +5,7 @@ use Rattle.std.specs.Option.{option_map_or}
 use Rattle.std.proofs.lemmas.Option.{same_Some, none-some, slice_get_within}
 use Rattle.std.proofs.lemmas.Bool.{cases_lt}
 use Rattle.dep_groups.specs.declared.graph.Edge.{Edge}
-use Rattle.dep_groups.specs.declared.graph.Node.{Node}
+use Rattle.dep_groups.specs.Nodes.{Node}
 use Rattle.dep_groups.specs.declared.resolve.Core.{Core}
 use Rattle.dep_groups.specs.Places.{place, is_set, unset}
 use Rattle.dep_groups.specs.Shape.{home_in, deps_in, deps_of, ready_in, entries_of}
@@ -24,13 +24,13 @@ no_element : {X : Type 0} (x : X) → Contains [] x → ⊥
 no_element x c = omega (arith, c.1)
 
 -- what groups depend on and have as members, with one more
-pub deps_here : (nodes : List Node) (n : Node) → deps_of (nodes ++ n ∷ []) (length nodes) ≡ n.deps.items
+pub deps_here : (nodes : List Node) (n : Node) → deps_of (nodes ++ n ∷ []) (length nodes) ≡ n.deps
 unfolding deps_of
-deps_here nodes n = ap (λ o. option_map_or (λ (m : Node). m.deps.items) o []) (get_last nodes n)
+deps_here nodes n = ap (λ o. option_map_or (λ (m : Node). m.deps) o []) (get_last nodes n)
 
-pub members_here : (nodes : List Node) (n : Node) → members_of (nodes ++ n ∷ []) (length nodes) ≡ n.members.items
+pub members_here : (nodes : List Node) (n : Node) → members_of (nodes ++ n ∷ []) (length nodes) ≡ n.members
 unfolding members_of
-members_here nodes n = ap (λ o. option_map_or (λ (m : Node). m.members.items) o []) (get_last nodes n)
+members_here nodes n = ap (λ o. option_map_or (λ (m : Node). m.members) o []) (get_last nodes n)
 
 get_same : {X : Type 0} (xs ys : List X) (k : ℕ) → k < length xs → slice_get (xs ++ ys) k ≡ slice_get xs k
 get_same [] ys k less = absurd (omega arith)
@@ -39,11 +39,11 @@ get_same (x ∷ xs) ys (suc k) less = get_same xs ys k (omega (arith, less))
 
 pub deps_before : (nodes : List Node) (n : Node) (g : ℕ) → g < length nodes → deps_of (nodes ++ n ∷ []) g ≡ deps_of nodes g
 unfolding deps_of
-deps_before nodes n g less = ap (λ o. option_map_or (λ (m : Node). m.deps.items) o []) (get_same nodes (n ∷ []) g less)
+deps_before nodes n g less = ap (λ o. option_map_or (λ (m : Node). m.deps) o []) (get_same nodes (n ∷ []) g less)
 
 pub members_before : (nodes : List Node) (n : Node) (g : ℕ) → g < length nodes → members_of (nodes ++ n ∷ []) g ≡ members_of nodes g
 unfolding members_of
-members_before nodes n g less = ap (λ o. option_map_or (λ (m : Node). m.members.items) o []) (get_same nodes (n ∷ []) g less)
+members_before nodes n g less = ap (λ o. option_map_or (λ (m : Node). m.members) o []) (get_same nodes (n ∷ []) g less)
 
 past_all : (nodes : List Node) (g : ℕ) → length nodes ≤ g → deps_of nodes g ≡ []
 unfolding deps_of
@@ -57,7 +57,7 @@ deps_there nodes g d named = ⊎_elim (λ (b : g < length nodes). b) (λ (b : le
 pub deps_kept : (nodes : List Node) (n : Node) (g d : ℕ) → Contains (deps_of nodes g) d → Contains (deps_of (nodes ++ n ∷ []) g) d
 deps_kept nodes n g d named = subst (λ ds. Contains ds d) (sym (deps_before nodes n g (deps_there nodes g d named))) named
 
-pub deps_cases : (nodes : List Node) (n : Node) (g d : ℕ) → Contains (deps_of (nodes ++ n ∷ []) g) d → Contains (deps_of nodes g) d ⊎ ((g ≡ length nodes) × Contains n.deps.items d)
+pub deps_cases : (nodes : List Node) (n : Node) (g d : ℕ) → Contains (deps_of (nodes ++ n ∷ []) g) d → Contains (deps_of nodes g) d ⊎ ((g ≡ length nodes) × Contains n.deps d)
 deps_cases nodes n g d named = ⊎_elim
     (λ (b : g < length nodes). inl (subst (λ ds. Contains ds d) (deps_before nodes n g b) named))
     (λ (b : length nodes ≤ g).
@@ -67,17 +67,17 @@ deps_cases nodes n g d named = ⊎_elim
     (cases_lt g (length nodes))
 
 -- the lists of mentions, with one more group
-pub indexed_added : (nodes : List Node) (n : Node) (firsts new : List (Option ℕ)) (edges more : List Edge) → ((g d : ℕ) → Contains (deps_of nodes g) d → IsListed edges (place firsts d) g) → ((d : ℕ) → Contains n.deps.items d → IsListed more (place new d) (length nodes)) → ((d g : ℕ) → IsListed edges (place firsts d) g → IsListed more (place new d) g) → (g d : ℕ) → Contains (deps_of (nodes ++ n ∷ []) g) d → IsListed more (place new d) g
+pub indexed_added : (nodes : List Node) (n : Node) (firsts new : List (Option ℕ)) (edges more : List Edge) → ((g d : ℕ) → Contains (deps_of nodes g) d → IsListed edges (place firsts d) g) → ((d : ℕ) → Contains n.deps d → IsListed more (place new d) (length nodes)) → ((d g : ℕ) → IsListed edges (place firsts d) g → IsListed more (place new d) g) → (g d : ℕ) → Contains (deps_of (nodes ++ n ∷ []) g) d → IsListed more (place new d) g
 indexed_added nodes n firsts new edges more complete listed kept g d named = sort (deps_cases nodes n g d named)
   where
-    sort : Contains (deps_of nodes g) d ⊎ ((g ≡ length nodes) × Contains n.deps.items d) → IsListed more (place new d) g
+    sort : Contains (deps_of nodes g) d ⊎ ((g ≡ length nodes) × Contains n.deps d) → IsListed more (place new d) g
     sort (inl e) = kept d g (complete g d e)
     sort (inr e) = subst (λ m. IsListed more (place new d) m) (sym e.0) (listed d e.1)
 
-pub named_added : (nodes : List Node) (n : Node) (firsts new : List (Option ℕ)) (edges more : List Edge) → ((g d : ℕ) → IsListed edges (place firsts d) g → Contains (deps_of nodes g) d) → ((d g : ℕ) → IsListed more (place new d) g → IsListed edges (place firsts d) g ⊎ (Contains n.deps.items d × (g ≡ length nodes))) → (g d : ℕ) → IsListed more (place new d) g → Contains (deps_of (nodes ++ n ∷ []) g) d
+pub named_added : (nodes : List Node) (n : Node) (firsts new : List (Option ℕ)) (edges more : List Edge) → ((g d : ℕ) → IsListed edges (place firsts d) g → Contains (deps_of nodes g) d) → ((d g : ℕ) → IsListed more (place new d) g → IsListed edges (place firsts d) g ⊎ (Contains n.deps d × (g ≡ length nodes))) → (g d : ℕ) → IsListed more (place new d) g → Contains (deps_of (nodes ++ n ∷ []) g) d
 named_added nodes n firsts new edges more named only g d listed = sort (only d g listed)
   where
-    sort : IsListed edges (place firsts d) g ⊎ (Contains n.deps.items d × (g ≡ length nodes)) → Contains (deps_of (nodes ++ n ∷ []) g) d
+    sort : IsListed edges (place firsts d) g ⊎ (Contains n.deps d × (g ≡ length nodes)) → Contains (deps_of (nodes ++ n ∷ []) g) d
     sort (inl e) = deps_kept nodes n g d (named g d e)
     sort (inr e) = subst (λ m. Contains (deps_of (nodes ++ n ∷ []) m) d) (sym e.1) (subst (λ ds. Contains ds d) (sym (deps_here nodes n)) e.0)
 
@@ -94,7 +94,7 @@ unlisted edges o g e (later {k = k} f is rest) = none-some k (sym e)
 
 module _ (old new : Core) (node : Node) where
   pub record IsBigger : Type 0 where
-    pub housed : IsHoused old.graph new.graph node.members.items (length old.graph.nodes.items)
+    pub housed : IsHoused old.graph new.graph node.members (length old.graph.nodes.items)
     pub nodes : new.graph.nodes.items ≡ old.graph.nodes.items ++ node ∷ []
     pub links : new.links.items ≡ old.links.items ++ None ∷ []
     pub nexts : new.nexts.items ≡ old.nexts.items ++ None ∷ []
@@ -105,10 +105,10 @@ module _ (old new : Core) (node : Node) where
     pub ready : new.graph.ready ≡ old.graph.ready
     pub told : new.told ≡ old.told
     pub homes : length new.graph.homes.items ≡ length old.graph.homes.items
-    pub fresh : AreFresh old.graph node.members.items
-    pub deps : (d : ℕ) → Contains node.deps.items d → d < length old.graph.homes.items
+    pub fresh : AreFresh old.graph node.members
+    pub deps : (d : ℕ) → Contains node.deps d → d < length old.graph.homes.items
     pub room : length old.trail.seen.items + 1 ≤ vec_capacity old.trail.order
-    pub few : length old.graph.nodes.items + 1 ≤ 2 ^ 32
+    pub few : length new.graph.nodes.items < 2 ^ 32
 
   module _ (b : IsBigger) (s : IsSound old) where
     count : ℕ
@@ -118,14 +118,14 @@ module _ (old new : Core) (node : Node) where
     pub home_was : (i g : ℕ) → home_in old.graph i ≡ Some g → home_in new.graph i ≡ Some g
     home_was i g is = sort (b.housed.others i)
       where
-        sort : (home_in new.graph i ≡ home_in old.graph i) ⊎ (Contains node.members.items (record { 0 = i }) × (home_in new.graph i ≡ Some (length old.graph.nodes.items))) → home_in new.graph i ≡ Some g
+        sort : (home_in new.graph i ≡ home_in old.graph i) ⊎ (Contains node.members (record { 0 = i }) × (home_in new.graph i ≡ Some (length old.graph.nodes.items))) → home_in new.graph i ≡ Some g
         sort (inl e) = e ∙ is
         sort (inr e) = absurd (none-some g (sym (b.fresh (record { 0 = i }) e.0) ∙ is))
 
-    pub home_cases : (i g : ℕ) → home_in new.graph i ≡ Some g → (home_in old.graph i ≡ Some g) ⊎ ((g ≡ length old.graph.nodes.items) × Contains node.members.items (record { 0 = i }))
+    pub home_cases : (i g : ℕ) → home_in new.graph i ≡ Some g → (home_in old.graph i ≡ Some g) ⊎ ((g ≡ length old.graph.nodes.items) × Contains node.members (record { 0 = i }))
     home_cases i g is = sort (b.housed.others i)
       where
-        sort : (home_in new.graph i ≡ home_in old.graph i) ⊎ (Contains node.members.items (record { 0 = i }) × (home_in new.graph i ≡ Some (length old.graph.nodes.items))) → (home_in old.graph i ≡ Some g) ⊎ ((g ≡ length old.graph.nodes.items) × Contains node.members.items (record { 0 = i }))
+        sort : (home_in new.graph i ≡ home_in old.graph i) ⊎ (Contains node.members (record { 0 = i }) × (home_in new.graph i ≡ Some (length old.graph.nodes.items))) → (home_in old.graph i ≡ Some g) ⊎ ((g ≡ length old.graph.nodes.items) × Contains node.members (record { 0 = i }))
         sort (inl e) = inl (sym e ∙ is)
         sort (inr e) = inr (same_Some g (length old.graph.nodes.items) (sym is ∙ e.1), e.0)
 
@@ -145,7 +145,7 @@ module _ (old new : Core) (node : Node) where
         all None = refl
         all (Some g) = link_was g
 
-        sort : (home_in new.graph i ≡ home_in old.graph i) ⊎ (Contains node.members.items (record { 0 = i }) × (home_in new.graph i ≡ Some (length old.graph.nodes.items))) → step (home_in new.graph) (place new.links.items) i ≡ step (home_in old.graph) (place old.links.items) i
+        sort : (home_in new.graph i ≡ home_in old.graph i) ⊎ (Contains node.members (record { 0 = i }) × (home_in new.graph i ≡ Some (length old.graph.nodes.items))) → step (home_in new.graph) (place new.links.items) i ≡ step (home_in old.graph) (place old.links.items) i
         sort (inl e) = ap (linked_of (place new.links.items)) e ∙ all (home_in old.graph i)
         sort (inr e) = ap (linked_of (place new.links.items)) e.1 ∙ link_was (length old.graph.nodes.items) ∙ place_past_end old.links.items (length old.graph.nodes.items) (omega (arith, s.sizes.links)) ∙ sym (ap (linked_of (place old.links.items)) (b.fresh (record { 0 = i }) e.0))
 
@@ -158,14 +158,14 @@ module _ (old new : Core) (node : Node) where
     below : (g d : ℕ) → Contains (deps_in new.graph g) d → d < length new.graph.homes.items
     below g d named = sort (deps_cases old.graph.nodes.items node g d (subst (λ ns. Contains (deps_of ns g) d) b.nodes named))
       where
-        sort : Contains (deps_in old.graph g) d ⊎ ((g ≡ length old.graph.nodes.items) × Contains node.deps.items d) → d < length new.graph.homes.items
+        sort : Contains (deps_in old.graph g) d ⊎ ((g ≡ length old.graph.nodes.items) × Contains node.deps d) → d < length new.graph.homes.items
         sort (inl e) = omega (arith, s.wired.deps g d e, b.homes)
         sort (inr e) = omega (arith, b.deps d e.1, b.homes)
 
     reached : (i g d : ℕ) → home_in new.graph i ≡ Some g → place old.links.items g ≡ Some d → Reaches (entries_of new.graph) i d
     reached i g d is link = sort (home_cases i g is)
       where
-        sort : (home_in old.graph i ≡ Some g) ⊎ ((g ≡ length old.graph.nodes.items) × Contains node.members.items (record { 0 = i })) → Reaches (entries_of new.graph) i d
+        sort : (home_in old.graph i ≡ Some g) ⊎ ((g ≡ length old.graph.nodes.items) × Contains node.members (record { 0 = i })) → Reaches (entries_of new.graph) i d
         sort (inl e) = reach_kept old.graph new.graph home_was (λ j h k at named. kept_deps h k named) i d (s.leads.reached i g d e link)
         sort (inr e) = absurd (none-some d (sym (place_past_end old.links.items g (omega (arith, s.sizes.links, e.0))) ∙ link))
 
@@ -203,14 +203,14 @@ module _ (old new : Core) (node : Node) where
     members : (i g : ℕ) → home_in new.graph i ≡ Some g → Contains (members_of new.graph.nodes.items g) (record { 0 = i })
     members i g is = subst (λ ns. Contains (members_of ns g) (record { 0 = i })) (sym b.nodes) (sort (home_cases i g is))
       where
-        sort : (home_in old.graph i ≡ Some g) ⊎ ((g ≡ length old.graph.nodes.items) × Contains node.members.items (record { 0 = i })) → Contains (members_of (old.graph.nodes.items ++ node ∷ []) g) (record { 0 = i })
+        sort : (home_in old.graph i ≡ Some g) ⊎ ((g ≡ length old.graph.nodes.items) × Contains node.members (record { 0 = i })) → Contains (members_of (old.graph.nodes.items ++ node ∷ []) g) (record { 0 = i })
         sort (inl e) = subst (λ ms. Contains ms (record { 0 = i })) (sym (members_before old.graph.nodes.items node g (s.wired.within i g e))) (s.members i g e)
         sort (inr e) = subst (λ n. Contains (members_of (old.graph.nodes.items ++ node ∷ []) n) (record { 0 = i })) (sym e.0) (subst (λ ms. Contains ms (record { 0 = i })) (sym (members_here old.graph.nodes.items node)) e.1)
 
     within : (i g : ℕ) → home_in new.graph i ≡ Some g → g < length new.graph.nodes.items
     within i g is = sort (home_cases i g is)
       where
-        sort : (home_in old.graph i ≡ Some g) ⊎ ((g ≡ length old.graph.nodes.items) × Contains node.members.items (record { 0 = i })) → g < length new.graph.nodes.items
+        sort : (home_in old.graph i ≡ Some g) ⊎ ((g ≡ length old.graph.nodes.items) × Contains node.members (record { 0 = i })) → g < length new.graph.nodes.items
         sort (inl e) = omega (arith, s.wired.within i g e, size)
         sort (inr e) = omega (arith, e.0, size)
 
@@ -223,7 +223,8 @@ module _ (old new : Core) (node : Node) where
         cursors = ap length b.cursors ∙ length-append old.cursors.items (0 ∷ []) ∙ ap (λ n. n + 1) s.sizes.cursors ∙ sym size;
         seen = ap length b.seen ∙ length-append old.trail.seen.items (false ∷ []) ∙ ap (λ n. n + 1) s.sizes.seen ∙ sym size;
         ready = ap (λ rs. length rs.items) b.ready ∙ s.sizes.ready ∙ sym b.homes;
-        few = subst (λ n. n ≤ 2 ^ 32) (sym size) b.few;
+        few = b.few;
+        places_few = omega (arith, b.homes, s.sizes.places_few);
       };
       wired = record { within = within; deps = below };
       members = members;

@@ -1,5 +1,5 @@
 -- More room and more places change nothing.
-use Rattle.std.proofs.Common.{◌≡◌, ℕ, false, Some, ◌<◌, ◌≤◌, ◌^◌, length, Contains, ap, sym, subst, ◌∙◌, arith}
+use Rattle.std.proofs.Common.{◌≡◌, ℕ, false, Some, ◌<◌, ◌^◌, length, Contains, ap, sym, subst, ◌∙◌, arith}
 use Rattle.std.specs.Prelude.{slice_get}
 use Rattle.dep_groups.specs.declared.resolve.Core.{Core}
 use Rattle.dep_groups.specs.Places.{place, is_set}
@@ -22,7 +22,8 @@ module _ (old new : Core) (a : IsAlike old new) where
       cursors = ap length a.cursors ∙ s.sizes.cursors ∙ sym (ap length a.nodes);
       seen = ap length a.seen ∙ s.sizes.seen ∙ sym (ap length a.nodes);
       ready = a.size;
-      few = subst (λ ns. length ns ≤ 2 ^ 32) (sym a.nodes) s.sizes.few;
+      few = subst (λ ns. length ns < 2 ^ 32) (sym a.nodes) s.sizes.few;
+      places_few = a.few s.sizes.places_few;
     };
     wired = record {
       within = λ i g is. subst (λ ns. g < length ns) (sym a.nodes) (s.wired.within i g (sym (a.home i) ∙ is));

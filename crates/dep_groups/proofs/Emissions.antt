@@ -1,24 +1,18 @@
 -- An emission as a whole.
-use Rattle.std.proofs.Common.{◌≡◌, ℕ, true, Option, Some, None, ◌⊎◌, inl, inr, ⊎_elim, ◌<◌, ◌≤◌, ◌+◌, List, [], ◌∷◌, ◌++◌, length, Contains, Result, Ok, Err, ap, sym, subst, ◌∙◌, refl, arith, length-append}
-use Rattle.std.specs.Prelude.{slice_get, OnOk}
-use Rattle.std.proofs.lemmas.Option.{same_Some, slice_get_within}
-use Rattle.std.proofs.lemmas.Bool.{cases_lt}
-use Rattle.orc_ids.specs.declared.ids.InstId.{InstId}
+use Rattle.std.proofs.Common.{◌≡◌, ℕ, true, Option, Some, None, inl, inr, ⊎_elim, ◌<◌, ◌≤◌, List, [], length, Result, Ok, Err, ap, sym, subst, ◌∙◌, refl, arith}
+use Rattle.std.specs.Prelude.{OnOk}
 use Rattle.orc_ids.specs.declared.groups.Group.{Group}
-use Rattle.dep_groups.specs.declared.graph.Node.{Node}
 use Rattle.dep_groups.specs.declared.resolve.Core.{Core}
 use Rattle.dep_groups.specs.Places.{is_set}
 use Rattle.dep_groups.specs.Shape.{home_in, deps_of, ready_in, entry_of}
 use Rattle.dep_groups.specs.Marks.{IsTold, Tells}
 use Rattle.dep_groups.specs.Wake.{IsSameGraph}
-use Rattle.dep_groups.specs.Adding.{AreApart, AreNew, AreAdded}
+use Rattle.dep_groups.specs.Adding.{AreNew, AreAdded}
 use Rattle.dep_groups.specs.Prepare.{IsAlike}
-use Rattle.dep_groups.specs.Copies.{IsCopy, IsCopyAt, AreCopies}
 use Rattle.dep_groups.specs.Emit.{IsEmitted}
 use Rattle.dep_groups.specs.Kept.{IsKept, entries_in}
-use Rattle.dep_groups.specs.Frontier.{Entry, Absent, Emitted, entry_at, numbers, IsReady, IsMember, AreAbsent, AreEmitted, IsNews}
-use Rattle.dep_groups.specs.Frontier as frontier
-use Rattle.dep_groups.proofs.Lists.{get_kept, get_last, contains_at, at_contains}
+use Rattle.dep_groups.specs.Frontier.{Absent, Emitted, entry_at, AreAbsent, AreEmitted, IsNews}
+use Rattle.dep_groups.proofs.Lists.{contains_at, at_contains}
 use Rattle.dep_groups.proofs.Wakes.{same_home, same_deps}
 use Rattle.dep_groups.proofs.Entries.{entry_here, entry_home}
 use Rattle.dep_groups.proofs.Exact.{marked_ready, unmarked_unready, ready_marked}
@@ -28,13 +22,13 @@ on_ok (Ok x) f a = f a
 on_ok (Err e) f a = a
 
 -- the steps of an emission together
-module _ (start ready_made added last : Core) (nodes : List Node) where
-  pub emitted : IsAlike start ready_made → AreAdded ready_made added nodes 0 → IsSameGraph added.graph last.graph → ready_made.told.items ≡ [] → Tells added.graph.ready.items last.graph.ready.items added.told.items last.told.items → IsEmitted start last nodes
+module _ (start ready_made added last : Core) (groups : List Group) where
+  pub emitted : IsAlike start ready_made → AreAdded ready_made added groups 0 → IsSameGraph added.graph last.graph → ready_made.told.items ≡ [] → Tells added.graph.ready.items last.graph.ready.items added.told.items last.told.items → IsEmitted start last groups
   emitted a b s none t = record {
-    each = λ k node m is named.
-        let h = b.each k node m (omega arith) is named in
+    each = λ k group m is named.
+        let h = b.each k group m (omega arith) is named in
         record { group = h.group; home = same_home added.graph last.graph m.0 s ∙ h.home; deps_same = same_deps added.graph last.graph h.group s ∙ h.deps_same };
-    others = λ i out. same_home added.graph last.graph i s ∙ b.others i (λ k node past is named. out k node is named) ∙ a.home i;
+    others = λ i out. same_home added.graph last.graph i s ∙ b.others i (λ k group past is named. out k group is named) ∙ a.home i;
     deps = λ g less. same_deps added.graph last.graph g s ∙ b.deps g (subst (λ ns. g < length ns) (sym a.nodes) less) ∙ ap (λ ns. deps_of ns g) a.nodes;
     all = λ i high. ⊎_elim (λ (was : is_set added.graph.ready.items i ≡ true). inl (sym (ready_was i) ∙ was)) (λ (x : IsTold last.told.items (length added.told.items) (record { 0 = i })). inr (record { at = x.at; after = omega arith; is = x.is })) (t.all i high);
     stays = λ i was. t.stays i (ready_was i ∙ was);
@@ -48,40 +42,8 @@ module _ (start ready_made added last : Core) (nodes : List Node) where
       past : (k : ℕ) → length added.told.items ≤ k
       past k = omega (arith, ap (λ ts. length ts.items) b.told, ap length none)
 
--- copies of groups
-pub copies_none : (groups : List Group) → AreCopies groups [] 0
-copies_none groups = record { each = λ k below. absurd (omega (arith, below)); count = refl }
-
-pub copies_more : (groups : List Group) (nodes : List Node) (n : ℕ) (group : Group) (node : Node) → AreCopies groups nodes n → slice_get groups n ≡ Some group → IsCopy group node → AreCopies groups (nodes ++ node ∷ []) (n + 1)
-copies_more groups nodes n group node c is copy = record {
-  each = λ k below. sort k below (cases_lt k n);
-  count = length-append nodes (node ∷ []) ∙ ap (λ m. m + 1) c.count;
-}
-  where
-    sort : (k : ℕ) → k < n + 1 → (k < n) ⊎ (n ≤ k) → IsCopyAt groups (nodes ++ node ∷ []) k
-    sort k below (inl b) = let x = c.each k b in record { group = x.group; node = x.node; group_is = x.group_is; node_is = get_kept nodes (node ∷ []) k x.node x.node_is; copy = x.copy }
-    sort k below (inr b) =
-        let e : n ≡ k = omega (arith, b, below) in
-        record { group = group; node = node; group_is = subst (λ m. slice_get groups m ≡ Some group) e is; node_is = ap (slice_get (nodes ++ node ∷ [])) (sym e ∙ sym c.count) ∙ get_last nodes node; copy = copy }
-
--- what holds of the groups holds of the copies
-module _ (groups : List Group) (nodes : List Node) (c : AreCopies groups nodes (length groups)) where
-  copy_of : (k : ℕ) (node : Node) → slice_get nodes k ≡ Some node → (group : Group) × (slice_get groups k ≡ Some group) × IsCopy group node
-  copy_of k node is =
-      let x = c.each k (subst (λ n. k < n) c.count (slice_get_within nodes k node is)) in
-      (x.group, x.group_is, subst (λ n. IsCopy x.group n) (same_Some x.node node (sym x.node_is ∙ is)) x.copy)
-
-  pub copies_apart : frontier.AreApart groups → AreApart nodes
-  copies_apart apart = record {
-    apart = λ j k a b m is at named too.
-        let x = copy_of j a is in
-        let y = copy_of k b at in
-        apart j k x.0 y.0 m x.1 y.1 (subst (λ ms. Contains ms m) x.2.members named) (subst (λ ms. Contains ms m) y.2.members too);
-  }
-
-  member_of : (k : ℕ) (node : Node) (m : InstId) → slice_get nodes k ≡ Some node → Contains node.members.items m → IsMember groups m.0
-  member_of k node m is named = let x = copy_of k node is in record { at = k; group = x.0; is = x.1; member = subst (λ ms. Contains ms m) x.2.members named }
-
+-- what a frontier is, before and after the emission of some groups
+module _ (groups : List Group) where
   no_group : (core : Core) (i : ℕ) → entry_at (entries_in core) i ≡ Absent → home_in core.graph i ≡ None
   no_group core i absent = sort (home_in core.graph i) (sym (entry_here core.graph i) ∙ absent)
     where
@@ -89,19 +51,16 @@ module _ (groups : List Group) (nodes : List Node) (c : AreCopies groups nodes (
       sort None e = refl
       sort (Some g) e = absurd cc
 
-  pub copies_new : (core : Core) → AreAbsent (entries_in core) groups → AreNew core.graph nodes
-  copies_new core absent = record { fresh = λ k node is m named. no_group core m.0 (absent m.0 (member_of k node m is named)) }
+  pub absent_new : (core : Core) → AreAbsent (entries_in core) groups → AreNew core.graph groups
+  absent_new core absent = record { fresh = λ k group is m named. no_group core m.0 (absent m.0 (record { at = k; group = group; is = is; member = named })) }
 
-  module _ (old new : Core) (kept : IsKept old) (after : IsKept new) (e : IsEmitted old new nodes) where
+  module _ (old new : Core) (kept : IsKept old) (after : IsKept new) (e : IsEmitted old new groups) where
     pub entries_emitted : AreEmitted groups (entries_in old) (entries_in new)
     entries_emitted = record {
       members = λ k group m is named.
-          let x = c.each k (slice_get_within groups k group is) in
-          let same : x.group ≡ group = same_Some x.group group (sym x.group_is ∙ is) in
-          let copy = subst (λ (g : Group). IsCopy g x.node) same x.copy in
-          let h = e.each k x.node m x.node_is (subst (λ ms. Contains ms m) (sym copy.members) named) in
-          entry_home new.graph m.0 h.group h.home ∙ ap Emitted (h.deps_same ∙ copy.deps);
-      others = λ i out. others i (e.others i (λ k node is named. out (member_of k node (record { 0 = i }) is named)));
+          let h = e.each k group m is named in
+          entry_home new.graph m.0 h.group h.home ∙ ap Emitted h.deps_same;
+      others = λ i out. others i (e.others i (λ k group is named. out (record { at = k; group = group; is = is; member = named })));
     }
       where
         others : (i : ℕ) → home_in new.graph i ≡ home_in old.graph i → entry_at (entries_in new) i ≡ entry_at (entries_in old) i

@@ -63,6 +63,7 @@ module _ (core : Core) (e : IsEmpty core) where
         seen = ap length e.seen ∙ sym (ap length e.nodes);
         ready = ap length e.ready ∙ sym (ap length e.homes);
         few = omega (arith, ap length e.nodes);
+        places_few = omega (arith, ap length e.homes);
       };
       wired = record { within = λ i g is. absurd (no_home i g is); deps = λ g d named. absurd (no_dep g d named) };
       members = λ i g is. absurd (no_home i g is);

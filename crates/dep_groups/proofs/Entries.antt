@@ -3,7 +3,7 @@ use Rattle.std.proofs.Common.{◌≡◌, ℕ, Option, Some, None, List, [], ◌�
 use Rattle.graph_walks.specs.Walks.{IsPath}
 use Rattle.graph_walks.proofs.Paths.{reaches_self, reaches_next}
 use Rattle.dep_groups.specs.declared.graph.Graph.{Graph}
-use Rattle.dep_groups.specs.declared.graph.Node.{Node}
+use Rattle.dep_groups.specs.Nodes.{Node}
 use Rattle.dep_groups.specs.Places.{place}
 use Rattle.dep_groups.specs.Shape.{home_in, deps_in, entry_of, entries_of}
 use Rattle.dep_groups.specs.Frontier.{Emitted, entry_at, deps_of_entry, next_of, Reaches}

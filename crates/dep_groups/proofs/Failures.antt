@@ -36,7 +36,7 @@ module _ (core : Core) (homes : Vec (Option ℕ) Global) (trail : Trail) where
     pub kept_without : IsKept core → ((i g d : ℕ) → place homes.items i ≡ Some g → Reaches (entries_in core) i d → Reaches (entries_in core_without) i d) → length homes.items ≡ length core.graph.homes.items → IsClear trail → length trail.seen.items ≡ length core.trail.seen.items → IsKept core_without
     kept_without k reach count clear groups = let s = k.sound in record {
       sound = record {
-        sizes = record { links = s.sizes.links; nexts = s.sizes.nexts; heads = s.sizes.heads ∙ sym count; cursors = s.sizes.cursors; seen = groups ∙ s.sizes.seen; ready = s.sizes.ready ∙ sym count; few = s.sizes.few };
+        sizes = record { links = s.sizes.links; nexts = s.sizes.nexts; heads = s.sizes.heads ∙ sym count; cursors = s.sizes.cursors; seen = groups ∙ s.sizes.seen; ready = s.sizes.ready ∙ sym count; few = s.sizes.few; places_few = omega (arith, s.sizes.places_few, count) };
         wired = record { within = λ i g is. s.wired.within i g (home_was i g is); deps = λ g d named. let less = s.wired.deps g d named in omega (arith, less, count) };
         members = λ i g is. s.members i g (home_was i g is);
         ready = record {

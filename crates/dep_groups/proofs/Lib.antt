@@ -1,5 +1,6 @@
 pub mod Tables
 pub mod Lists
+pub mod Cuts
 pub mod Trails
 pub mod Ways
 pub mod Queues

@@ -1,18 +1,17 @@
--- What groups need, one group more.
-use Rattle.std.proofs.Common.{◌≡◌, ℕ, ◌<◌, ◌≤◌, ◌+◌, List, [], ◌∷◌, length, take, get_or, vec_len, zero, suc, ap, sym, subst, refl, arith}
-use Rattle.dep_groups.specs.declared.graph.Node.{Node}
-use Rattle.dep_groups.specs.Adding.{total}
+-- What groups need: places for all that their dependencies name.
+use Rattle.std.proofs.Common.{◌≡◌, ℕ, Option, Some, None, ◌<◌, List, Contains, sym, subst, ◌∙◌, refl}
+use Rattle.std.specs.Prelude.{slice_get}
+use Rattle.std.specs.Option.{option_map}
+use Rattle.std.proofs.lemmas.Option.{same_Some, none-some, slice_get-map}
+use Rattle.orc_ids.specs.declared.ids.InstId.{InstId}
+use Rattle.dep_groups.specs.Frontier.{numbers}
+use Rattle.dep_groups.proofs.Lists.{contains_at, at_contains}
 
-pub total_more : (nodes : List Node) (k : ℕ) (n : Node) → k < length nodes → n ≡ get_or nodes k n → total (take (k + 1) nodes) ≡ total (take k nodes) + vec_len n.deps
-total_more nodes k n less read = let e : k + 1 ≡ suc k = omega arith in subst (λ (m : ℕ). total (take m nodes) ≡ total (take k nodes) + vec_len n.deps) (sym e) (more nodes k less read)
+pub numbers_below : (ids : List InstId) (n d : ℕ) → ((i : InstId) → Contains ids i → i.0 < n) → Contains (numbers ids) d → d < n
+numbers_below ids n d below named =
+    let k = contains_at (numbers ids) d named in
+    sort k.0 (slice_get ids k.0) refl (sym (slice_get-map (λ (i : InstId). i.0) ids k.0) ∙ k.1)
   where
-    more : (nodes : List Node) (k : ℕ) → k < length nodes → n ≡ get_or nodes k n → total (take (suc k) nodes) ≡ total (take k nodes) + vec_len n.deps
-    more [] k less read = absurd (omega (arith, less))
-    more (x ∷ xs) zero less read = omega (arith, ap (λ (m : Node). vec_len m.deps) read)
-    more (x ∷ xs) (suc k) less read = omega (arith, more xs k (omega (arith, less)) read)
-
-pub take_whole : (nodes : List Node) (k : ℕ) → length nodes ≤ k → take k nodes ≡ nodes
-take_whole [] zero past = refl
-take_whole [] (suc k) past = refl
-take_whole (x ∷ xs) zero past = absurd (omega (arith, past))
-take_whole (x ∷ xs) (suc k) past = ap (λ ns. x ∷ ns) (take_whole xs k (omega (arith, past)))
+    sort : (k : ℕ) (o : Option InstId) → slice_get ids k ≡ o → option_map (λ (i : InstId). i.0) o ≡ Some d → d < n
+    sort k None at is = absurd (none-some d is)
+    sort k (Some i) at is = subst (λ m. m < n) (same_Some i.0 d is) (below i (at_contains ids k i at))

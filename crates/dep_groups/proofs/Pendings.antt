@@ -203,7 +203,7 @@ counted_alone graph i none = record {
 pub kept_cleared : (core : Core) (trail : Trail) → IsKept core → IsClear trail → length trail.seen.items ≡ length core.trail.seen.items → IsKept (record core { trail = trail })
 kept_cleared core trail k clear groups = let s = k.sound in record {
   sound = record {
-    sizes = record { links = s.sizes.links; nexts = s.sizes.nexts; heads = s.sizes.heads; cursors = s.sizes.cursors; seen = groups ∙ s.sizes.seen; ready = s.sizes.ready; few = s.sizes.few };
+    sizes = record { links = s.sizes.links; nexts = s.sizes.nexts; heads = s.sizes.heads; cursors = s.sizes.cursors; seen = groups ∙ s.sizes.seen; ready = s.sizes.ready; few = s.sizes.few; places_few = s.sizes.places_few };
     wired = s.wired;
     members = s.members;
     ready = s.ready;

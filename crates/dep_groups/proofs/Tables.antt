@@ -1,12 +1,10 @@
 -- What a write to one place does to a table.
 use Rattle.std.proofs.Common.{◌≡◌, ◌≢◌, ℕ, Bool, true, false, Option, Some, None, ◌<◌, ⊎_elim, if◌then◌else◌, cond, ◌==◌, List, [], ◌∷◌, length, slice_set, get_or, ◌≤◌, zero, suc, ap, sym, subst, ◌∙◌, refl, arith, add-one}
-use Rattle.std.specs.Prelude.{slice_get, unwrap_or, ◌+◌}
+use Rattle.std.specs.Prelude.{slice_get, unwrap_or, ◌+◌, ◌-◌, ◌^◌}
 use Rattle.std.proofs.lemmas.Bool.{both_ways}
 use Rattle.std.proofs.lemmas.Bool.Decides.{eqb_tells}
 use Rattle.std.proofs.lemmas.Option.{slice_get_read, slice_get_past, none-some}
-use Rattle.std.specs.Option.{option_map_or}
-use Rattle.dep_groups.specs.declared.graph.Node.{Node}
-use Rattle.dep_groups.specs.Shape.{deps_of}
+use Rattle.dep_groups.specs.Slots.{content_of}
 use Rattle.dep_groups.specs.Places.{within_place, place, is_set, unset}
 
 pub set_here : {X : Type 0} (xs : List X) (k : ℕ) (x : X) → k < length xs → slice_get (slice_set xs k x) k ≡ Some x
@@ -36,6 +34,17 @@ pub place_set : (xs : List (Option ℕ)) (k n : ℕ) (x : Option ℕ) → k < le
 unfolding place
 place_set xs k n x less = ap within_place (written xs k n x less) ∙ through within_place (k == n) (Some x) (slice_get xs n)
 
+-- a number below is its own content
+pub content_below : (n : ℕ) → n < 2 ^ 32 - 1 → content_of n ≡ Some n
+content_below n less = ⊎_elim
+    (λ (e : ((n == 2 ^ 32 - 1) ≡ true) × (n ≡ 2 ^ 32 - 1)). absurd (omega (arith, less, e.1)))
+    (λ (e : ((n == 2 ^ 32 - 1) ≡ false) × (n ≢ 2 ^ 32 - 1)). ap (λ b. cond b None (Some n)) e.0)
+    (eqb_tells n (2 ^ 32 - 1))
+
+-- a slot with this content is put there
+pub place_put : (xs : List (Option ℕ)) (k n : ℕ) (x content : Option ℕ) → x ≡ content → k < length xs → place (slice_set xs k x) n ≡ (if k == n then content else place xs n)
+place_put xs k n x content is less = place_set xs k n x less ∙ ap (λ o. cond (k == n) o (place xs n)) is
+
 pub place_past : (xs : List (Option ℕ)) (k : ℕ) → length xs ≤ k → None ≡ place xs k
 unfolding place
 place_past xs k past = sym (ap within_place (slice_get_past xs k past))
@@ -63,14 +72,6 @@ flag_read xs k x less read = sym (ap (λ o. unwrap_or o false) (slice_get_read x
 pub flag_past : (xs : List Bool) (k : ℕ) → length xs ≤ k → false ≡ is_set xs k
 unfolding is_set
 flag_past xs k past = sym (ap (λ o. unwrap_or o false) (slice_get_past xs k past))
-
-pub deps_read : (nodes : List Node) (g : ℕ) (n : Node) → g < length nodes → n ≡ get_or nodes g n → n.deps.items ≡ deps_of nodes g
-unfolding deps_of
-deps_read nodes g n less read = sym (ap (λ o. option_map_or (λ (m : Node). m.deps.items) o []) (slice_get_read nodes (length nodes) g n refl less read))
-
-pub deps_past : (nodes : List Node) (g : ℕ) → length nodes ≤ g → [] ≡ deps_of nodes g
-unfolding deps_of
-deps_past nodes g past = sym (ap (λ o. option_map_or (λ (m : Node). m.deps.items) o []) (slice_get_past nodes g past))
 
 -- one flag more is set
 pub count_raised : (xs : List Bool) (k : ℕ) → k < length xs → is_set xs k ≡ false → unset (slice_set xs k true) + 1 ≡ unset xs

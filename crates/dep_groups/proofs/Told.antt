@@ -1,13 +1,11 @@
 -- Telling what becomes ready.
-use Rattle.std.proofs.Common.{◌≡◌, ℕ, Bool, true, false, Some, ◌⊎◌, inl, inr, ⊎_elim, ◌<◌, ◌≤◌, ◌==◌, if◌then◌else◌, List, [], ◌∷◌, ◌++◌, length, ap, sym, subst, ◌∙◌, refl, arith, length-append, get_or}
+use Rattle.std.proofs.Common.{◌≡◌, ℕ, Bool, true, false, Some, ◌⊎◌, inl, inr, ⊎_elim, ◌<◌, ◌≤◌, ◌==◌, if◌then◌else◌, List, [], ◌∷◌, ◌++◌, length, ap, sym, subst, ◌∙◌, arith, length-append, get_or}
 use Rattle.std.specs.Prelude.{slice_get}
-use Rattle.std.specs.Option.{option_map_or}
-use Rattle.std.proofs.lemmas.Option.{slice_get_within, slice_get_read, slice_get_past, slice_get-get_or}
+use Rattle.std.proofs.lemmas.Option.{slice_get_within, slice_get-get_or}
 use Rattle.std.proofs.lemmas.Bool.{both_ways, cases_lt, false_from_ne_true}
 use Rattle.orc_ids.specs.declared.ids.InstId.{InstId}
-use Rattle.dep_groups.specs.declared.graph.Node.{Node}
 use Rattle.dep_groups.specs.Places.{is_set}
-use Rattle.dep_groups.specs.Marks.{IsTold, Tells, members_of}
+use Rattle.dep_groups.specs.Marks.{IsTold, Tells}
 use Rattle.dep_groups.proofs.Lists.{get_kept, get_last, get_push}
 use Rattle.dep_groups.proofs.Trails.{raised_here, raised_kept, raised_cases}
 
@@ -70,14 +68,6 @@ tells_one old new told m low says = record {
     sort_once j k x past after (inl e) f = absurd (omega (arith, past, slice_get_within told j x e))
     sort_once j k x past after (inr e) (inl f) = absurd (omega (arith, after, slice_get_within told k x f))
     sort_once j k x past after (inr e) (inr f) = e.0 ∙ sym f.0
-
-pub members_read : (nodes : List Node) (g : ℕ) (n : Node) → g < length nodes → n ≡ get_or nodes g n → n.members.items ≡ members_of nodes g
-unfolding members_of
-members_read nodes g n less read = sym (ap (λ o. option_map_or (λ (m : Node). m.members.items) o []) (slice_get_read nodes (length nodes) g n refl less read))
-
-pub members_past : (nodes : List Node) (g : ℕ) → length nodes ≤ g → [] ≡ members_of nodes g
-unfolding members_of
-members_past nodes g past = sym (ap (λ o. option_map_or (λ (m : Node). m.members.items) o []) (slice_get_past nodes g past))
 
 -- what was told is ready, and what is told more
 pub told_ready : (old new : List Bool) (was told : List InstId) → Tells old new was told → ((k : ℕ) (m : InstId) → slice_get was k ≡ Some m → is_set old m.0 ≡ true) → (k : ℕ) (m : InstId) → slice_get told k ≡ Some m → is_set new m.0 ≡ true

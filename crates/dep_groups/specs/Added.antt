@@ -1,9 +1,10 @@
 -- A core that has one group more.
-use Rattle.std.specs.Prelude.{◌≡◌, ℕ, Some, None, ◌⊎◌, List, [], ◌∷◌, ◌++◌, ◌+◌, ◌≤◌, ◌^◌, length, Contains, vec_len, vec_capacity}
+use Rattle.std.specs.Prelude.{◌≡◌, ℕ, Some, None, ◌⊎◌, List, [], ◌∷◌, ◌++◌, ◌+◌, ◌≤◌, length, Contains, vec_len, vec_capacity}
 use Rattle.orc_ids.specs.declared.ids.InstId.{InstId}
 use Rattle.dep_groups.specs.declared.graph.Graph.{Graph}
-use Rattle.dep_groups.specs.declared.graph.Node.{Node}
+use Rattle.orc_ids.specs.declared.groups.Group.{Group}
 use Rattle.dep_groups.specs.declared.resolve.Core.{Core}
+use Rattle.dep_groups.specs.Nodes.{node_of, spare, IsEnough}
 use Rattle.dep_groups.specs.Shape.{home_in}
 
 -- the members of a group are at home there, and all others where they were
@@ -15,29 +16,23 @@ pub record IsHoused (old new : Graph) (members : List InstId) (g : ℕ) : Type 0
 abbrev pub AreFresh : Graph → List InstId → Type 0
 AreFresh graph members = (m : InstId) → Contains members m → home_in graph m.0 ≡ None
 
--- so many groups more, with so many dependencies in all, can be told apart by numbers of 32 bits
-pub record AreFew (graph : Graph) (groups deps : ℕ) : Type 0 where
-  pub groups_few : vec_len graph.nodes + groups ≤ 2 ^ 32
-  pub deps_few : vec_len graph.edges + deps ≤ 2 ^ 32
-
--- there is room for so many groups with so many dependencies in all
-pub record HasRoom (core : Core) (groups deps : ℕ) : Type 0 where
-  pub edges : vec_len core.graph.edges + deps ≤ vec_capacity core.graph.edges
-  pub nodes : vec_len core.graph.nodes + groups ≤ vec_capacity core.graph.nodes
+-- there is room for so many groups with so many members and dependencies in all
+pub record HasRoom (core : Core) (groups members deps : ℕ) : Type 0 where
+  pub edges : deps ≤ spare (vec_capacity core.graph.edges) (vec_len core.graph.edges)
+  pub nodes : IsEnough core.graph.nodes.room groups members deps
   pub links : vec_len core.links + groups ≤ vec_capacity core.links
   pub nexts : vec_len core.nexts + groups ≤ vec_capacity core.nexts
   pub cursors : vec_len core.cursors + groups ≤ vec_capacity core.cursors
   pub seen : vec_len core.trail.seen + groups ≤ vec_capacity core.trail.seen
   pub order : vec_len core.trail.seen + groups ≤ vec_capacity core.trail.order
-  pub few : AreFew core.graph groups deps
 
 -- a group is added, and nothing is ready that wasn't
-pub record IsAdded (old new : Core) (node : Node) : Type 0 where
-  pub housed : IsHoused old.graph new.graph node.members.items (length old.graph.nodes.items)
-  pub nodes : new.graph.nodes.items ≡ old.graph.nodes.items ++ node ∷ []
+pub record IsAdded (old new : Core) (group : Group) : Type 0 where
+  pub housed : IsHoused old.graph new.graph group.members (length old.graph.nodes.items)
+  pub nodes : new.graph.nodes.items ≡ old.graph.nodes.items ++ node_of group ∷ []
   pub links : new.links.items ≡ old.links.items ++ None ∷ []
   pub ready : new.graph.ready ≡ old.graph.ready
   pub told : new.told ≡ old.told
   pub homes : length new.graph.homes.items ≡ length old.graph.homes.items
   pub firsts : length new.graph.firsts.items ≡ length old.graph.firsts.items
-  pub room : (groups deps : ℕ) → HasRoom old (groups + 1) (vec_len node.deps + deps) → HasRoom new groups deps
+  pub room : (groups members deps : ℕ) → HasRoom old (groups + 1) (length group.members + members) (length group.deps + deps) → HasRoom new groups members deps

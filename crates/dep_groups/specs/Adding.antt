@@ -1,29 +1,29 @@
 -- Groups are added, from the last to the first.
-use Rattle.std.specs.Prelude.{◌≡◌, ℕ, ◌<◌, ◌≤◌, ◌+◌, Some, List, [], ◌∷◌, length, slice_get, Contains, vec_len}
+use Rattle.std.specs.Prelude.{◌≡◌, ℕ, ◌<◌, ◌≤◌, Some, List, length, slice_get, Contains}
+use Rattle.std.specs.List.{sum_by}
 use Rattle.orc_ids.specs.declared.ids.InstId.{InstId}
 use Rattle.dep_groups.specs.declared.graph.Graph.{Graph}
-use Rattle.dep_groups.specs.declared.graph.Node.{Node}
+use Rattle.orc_ids.specs.declared.groups.Group.{Group}
 use Rattle.dep_groups.specs.declared.resolve.Core.{Core}
+use Rattle.dep_groups.specs.Frontier.{numbers}
 use Rattle.dep_groups.specs.Shape.{home_in, deps_in}
 use Rattle.dep_groups.specs.Added.{AreFresh}
 
--- how many dependencies some groups have in all
-abbrev pub total : List Node → ℕ
-total [] = 0
-total (n ∷ ns) = vec_len n.deps + total ns
+-- how many members and how many dependencies some groups have in all
+abbrev pub member_count : List Group → ℕ
+member_count groups = sum_by (λ g. length g.members) groups
+
+abbrev pub dep_count : List Group → ℕ
+dep_count groups = sum_by (λ g. length g.deps) groups
 
 -- the numbers of members and dependencies are below n
-pub record AreBelow (nodes : List Node) (n : ℕ) : Type 0 where
-  pub members : (k : ℕ) (node : Node) (m : InstId) → slice_get nodes k ≡ Some node → Contains node.members.items m → m.0 < n
-  pub deps : (k : ℕ) (node : Node) (d : ℕ) → slice_get nodes k ≡ Some node → Contains node.deps.items d → d < n
-
--- no instance is a member of two groups
-pub record AreApart (nodes : List Node) : Type 0 where
-  pub apart : (j k : ℕ) (a b : Node) (m : InstId) → slice_get nodes j ≡ Some a → slice_get nodes k ≡ Some b → Contains a.members.items m → Contains b.members.items m → j ≡ k
+pub record AreBelow (groups : List Group) (n : ℕ) : Type 0 where
+  pub members : (k : ℕ) (group : Group) (m : InstId) → slice_get groups k ≡ Some group → Contains group.members m → m.0 < n
+  pub deps : (k : ℕ) (group : Group) (d : InstId) → slice_get groups k ≡ Some group → Contains group.deps d → d.0 < n
 
 -- no member of a group is emitted
-pub record AreNew (graph : Graph) (nodes : List Node) : Type 0 where
-  pub fresh : (k : ℕ) (node : Node) → slice_get nodes k ≡ Some node → AreFresh graph node.members.items
+pub record AreNew (graph : Graph) (groups : List Group) : Type 0 where
+  pub fresh : (k : ℕ) (group : Group) → slice_get groups k ≡ Some group → AreFresh graph group.members
 
 -- an instance is at home in a group of these dependencies
 pub record IsHome (graph : Graph) (deps : List ℕ) (i : ℕ) : Type 0 where
@@ -32,9 +32,9 @@ pub record IsHome (graph : Graph) (deps : List ℕ) (i : ℕ) : Type 0 where
   pub deps_same : deps_in graph group ≡ deps
 
 -- the groups from a place on were added
-pub record AreAdded (old new : Core) (nodes : List Node) (from : ℕ) : Type 0 where
-  pub each : (k : ℕ) (node : Node) (m : InstId) → from ≤ k → slice_get nodes k ≡ Some node → Contains node.members.items m → IsHome new.graph node.deps.items m.0
-  pub others : (i : ℕ) → ((k : ℕ) (node : Node) → from ≤ k → slice_get nodes k ≡ Some node → Contains node.members.items (record { 0 = i }) → ⊥) → home_in new.graph i ≡ home_in old.graph i
+pub record AreAdded (old new : Core) (groups : List Group) (from : ℕ) : Type 0 where
+  pub each : (k : ℕ) (group : Group) (m : InstId) → from ≤ k → slice_get groups k ≡ Some group → Contains group.members m → IsHome new.graph (numbers group.deps) m.0
+  pub others : (i : ℕ) → ((k : ℕ) (group : Group) → from ≤ k → slice_get groups k ≡ Some group → Contains group.members (record { 0 = i }) → ⊥) → home_in new.graph i ≡ home_in old.graph i
   pub deps : (g : ℕ) → g < length old.graph.nodes.items → deps_in new.graph g ≡ deps_in old.graph g
   pub longer : length old.graph.nodes.items ≤ length new.graph.nodes.items
   pub ready : new.graph.ready ≡ old.graph.ready

@@ -1,5 +1,5 @@
 -- What a frontier keeps, and what always holds of it.
-use Rattle.std.specs.Prelude.{◌≡◌, ℕ, ◌+◌, ◌≤◌, ◌^◌, true, Some, length, Contains, vec_len, vec_capacity}
+use Rattle.std.specs.Prelude.{◌≡◌, ℕ, ◌+◌, ◌<◌, ◌≤◌, ◌^◌, true, Some, length, Contains, vec_len, vec_capacity}
 use Rattle.dep_groups.specs.declared.graph.Graph.{Graph}
 use Rattle.dep_groups.specs.declared.resolve.Core.{Core}
 use Rattle.dep_groups.specs.Places.{unset}
@@ -9,7 +9,7 @@ use Rattle.dep_groups.specs.Links.{AllEnd, AreQueued}
 use Rattle.dep_groups.specs.Seek.{IsClear}
 use Rattle.dep_groups.specs.Marks.{members_of}
 
--- each table has a place for each group, or for each instance; groups have numbers of 32 bits
+-- each table has a place for each group, or for each instance; all have numbers below 2^32 - 1
 pub record AreSized (core : Core) : Type 0 where
   pub links : length core.links.items ≡ length core.graph.nodes.items
   pub nexts : length core.nexts.items ≡ length core.graph.nodes.items
@@ -17,7 +17,8 @@ pub record AreSized (core : Core) : Type 0 where
   pub cursors : length core.cursors.items ≡ length core.graph.nodes.items
   pub seen : length core.trail.seen.items ≡ length core.graph.nodes.items
   pub ready : length core.graph.ready.items ≡ length core.graph.homes.items
-  pub few : length core.graph.nodes.items ≤ 2 ^ 32
+  pub few : length core.graph.nodes.items < 2 ^ 32
+  pub places_few : length core.graph.homes.items < 2 ^ 32
 
 -- what is marked as ready is emitted, and all that it depends on is marked
 pub record AreClosed (graph : Graph) : Type 0 where

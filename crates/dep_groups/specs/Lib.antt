@@ -1,4 +1,5 @@
 pub mod Places
+pub mod Slots
 pub mod Shape
 pub mod Search
 pub mod Links
@@ -12,7 +13,8 @@ pub mod Adding
 pub mod Prepare
 pub mod Frontier
 pub mod Kept
-pub mod Copies
+pub mod Nodes
+pub mod Spans
 pub mod Emit
 pub mod Hits
 pub mod Pending

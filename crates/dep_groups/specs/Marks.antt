@@ -2,13 +2,13 @@
 use Rattle.std.specs.Prelude.{◌≡◌, ℕ, ◌≤◌, Bool, true, false, Option, Some, ◌⊎◌, List, [], slice_get, length, Contains}
 use Rattle.std.specs.Option.{option_map_or}
 use Rattle.orc_ids.specs.declared.ids.InstId.{InstId}
-use Rattle.dep_groups.specs.declared.graph.Node.{Node}
+use Rattle.dep_groups.specs.Nodes.{Node}
 use Rattle.dep_groups.specs.Places.{place, is_set}
 use Rattle.dep_groups.specs.Search.{IsVisit}
 
 -- the members of the group number g
 unfoldable pub members_of : List Node → ℕ → List InstId
-members_of nodes g = option_map_or (λ n. n.members.items) (slice_get nodes g) []
+members_of nodes g = option_map_or (λ n. n.members) (slice_get nodes g) []
 
 -- the instance is among those told from the place n on
 pub record IsTold (told : List InstId) (n : ℕ) (m : InstId) : Type 0 where

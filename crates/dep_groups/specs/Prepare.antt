@@ -1,19 +1,21 @@
 -- The room for groups is made before anything changes.
-use Rattle.std.specs.Prelude.{◌≡◌, ℕ, ◌<◌, ◌≤◌, ◌+◌, length, Contains, vec_len, vec_capacity}
+use Rattle.std.specs.Prelude.{◌≡◌, ℕ, ◌<◌, ◌≤◌, ◌+◌, ◌^◌, length, Contains, vec_len, vec_capacity}
 use Rattle.orc_ids.specs.declared.ids.InstId.{InstId}
 use Rattle.dep_groups.specs.declared.graph.Graph.{Graph}
-use Rattle.dep_groups.specs.declared.graph.Node.{Node}
+use Rattle.orc_ids.specs.declared.groups.Group.{Group}
 use Rattle.dep_groups.specs.declared.prepare.Needs.{Needs}
 use Rattle.dep_groups.specs.declared.resolve.Core.{Core}
 use Rattle.dep_groups.specs.Places.{place, unset}
+use Rattle.dep_groups.specs.Nodes.{spare, IsEnough}
 use Rattle.dep_groups.specs.Shape.{home_in, ready_in}
 
 -- what is needed with one group more
-pub record Covers (node : Node) (old new : Needs) : Type 0 where
+pub record Covers (group : Group) (old new : Needs) : Type 0 where
   pub more : old.places ≤ new.places
-  pub members : (m : InstId) → Contains node.members.items m → m.0 < new.places
-  pub deps : (d : ℕ) → Contains node.deps.items d → d < new.places
-  pub count : new.deps ≡ old.deps + vec_len node.deps
+  pub members : (m : InstId) → Contains group.members m → m.0 < new.places
+  pub deps : (d : InstId) → Contains group.deps d → d.0 < new.places
+  pub member_count : new.members ≡ old.members + length group.members
+  pub dep_count : new.deps ≡ old.deps + length group.deps
 
 -- the same lists, perhaps with more room
 pub record IsRoomierGraph (old new : Graph) : Type 0 where
@@ -36,13 +38,13 @@ pub record IsRoomier (old new : Core) : Type 0 where
   pub order_room : vec_capacity old.trail.order ≤ vec_capacity new.trail.order
   pub told_room : vec_capacity old.told ≤ vec_capacity new.told
 
--- room for groups with so many dependencies, and for so many places
-pub record HasPlaces (graph : Graph) (groups deps places : ℕ) : Type 0 where
-  pub edges : vec_len graph.edges + deps ≤ vec_capacity graph.edges
-  pub nodes : vec_len graph.nodes + groups ≤ vec_capacity graph.nodes
-  pub homes : places ≤ vec_capacity graph.homes
-  pub firsts : places ≤ vec_capacity graph.firsts
-  pub ready : places ≤ vec_capacity graph.ready
+-- room for so many groups and what they need
+pub record HasPlaces (graph : Graph) (groups : ℕ) (needs : Needs) : Type 0 where
+  pub edges : needs.deps ≤ spare (vec_capacity graph.edges) (vec_len graph.edges)
+  pub nodes : IsEnough graph.nodes.room groups needs.members needs.deps
+  pub homes : needs.places ≤ vec_capacity graph.homes
+  pub firsts : needs.places ≤ vec_capacity graph.firsts
+  pub ready : needs.places ≤ vec_capacity graph.ready
 
 pub record HasTables (core : Core) (groups places : ℕ) : Type 0 where
   pub links : vec_len core.links + groups ≤ vec_capacity core.links
@@ -69,5 +71,6 @@ pub record IsAlike (old new : Core) : Type 0 where
   pub order_room : vec_capacity old.trail.order ≤ vec_capacity new.trail.order
   pub heads_size : length new.heads.items ≡ length new.graph.homes.items
   pub more : length old.graph.homes.items ≤ length new.graph.homes.items
+  pub few : length old.graph.homes.items < 2 ^ 32 → length new.graph.homes.items < 2 ^ 32
   pub size : length new.graph.ready.items ≡ length new.graph.homes.items
   pub room : vec_len new.told + unset new.graph.ready.items ≤ vec_capacity new.told

@@ -1,14 +1,14 @@
 -- Which group an instance was emitted with, what that group depends on, and the entries that this shows.
 use Rattle.std.specs.Prelude.{ℕ, Bool, Option, Some, None, List, [], map, slice_get}
 use Rattle.std.specs.Option.{option_map_or}
-use Rattle.dep_groups.specs.declared.graph.Node.{Node}
+use Rattle.dep_groups.specs.Nodes.{Node}
 use Rattle.dep_groups.specs.declared.graph.Graph.{Graph}
 use Rattle.dep_groups.specs.Places.{place, is_set}
 use Rattle.dep_groups.specs.Frontier.{Entry, Absent, Emitted}
 
 -- what the group number g depends on
 unfoldable pub deps_of : List Node → ℕ → List ℕ
-deps_of nodes g = option_map_or (λ n. n.deps.items) (slice_get nodes g) []
+deps_of nodes g = option_map_or (λ n. n.deps) (slice_get nodes g) []
 
 -- the group of an emitted instance
 abbrev pub home_in : Graph → ℕ → Option ℕ

@@ -11,10 +11,11 @@ ghost use Rattle.dep_groups.specs.Hits.{IsResting, IsWhole, IsComplete, IsNoted,
 
 use crate::graph::Graph;
 use crate::hits::{Hits, hit_roots, lower_all};
-use crate::marks::{mark_members, members_of};
+use crate::marks::mark_members;
 use crate::places::{at, empty, is_set};
 use crate::resolve::Core;
 use crate::seek::clear;
+use crate::slot::Slot;
 use crate::trail::{Trail, come_to};
 use orc_ids::InstId;
 
@@ -34,7 +35,7 @@ fn hit_group(graph: &Graph, trail: &mut Trail, hits: &mut Hits, group: u32)
 {
     if !is_set(&trail.seen, group as usize) {
         come_to(trail, group);
-        let members = members_of(&graph.nodes, group);
+        let members = graph.nodes.members_of(group);
         mark_members(
             &graph.homes,
             &mut hits.flags,
@@ -62,7 +63,7 @@ fn hit_dependants(graph: &Graph, trail: &mut Trail, hits: &mut Hits, instance: u
     let mut next = at(&graph.firsts, instance as usize);
     while let Some(mention) = next {
         hit_group(graph, trail, hits, graph.edges[mention as usize].group);
-        next = graph.edges[mention as usize].next;
+        next = graph.edges[mention as usize].next.get();
     }
 }
 
@@ -110,7 +111,7 @@ fn find_hits(graph: &Graph, trail: &mut Trail, hits: &mut Hits, roots: &[InstId]
 }
 
 /// Takes instances out of their groups.
-fn take_out(homes: &mut [Option<u32>], instances: &[InstId])
+fn take_out(homes: &mut [Slot], instances: &[InstId])
     ensures out { (m : InstId) → Contains instances.now m → place homes.new m.0 ≡ None }
     ensures others { (i : ℕ) → (place homes.new i ≡ place homes.old i) ⊎ (Contains instances.now (record { 0 = i }) × (place homes.new i ≡ None)) }
 {

@@ -2,11 +2,11 @@ ghost use Rattle.std.specs.Prelude.{◌≡◌, ◌↔◌, ◌<◌, ◌≤◌, �
 ghost use Rattle.orc_ids.specs.declared.ids.InstId.{InstId};
 ghost use Rattle.dep_groups.specs.Frontier.{AreApart, AreAbsent, AreEmitted, IsReady, IsPendingCount, IsNews, AreHits, AreFailed};
 
-use crate::copy::copy_groups;
-use crate::emit::emit_nodes;
+use crate::emit::emit_groups;
 use crate::fail::fail_all;
 use crate::graph::Graph;
 use crate::hits::{Hits, make_places};
+use crate::nodes::Nodes;
 use crate::pending::count_pending;
 use crate::places::is_set;
 use crate::resolve::Core;
@@ -18,7 +18,6 @@ use std::marker::Model;
 /// Which instances are emitted, which of them are ready, and what the last failure hit.
 #[derive(Drop)]
 pub struct Frontier {
-    alloc: Global,
     core: Core,
     hits: Hits,
 }
@@ -46,11 +45,10 @@ impl Frontier {
         ensures hits { result.hits ≡ [] }
     {
         Frontier {
-            alloc,
             core: Core {
                 graph: Graph {
                     homes: Vec::new(alloc),
-                    nodes: Vec::new(alloc),
+                    nodes: Nodes::new(alloc),
                     firsts: Vec::new(alloc),
                     edges: Vec::new(alloc),
                     ready: Vec::new(alloc),
@@ -94,8 +92,7 @@ impl Frontier {
         ensures more { self.old.places ≤ self.new.places }
         ensures err { OnErr result (self.new ≡ self.old) }
     {
-        let nodes = copy_groups(self.alloc, groups)?;
-        emit_nodes(&mut self.core, &mut self.hits, nodes)
+        emit_groups(&mut self.core, &mut self.hits, groups)
     }
 
     /// Takes back what the failure of some instances hits: all that reaches one of them, so that

@@ -1,23 +1,25 @@
-ghost use Rattle.std.specs.Prelude.{◌≡◌, ◌<◌, ℕ, Some, None, false, length};
+ghost use Rattle.std.specs.Prelude.{◌≡◌, ◌<◌, ◌^◌, ℕ, Some, None, false, length};
 ghost use Rattle.dep_groups.specs.Places.{place};
 ghost use Rattle.dep_groups.specs.Shape.{ready_in};
 ghost use Rattle.dep_groups.specs.Search.{LinksLead};
 ghost use Rattle.dep_groups.specs.Links.{AllEnd, AreQueued, IsFound, IsHeld, IsRelinked};
 
 use crate::graph::Graph;
-use crate::places::{at, empty, put, set};
+use crate::places::{empty, put, set, slot_at};
+use crate::slot::Slot;
 
 /// Links a group to an instance, and puts it at the head of that instance's queue.
 pub(crate) fn wait_for(
     graph: &Graph,
-    links: &mut [Option<u32>],
-    nexts: &mut [Option<u32>],
-    heads: &mut [Option<u32>],
+    links: &mut [Slot],
+    nexts: &mut [Slot],
+    heads: &mut [Slot],
     group: u32,
     to: u32,
 )
     requires group { (group < length links.old) × (length nexts.old ≡ length links.old) }
     requires heads { length heads.old ≡ length graph.now.homes.items }
+    requires few { (length links.old < 2 ^ 32) × (length graph.now.homes.items < 2 ^ 32) }
     requires unlinked { place links.old group ≡ None }
     requires found { IsFound graph.now heads.old group to }
     requires ends { AllEnd graph.now links.old }
@@ -30,7 +32,7 @@ pub(crate) fn wait_for(
     ensures only { IsRelinked links.old links.new group }
     ensures unready { (d : ℕ) → place links.new group ≡ Some d → ready_in graph.now d ≡ false }
 {
-    set(nexts, group as usize, at(heads, to as usize));
+    set(nexts, group as usize, slot_at(heads, to as usize));
     put(heads, to as usize, group);
     put(links, group as usize, to);
 }
@@ -38,9 +40,9 @@ pub(crate) fn wait_for(
 /// Takes the group at the head of an instance's queue out of it.
 pub(crate) fn leave(
     graph: &Graph,
-    links: &mut [Option<u32>],
-    nexts: &[Option<u32>],
-    heads: &mut [Option<u32>],
+    links: &mut [Slot],
+    nexts: &[Slot],
+    heads: &mut [Slot],
     instance: u32,
     group: u32,
 )
@@ -55,6 +57,6 @@ pub(crate) fn leave(
     ensures unlinked { place links.new group ≡ None }
     ensures only { IsRelinked links.old links.new group }
 {
-    set(heads, instance as usize, at(nexts, group as usize));
+    set(heads, instance as usize, slot_at(nexts, group as usize));
     empty(links, group as usize);
 }

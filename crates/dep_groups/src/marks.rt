@@ -1,25 +1,16 @@
 ghost use Rattle.std.specs.Prelude.{◌≡◌, ◌<◌, ◌≤◌, ◌+◌, ◌⊎◌, ℕ, Some, true, false, length, vec_len, vec_capacity, Contains};
 ghost use Rattle.orc_ids.specs.declared.ids.InstId.{InstId};
 ghost use Rattle.dep_groups.specs.Places.{place, is_set, unset};
-ghost use Rattle.dep_groups.specs.Marks.{members_of, Tells, AreOf, AreMarked, IsOfTrail};
+ghost use Rattle.dep_groups.specs.Marks.{Tells, AreOf, AreMarked, IsOfTrail};
 
-use crate::graph::Node;
+use crate::nodes::Nodes;
 use crate::places::{at, is_set, raise};
+use crate::slot::Slot;
 use crate::trail::Trail;
 use orc_ids::InstId;
 
-/// The members of a group.
-pub(crate) fn members_of(nodes: &[Node], group: u32) -> &[InstId]
-    ensures { result.now ≡ members_of nodes.now group }
-{
-    match nodes.get(group as usize) {
-        Some(node) => node.members.as_slice(),
-        None => &[],
-    }
-}
-
 /// Whether an instance is of a group, and isn't marked.
-fn is_open(homes: &[Option<u32>], ready: &[bool], group: u32, member: InstId) -> bool
+fn is_open(homes: &[Slot], ready: &[bool], group: u32, member: InstId) -> bool
     ensures open { result ≡ true → (place homes.now member.0 ≡ Some group) × (is_set ready.now member.0 ≡ false) }
     ensures other { result ≡ false → place homes.now member.0 ≡ Some group → is_set ready.now member.0 ≡ true }
 {
@@ -31,7 +22,7 @@ fn is_open(homes: &[Option<u32>], ready: &[bool], group: u32, member: InstId) ->
 
 /// Marks an instance of a group and tells it, if it wasn't marked.
 fn mark_member(
-    homes: &[Option<u32>],
+    homes: &[Slot],
     marks: &mut [bool],
     told: &mut Vec<InstId>,
     group: u32,
@@ -53,7 +44,7 @@ fn mark_member(
 
 /// Marks the instances of a group and tells those that weren't marked.
 pub(crate) fn mark_members(
-    homes: &[Option<u32>],
+    homes: &[Slot],
     marks: &mut [bool],
     told: &mut Vec<InstId>,
     group: u32,
@@ -74,8 +65,8 @@ pub(crate) fn mark_members(
 
 /// Marks all instances of the groups that a search came to as ready and tells those that weren't.
 pub(crate) fn mark_all(
-    homes: &[Option<u32>],
-    nodes: &[Node],
+    homes: &[Slot],
+    nodes: &Nodes,
     ready: &mut [bool],
     told: &mut Vec<InstId>,
     trail: &Trail,
@@ -85,11 +76,11 @@ pub(crate) fn mark_all(
     ensures room { vec_len told.new + unset ready.new ≤ vec_capacity told.new }
     ensures capacity { vec_capacity told.new ≡ vec_capacity told.old }
     ensures tells { Tells ready.old ready.new told.old.items told.new.items }
-    ensures marked { AreMarked homes.now nodes.now ready.new trail.now.order.items }
+    ensures marked { AreMarked homes.now nodes.now.items ready.new trail.now.order.items }
     ensures only { (i : ℕ) → is_set ready.new i ≡ true → (is_set ready.old i ≡ true) ⊎ IsOfTrail homes.now trail.now.order.items i }
 {
     for group in trail.order.iter() {
-        let members = members_of(nodes, *group);
+        let members = nodes.members_of(*group);
         mark_members(homes, ready, told, *group, members);
     }
 }

@@ -9,7 +9,7 @@ ghost use Rattle.dep_groups.specs.Frontier.{IsPendingCount};
 ghost use Rattle.dep_groups.specs.Hits.{IsWhole};
 ghost use Rattle.dep_groups.specs.Pending.{AreCounted, AreNoted, IsCovered, IsCoveredFrom, AreWithin};
 
-use crate::graph::{Graph, deps_of};
+use crate::graph::Graph;
 use crate::hits::Hits;
 use crate::places::{at, is_set, lower, raise};
 use crate::resolve::Core;
@@ -88,7 +88,7 @@ fn note_each(
     ensures stays { (i : ℕ) → is_set flags.old i ≡ true → is_set flags.new i ≡ true }
     ensures covered { IsCoveredFrom graph.now trail.new flags.new from }
 {
-    let deps = deps_of(&graph.nodes, group_at(trail, from));
+    let deps = graph.nodes.deps_of(group_at(trail, from));
     let mut count = before;
     for k in 0..deps.len() {
         count = note_one(graph, trail, flags, from, deps[k], count);
@@ -136,7 +136,7 @@ fn lower_noted(graph: &Graph, trail: &Trail, flags: &mut [bool])
     ensures { (i : ℕ) → is_set flags.new i ≡ false }
 {
     for k in 0..trail.order.len() {
-        lower_each(flags, deps_of(&graph.nodes, group_at(trail, k)));
+        lower_each(flags, graph.nodes.deps_of(group_at(trail, k)));
     }
 }
 

@@ -1,26 +1,36 @@
-ghost use Rattle.std.specs.Prelude.{◌≡◌, ◌<◌, ◌+◌, ℕ, Some, None, true, false, ◌==◌, if◌then◌else◌, length};
+ghost use Rattle.std.specs.Prelude.{◌≡◌, ◌<◌, ◌+◌, ◌-◌, ◌^◌, ℕ, Some, None, true, false, ◌==◌, if◌then◌else◌, length};
 ghost use Rattle.dep_groups.specs.Places.{place, is_set, unset};
 
-/// What stands in a place, if anything.
-pub(crate) fn at(places: &[Option<u32>], k: usize) -> Option<u32>
+use crate::slot::Slot;
+
+/// What stands in a place; past the end nothing does.
+pub(crate) fn slot_at(places: &[Slot], k: usize) -> Slot
     ensures { result ≡ place places.now k }
 {
     match places.get(k) {
         Some(found) => *found,
-        None => None,
+        None => Slot::none(),
     }
 }
 
+/// The number that stands in a place, if any.
+pub(crate) fn at(places: &[Slot], k: usize) -> Option<u32>
+    ensures { result ≡ place places.now k }
+{
+    slot_at(places, k).get()
+}
+
 /// Puts a number into a place.
-pub(crate) fn put(places: &mut [Option<u32>], k: usize, number: u32)
-    requires { k < length places.old }
+pub(crate) fn put(places: &mut [Slot], k: usize, number: u32)
+    requires within { k < length places.old }
+    requires few { number < 2 ^ 32 - 1 }
     ensures { (n : ℕ) → place places.new n ≡ (if k == n then Some number else place places.old n) }
 {
-    places[k] = Some(number);
+    places[k] = Slot::of(number);
 }
 
 /// Sets what stands in a place.
-pub(crate) fn set(places: &mut [Option<u32>], k: usize, content: Option<u32>)
+pub(crate) fn set(places: &mut [Slot], k: usize, content: Slot)
     requires { k < length places.old }
     ensures { (n : ℕ) → place places.new n ≡ (if k == n then content else place places.old n) }
 {
@@ -28,11 +38,11 @@ pub(crate) fn set(places: &mut [Option<u32>], k: usize, content: Option<u32>)
 }
 
 /// Empties a place, if it is there.
-pub(crate) fn empty(places: &mut [Option<u32>], k: usize)
+pub(crate) fn empty(places: &mut [Slot], k: usize)
     ensures { (n : ℕ) → place places.new n ≡ (if k == n then None else place places.old n) }
 {
     if k < places.len() {
-        places[k] = None;
+        places[k] = Slot::none();
     }
 }
 

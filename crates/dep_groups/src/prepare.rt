@@ -1,48 +1,38 @@
-ghost use Rattle.std.specs.Prelude.{◌≡◌, ◌<◌, ◌≤◌, ◌+◌, ℕ, [], Some, IfOk, OnOk, OnErr, length, slice_get, vec_len, vec_capacity};
+ghost use Rattle.std.specs.Prelude.{◌≡◌, ◌<◌, ◌≤◌, ◌+◌, ◌^◌, ℕ, [], Some, IfOk, OnOk, OnErr, length, slice_get, vec_len, vec_capacity};
 ghost use Rattle.std.specs.Prelude.{Contains};
 ghost use Rattle.orc_ids.specs.declared.ids.InstId.{InstId};
 ghost use Rattle.dep_groups.specs.Places.{place};
 ghost use Rattle.dep_groups.specs.Shape.{home_in, ready_in};
 ghost use Rattle.dep_groups.specs.Core.{IsSound};
-ghost use Rattle.dep_groups.specs.Added.{AreFew, HasRoom};
-ghost use Rattle.dep_groups.specs.Adding.{total, AreBelow};
+ghost use Rattle.dep_groups.specs.Added.{HasRoom};
+ghost use Rattle.dep_groups.specs.Adding.{member_count, dep_count, AreBelow};
 ghost use Rattle.dep_groups.specs.Hits.{IsResting};
 ghost use Rattle.dep_groups.specs.Prepare.{Covers, IsRoomierGraph, IsRoomier, HasPlaces, HasTables, IsAlike};
 
 use crate::add::{grow_flags, grow_places};
-use crate::graph::{Graph, Node};
+use crate::graph::Graph;
 use crate::hits::{Hits, grow_hits, reserve_hits};
+use crate::nodes::make_room;
 use crate::resolve::Core;
-use orc_ids::InstId;
+use orc_ids::{Group, InstId};
 use std::alloc::AllocError;
 
-/// How many places some groups need, and how many dependencies they have in all.
+/// How many places some groups need, and how many members and dependencies they have in all.
 #[derive(Drop, Clone, Copy)]
 pub(crate) struct Needs {
     pub(crate) places: usize,
+    pub(crate) members: usize,
     pub(crate) deps: usize,
 }
 
-/// How many places are needed for some members too.
-fn places_for_members(members: &[InstId], places: usize) -> usize
+/// How many places are needed for some instances too.
+fn places_for(instances: &[InstId], places: usize) -> usize
     ensures more { places ≤ result }
-    ensures covers { (m : InstId) → Contains members.now m → m.0 < result }
+    ensures covers { (i : InstId) → Contains instances.now i → i.0 < result }
 {
     let mut count = places;
-    for member in members {
-        count = count.max(member.0 as usize + 1);
-    }
-    count
-}
-
-/// How many places are needed for some dependencies too.
-fn places_for_deps(deps: &[u32], places: usize) -> usize
-    ensures more { places ≤ result }
-    ensures covers { (d : ℕ) → Contains deps.now d → d < result }
-{
-    let mut count = places;
-    for instance in deps {
-        count = count.max(*instance as usize + 1);
+    for instance in instances {
+        count = count.max(instance.0 as usize + 1);
     }
     count
 }
@@ -58,35 +48,43 @@ fn add_up(a: usize, b: usize) -> Result<usize, AllocError>
 }
 
 /// What one group more needs.
-fn with_node(node: &Node, needs: Needs) -> Result<Needs, AllocError>
-    ensures { IfOk result (λ n. Covers node.now needs n) }
+fn with_group(group: &Group, needs: Needs) -> Result<Needs, AllocError>
+    ensures { IfOk result (λ n. Covers group.now needs n) }
 {
-    let members = places_for_members(&node.members, needs.places);
-    let places = places_for_deps(&node.deps, members);
-    let deps = add_up(needs.deps, node.deps.len())?;
-    Ok(Needs { places, deps })
+    let housed = places_for(group.members.as_slice(), needs.places);
+    let places = places_for(group.deps.as_slice(), housed);
+    let members = add_up(needs.members, group.members.len())?;
+    let deps = add_up(needs.deps, group.deps.len())?;
+    Ok(Needs {
+        places,
+        members,
+        deps,
+    })
 }
 
 /// What some groups need, beside so many places.
-pub(crate) fn needs_of(nodes: &[Node], places: usize) -> Result<Needs, AllocError>
+pub(crate) fn needs_of(groups: &[Group], places: usize) -> Result<Needs, AllocError>
     ensures places { IfOk result (λ n. places ≤ n.places) }
-    ensures below { IfOk result (λ n. AreBelow nodes.now n.places) }
-    ensures deps { IfOk result (λ n. n.deps ≡ total nodes.now) }
+    ensures below { IfOk result (λ n. AreBelow groups.now n.places) }
+    ensures members { IfOk result (λ n. n.members ≡ member_count groups.now) }
+    ensures deps { IfOk result (λ n. n.deps ≡ dep_count groups.now) }
 {
-    let mut needs = Needs { places, deps: 0 };
-    for node in nodes {
-        needs = with_node(node, needs)?;
+    let mut needs = Needs {
+        places,
+        members: 0,
+        deps: 0,
+    };
+    for group in groups {
+        needs = with_group(group, needs)?;
     }
     Ok(needs)
 }
 
-/// Refuses groups that there are no numbers of 32 bits for, or none for what they depend on.
-fn check_numbers(graph: &Graph, groups: usize, deps: usize) -> Result<(), AllocError>
-    ensures { OnOk result (AreFew graph.now groups deps) }
+/// Refuses instances that have no place with a number below 2^32 - 1.
+fn check_places(places: usize) -> Result<(), AllocError>
+    ensures { OnOk result (places < 2 ^ 32) }
 {
-    let nodes = add_up(graph.nodes.len(), groups)?;
-    let edges = add_up(graph.edges.len(), deps)?;
-    if nodes.max(edges) > u32::MAX as usize {
+    if places > u32::MAX as usize {
         return Err(AllocError);
     }
     Ok(())
@@ -98,10 +96,10 @@ fn reserve_graph(graph: &mut Graph, groups: usize, needs: Needs) -> Result<(), A
     requires firsts { vec_len graph.old.firsts ≤ needs.places }
     requires ready { vec_len graph.old.ready ≤ needs.places }
     ensures same { IsRoomierGraph graph.old graph.new }
-    ensures room { OnOk result (HasPlaces graph.new groups needs.deps needs.places) }
+    ensures room { OnOk result (HasPlaces graph.new groups needs) }
 {
-    graph.edges.reserve(needs.deps)?;
-    graph.nodes.reserve(groups)?;
+    make_room(&mut graph.edges, needs.deps)?;
+    graph.nodes.reserve(groups, needs.members, needs.deps)?;
     graph.homes.reserve(needs.places - graph.homes.len())?;
     graph.firsts.reserve(needs.places - graph.firsts.len())?;
     graph.ready.reserve(needs.places - graph.ready.len())
@@ -145,15 +143,15 @@ fn grow(graph: &mut Graph, places: usize)
 }
 
 /// Makes the room for groups, forgets what was told, and makes the places for their instances.
-pub(crate) fn prepare(core: &mut Core, hits: &mut Hits, nodes: &[Node]) -> Result<(), AllocError>
+pub(crate) fn prepare(core: &mut Core, hits: &mut Hits, groups: &[Group]) -> Result<(), AllocError>
     requires sound { IsSound core.old }
     requires firsts { length core.old.graph.firsts.items ≡ length core.old.graph.homes.items }
     requires resting { IsResting hits.old }
     requires covers { length core.old.graph.homes.items ≤ length hits.old.flags.items }
     ensures alike { IsAlike core.old core.new }
     ensures firsts { length core.new.graph.firsts.items ≡ length core.new.graph.homes.items }
-    ensures below { OnOk result (AreBelow nodes.now (length core.new.graph.homes.items)) }
-    ensures room { OnOk result (HasRoom core.new (length nodes.now) (total nodes.now)) }
+    ensures below { OnOk result (AreBelow groups.now (length core.new.graph.homes.items)) }
+    ensures room { OnOk result (HasRoom core.new (length groups.now) (member_count groups.now) (dep_count groups.now)) }
     ensures told { OnOk result (core.new.told.items ≡ []) }
     ensures err { OnErr result ((core.new.graph.homes.items ≡ core.old.graph.homes.items) × (core.new.told.items ≡ core.old.told.items)) }
     ensures resting { IsResting hits.new }
@@ -162,11 +160,11 @@ pub(crate) fn prepare(core: &mut Core, hits: &mut Hits, nodes: &[Node]) -> Resul
     ensures more { length hits.old.flags.items ≤ length hits.new.flags.items }
     ensures places { OnErr result (length hits.new.flags.items ≡ length hits.old.flags.items) }
 {
-    let needs = needs_of(nodes, core.graph.homes.len())?;
-    check_numbers(&core.graph, nodes.len(), needs.deps)?;
+    let needs = needs_of(groups, core.graph.homes.len())?;
+    check_places(needs.places)?;
     reserve_hits(hits, needs.places)?;
-    reserve_tables(core, nodes.len(), needs.places)?;
-    reserve_graph(&mut core.graph, nodes.len(), needs)?;
+    reserve_tables(core, groups.len(), needs.places)?;
+    reserve_graph(&mut core.graph, groups.len(), needs)?;
     core.told.clear();
     grow(&mut core.graph, needs.places);
     grow_places(&mut core.heads, needs.places);

@@ -10,6 +10,7 @@ use crate::graph::Graph;
 use crate::links::wait_for;
 use crate::marks::mark_all;
 use crate::seek::{clear, seek};
+use crate::slot::Slot;
 use crate::trail::{Trail, come_to};
 use orc_ids::InstId;
 
@@ -19,9 +20,9 @@ use orc_ids::InstId;
 #[derive(Drop)]
 pub(crate) struct Core {
     pub(crate) graph: Graph,
-    pub(crate) links: Vec<Option<u32>>,
-    pub(crate) nexts: Vec<Option<u32>>,
-    pub(crate) heads: Vec<Option<u32>>,
+    pub(crate) links: Vec<Slot>,
+    pub(crate) nexts: Vec<Slot>,
+    pub(crate) heads: Vec<Slot>,
     pub(crate) cursors: Vec<usize>,
     pub(crate) trail: Trail,
     pub(crate) told: Vec<InstId>,

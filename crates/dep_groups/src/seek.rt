@@ -7,9 +7,9 @@ ghost use Rattle.dep_groups.specs.Links.{IsFound};
 ghost use Rattle.dep_groups.specs.Marks.{members_of};
 ghost use Rattle.dep_groups.specs.Seek.{IsOwn, IsOther, AreOwn, IsClear};
 
-use crate::graph::{Graph, deps_of};
-use crate::marks::members_of;
+use crate::graph::Graph;
 use crate::places::{at, is_set, lower};
+use crate::slot::Slot;
 use crate::trail::{Trail, advance, search};
 use orc_ids::InstId;
 
@@ -36,7 +36,7 @@ fn first_other(graph: &Graph, cursors: &mut [usize], group: u32) -> Option<u32>
     ensures found { MatchOption result (AreOwn graph.now group) (λ d. IsOther graph.now group d) }
 {
     let start = advance(graph, cursors, group);
-    let deps = deps_of(&graph.nodes, group);
+    let deps = graph.nodes.deps_of(group);
     for k in start..deps.len() {
         if !is_own(graph, group, deps[k]) {
             return Some(deps[k]);
@@ -46,7 +46,7 @@ fn first_other(graph: &Graph, cursors: &mut [usize], group: u32) -> Option<u32>
 }
 
 /// Whether a group waits for one of the members.
-fn is_wanted(heads: &[Option<u32>], members: &[InstId]) -> bool
+fn is_wanted(heads: &[Slot], members: &[InstId]) -> bool
     ensures { result ≡ false → (m : InstId) → Contains members.now m → place heads.now m.0 ≡ None }
 {
     for member in members {
@@ -62,8 +62,8 @@ fn is_wanted(heads: &[Option<u32>], members: &[InstId]) -> bool
 /// is not emitted is searched for.
 pub(crate) fn seek(
     graph: &Graph,
-    links: &[Option<u32>],
-    heads: &[Option<u32>],
+    links: &[Slot],
+    heads: &[Slot],
     cursors: &mut [usize],
     trail: &mut Trail,
     group: u32,
@@ -82,7 +82,7 @@ pub(crate) fn seek(
     ensures cursors { ArePassed graph.now cursors.new }
     ensures found { MatchOption result (IsExhausted graph.now trail.new (vec_len trail.new.order)) (λ to. IsFound graph.now heads.now group to) }
 {
-    if is_wanted(heads, members_of(&graph.nodes, group)) {
+    if is_wanted(heads, graph.nodes.members_of(group)) {
         return search(graph, links, cursors, trail);
     }
     first_other(graph, cursors, group)

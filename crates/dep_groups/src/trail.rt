@@ -3,8 +3,9 @@ ghost use Rattle.dep_groups.specs.Places.{place, is_set};
 ghost use Rattle.dep_groups.specs.Shape.{home_in, deps_in, ready_in};
 ghost use Rattle.dep_groups.specs.Search.{IsTrailOf, IsRoomy, IsMore, IsVisit, IsMet, IsLooked, IsOpen, IsWired, LinksLead, IsPassed, WasLooked, ArePassed, IsExhausted};
 
-use crate::graph::{Graph, deps_of};
+use crate::graph::Graph;
 use crate::places::{at, is_set, raise};
+use crate::slot::Slot;
 
 /// The groups that a search came to, in order.
 #[derive(Drop)]
@@ -72,7 +73,7 @@ pub(crate) fn look_at(graph: &Graph, trail: &mut Trail, to: u32) -> Look
 
 /// Goes on from the last visit by the links of groups, as long as they lead to new ones; the
 /// instance that is not emitted, if they end at one.
-fn follow(graph: &Graph, links: &[Option<u32>], trail: &mut Trail) -> Option<u32>
+fn follow(graph: &Graph, links: &[Slot], trail: &mut Trail) -> Option<u32>
     requires trail { IsTrailOf graph.now trail.old }
     requires room { IsRoomy trail.old }
     requires wired { IsWired graph.now (length trail.old.seen.items) }
@@ -94,7 +95,7 @@ fn follow(graph: &Graph, links: &[Option<u32>], trail: &mut Trail) -> Option<u32
 }
 
 /// Looks at an instance that the search met, and goes on from there.
-fn follow_to(graph: &Graph, links: &[Option<u32>], trail: &mut Trail, to: u32) -> Option<u32>
+fn follow_to(graph: &Graph, links: &[Slot], trail: &mut Trail, to: u32) -> Option<u32>
     requires trail { IsTrailOf graph.now trail.old }
     requires room { IsRoomy trail.old }
     requires wired { IsWired graph.now (length trail.old.seen.items) }
@@ -113,13 +114,7 @@ fn follow_to(graph: &Graph, links: &[Option<u32>], trail: &mut Trail, to: u32) -
 }
 
 /// Looks at the dependencies of a group that the search came to, from one of them on.
-fn scan(
-    graph: &Graph,
-    links: &[Option<u32>],
-    trail: &mut Trail,
-    from: usize,
-    start: usize,
-) -> Option<u32>
+fn scan(graph: &Graph, links: &[Slot], trail: &mut Trail, from: usize, start: usize) -> Option<u32>
     requires trail { IsTrailOf graph.now trail.old }
     requires room { IsRoomy trail.old }
     requires wired { IsWired graph.now (length trail.old.seen.items) }
@@ -130,7 +125,7 @@ fn scan(
     ensures more { IsMore trail.old trail.new }
     ensures found { MatchOption result (IsPassed graph.now trail.new from start) (λ d. IsOpen graph.now trail.new d) }
 {
-    let deps = deps_of(&graph.nodes, group_at(trail, from));
+    let deps = graph.nodes.deps_of(group_at(trail, from));
     for k in start..deps.len() {
         let found = follow_to(graph, links, trail, deps[k]);
         if found.is_some() {
@@ -147,7 +142,7 @@ pub(crate) fn advance(graph: &Graph, cursors: &mut [usize], group: u32) -> usize
     ensures cursors { ArePassed graph.now cursors.new }
     ensures passed { (k d : ℕ) → k < result → slice_get (deps_in graph.now group) k ≡ Some d → ready_in graph.now d ≡ true }
 {
-    let deps = deps_of(&graph.nodes, group);
+    let deps = graph.nodes.deps_of(group);
     let mut start = cursors[group as usize];
     while start < deps.len() && is_set(&graph.ready, deps[start] as usize) {
         start += 1;
@@ -160,7 +155,7 @@ pub(crate) fn advance(graph: &Graph, cursors: &mut [usize], group: u32) -> usize
 /// looked at all that the groups it came to depend on.
 pub(crate) fn search(
     graph: &Graph,
-    links: &[Option<u32>],
+    links: &[Slot],
     cursors: &mut [usize],
     trail: &mut Trail,
 ) -> Option<u32>

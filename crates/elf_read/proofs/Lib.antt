@@ -1,8 +1,8 @@
 pub mod Apart
 pub mod Builds
+pub mod Contents
 pub mod Ends
 pub mod Firsts
-pub mod NameSets
 pub mod Ranges
 pub mod RelocEntries
 pub mod Tables

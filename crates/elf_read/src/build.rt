@@ -11,35 +11,66 @@ ghost use Rattle.elf_read.specs.Symbols.{numbers, kept_below, symbol_count, entr
 
 use crate::fields::{SectionHeader, SymbolEntry};
 use crate::gabi::{SHN_ABS, SHN_COMMON, SHN_UNDEF, SHT_NOBITS};
-use crate::name::{Name, NameTable};
 use crate::object::{ElfObject, Section, Sections, SymPlace, Symbol, Symbols};
 use crate::relocs::relocs_of;
 use crate::string_table::section_bytes;
 use crate::symbols::{name_of, symbol_entry, symbol_total};
 use crate::table::Table;
-use orc_ids::Bytes;
+use shared_bytes::SharedBytes;
 use std::alloc::{AllocError, Global};
 
 /// The name of a section; empty where it is not in the name table.
 #[tactic(auto, unfolding(crate::specs::Sections::section_name))]
-fn section_name(table: &Table, names: &NameTable, i: u32) -> Result<Name, AllocError>
+fn section_name(table: &Table, names: &SharedBytes, i: u32) -> Result<SharedBytes, AllocError>
     requires { names.now ≡ section_strings table.now }
     ensures { IfOk result (λ name. name ≡ unwrap_or (want.section_name table.now i) []) }
 {
     match table.section_name(i) {
-        None => Ok(Name::empty()),
-        Some(text) => names.name(table.section(i).name as usize, text.len()),
+        None => Ok(SharedBytes::empty()),
+        Some(text) => names.range(table.section(i).name as usize, text.len()),
     }
 }
 
+/// The bytes of a section, as far as they lie in the file, as a range of the file.
+#[tactic(auto, using(crate::proofs::Contents::inside, crate::proofs::Contents::same_range))]
+fn contents_in(file: &SharedBytes, section: &SectionHeader) -> Result<SharedBytes, AllocError>
+    ensures { IfOk result (λ bytes. bytes ≡ contents file.now section.now) }
+{
+    let start = section.offset.min(file.len() as u64) as usize;
+    file.range(start, section_bytes(file.as_slice(), section).len())
+}
+
+/// The contents of a section with less than this part of the file's bytes are copied, so that they
+/// don't keep the file.
+const SHARED_PART: usize = 4;
+
+/// The bytes of a section, as far as they lie in the file.
+fn shared_or_copied(
+    alloc: Global,
+    file: &SharedBytes,
+    section: &SectionHeader,
+) -> Result<SharedBytes, AllocError>
+    ensures { IfOk result (λ bytes. bytes ≡ contents file.now section.now) }
+{
+    let bytes = section_bytes(file.as_slice(), section);
+    if bytes.len() < file.len() / SHARED_PART {
+        return SharedBytes::copy_of(alloc, bytes);
+    }
+    contents_in(file, section)
+}
+
 /// The bytes that a section has in the file.
-fn bytes_of(alloc: Global, table: &Table, section: &SectionHeader) -> Result<Bytes, AllocError>
-    ensures { IfOk result (λ bytes. bytes ≡ (if section.now.kind == sht_nobits then [] else contents table.now.bytes section.now)) }
+fn bytes_of(
+    alloc: Global,
+    file: &SharedBytes,
+    section: &SectionHeader,
+) -> Result<SharedBytes, AllocError>
+    ensures { IfOk result (λ bytes. bytes ≡ (if section.now.kind == sht_nobits then [] else contents file.now section.now)) }
 {
     if section.kind == SHT_NOBITS {
-        return Ok(Bytes::new(alloc));
+        return Ok(SharedBytes::empty());
     }
-    Bytes::copy_of(alloc, section_bytes(table.bytes(), section))
+    shared_or_copied(alloc, file, section)
 }
 
 /// An alignment of 0 means none, as 1 does.
@@ -52,10 +83,12 @@ fn align_of(section: &SectionHeader) -> u64
 #[tactic(auto, unfolding(crate::specs::Object::section_in))]
 fn build_section(
     alloc: Global,
+    file: &SharedBytes,
     table: &Table,
     i: u32,
-    names: &NameTable,
+    names: &SharedBytes,
 ) -> Result<Section, AllocError>
+    requires file { file.now ≡ table.now.bytes }
     requires names { names.now ≡ section_strings table.now }
     requires sections { first_below table.now.count (section_refusal table.now) ≡ None }
     requires number { i < table.now.count }
@@ -69,20 +102,30 @@ fn build_section(
         flags: section.flags,
         align: align_of(&section),
         size: section.size,
-        bytes: bytes_of(alloc, table, &section)?,
+        bytes: bytes_of(alloc, file, &section)?,
         relocs: relocs_of(alloc, table, i)?,
     })
 }
 
-fn build_sections(alloc: Global, table: &Table) -> Result<Sections, AllocError>
-    requires { first_below table.now.count (section_refusal table.now) ≡ None }
+/// The table of the sections' names.
+#[tactic(auto, unfolding(crate::specs::Index::section_strings))]
+fn section_name_table(file: &SharedBytes, table: &Table) -> Result<SharedBytes, AllocError>
+    requires { file.now ≡ table.now.bytes }
+    ensures { IfOk result (λ names. names ≡ section_strings table.now) }
+{
+    contents_in(file, &table.section(table.names()))
+}
+
+fn build_sections(alloc: Global, file: &SharedBytes, table: &Table) -> Result<Sections, AllocError>
+    requires file { file.now ≡ table.now.bytes }
+    requires sections { first_below table.now.count (section_refusal table.now) ≡ None }
     ensures { IfOk result (λ sections. sections ≡ map (section_in table.now) (kept_below table.now table.now.count)) }
 {
-    let names = NameTable::copy_of(alloc, table.section_strings())?;
+    let names = section_name_table(file, table)?;
     let mut items = Vec::new(alloc);
     for i in 0..table.count() {
         if table.section(i).is_kept() {
-            items.push(build_section(alloc, table, i, &names)?)?;
+            items.push(build_section(alloc, file, table, i, &names)?)?;
         }
     }
     Ok(Sections::from_vec(items))
@@ -115,7 +158,7 @@ fn build_zero() -> Symbol
     ensures { result ≡ symbol_zero }
 {
     Symbol {
-        name: Name::empty(),
+        name: SharedBytes::empty(),
         bind: 0,
         kind: 0,
         vis: 0,
@@ -127,18 +170,22 @@ fn build_zero() -> Symbol
 
 /// The name of an entry; empty where it is not in the string table, not ended there, or too long.
 #[tactic(auto, unfolding(crate::specs::Symbols::name_of))]
-fn symbol_name(table: &Table, names: &NameTable, entry: &SymbolEntry) -> Result<Name, AllocError>
+fn symbol_name(
+    table: &Table,
+    names: &SharedBytes,
+    entry: &SymbolEntry,
+) -> Result<SharedBytes, AllocError>
     requires { names.now ≡ symbol_strings table.now }
     ensures { IfOk result (λ name. name ≡ unwrap_or (symbol.name_of table.now entry.now) []) }
 {
     match name_of(table, entry) {
-        None => Ok(Name::empty()),
-        Some(text) => names.name(entry.name as usize, text.len()),
+        None => Ok(SharedBytes::empty()),
+        Some(text) => names.range(entry.name as usize, text.len()),
     }
 }
 
 #[tactic(auto, unfolding(crate::specs::Symbols::symbol_in, crate::specs::Symbols::symbol_name))]
-fn build_symbol(table: &Table, j: u32, names: &NameTable) -> Result<Symbol, AllocError>
+fn build_symbol(table: &Table, j: u32, names: &SharedBytes) -> Result<Symbol, AllocError>
     requires names { names.now ≡ symbol_strings table.now }
     requires inside { IsTrue (lies_in table.now.bytes (symtab table.now).offset (symtab table.now).size) }
     requires number { j < symbol_count table.now }
@@ -159,13 +206,24 @@ fn build_symbol(table: &Table, j: u32, names: &NameTable) -> Result<Symbol, Allo
     })
 }
 
-fn build_symbols(alloc: Global, table: &Table) -> Result<Symbols, AllocError>
-    requires { IsTrue (lies_in table.now.bytes (symtab table.now).offset (symtab table.now).size) }
+/// The table of the symbols' names; empty where there is no symbol table.
+#[tactic(auto, unfolding(crate::specs::Index::symbol_strings, crate::specs::Sections::symtab))]
+fn symbol_name_table(file: &SharedBytes, table: &Table) -> Result<SharedBytes, AllocError>
+    requires { file.now ≡ table.now.bytes }
+    ensures { IfOk result (λ names. names ≡ symbol_strings table.now) }
+{
+    let symtab = table.section(table.symtab().unwrap_or(0));
+    contents_in(file, &table.section(symtab.link))
+}
+
+fn build_symbols(alloc: Global, file: &SharedBytes, table: &Table) -> Result<Symbols, AllocError>
+    requires file { file.now ≡ table.now.bytes }
+    requires inside { IsTrue (lies_in table.now.bytes (symtab table.now).offset (symtab table.now).size) }
     ensures { IfOk result (λ symbols. symbols ≡ map (symbol_in table.now) (numbers (symbol_count table.now))) }
 {
     let total = symbol_total(table)?;
     let mut items = Vec::with_capacity(alloc, total as usize)?;
-    let names = NameTable::copy_of(alloc, table.symbol_strings())?;
+    let names = symbol_name_table(file, table)?;
     for j in 0..total {
         items.push(build_symbol(table, j, &names)?)?;
     }
@@ -174,13 +232,18 @@ fn build_symbols(alloc: Global, table: &Table) -> Result<Symbols, AllocError>
 
 /// The object of a file that no check refuses.
 #[tactic(auto, unfolding(crate::specs::Object::object_in))]
-pub(crate) fn build(alloc: Global, table: &Table) -> Result<ElfObject, AllocError>
+pub(crate) fn build(
+    alloc: Global,
+    file: &SharedBytes,
+    table: &Table,
+) -> Result<ElfObject, AllocError>
+    requires file { file.now ≡ table.now.bytes }
     requires sections { first_below table.now.count (section_refusal table.now) ≡ None }
     requires symbols { IsTrue (lies_in table.now.bytes (symtab table.now).offset (symtab table.now).size) }
     ensures { IfOk result (λ object. object ≡ object_in table.now) }
 {
     Ok(ElfObject {
-        sections: build_sections(alloc, table)?,
-        symbols: build_symbols(alloc, table)?,
+        sections: build_sections(alloc, file, table)?,
+        symbols: build_symbols(alloc, file, table)?,
     })
 }

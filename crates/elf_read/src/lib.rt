@@ -3,8 +3,9 @@
 //!
 //! Any bytes are one object, or refused by the first check that fails. Contracts see an
 //! `ElfObject` as its list of kept sections, each with its relocations, and its list of symbols.
-//! `specs/Object.antt` says which object bytes are, and which refusal. Read `orc_ids` first; what
-//! links objects reads them through this crate.
+//! `specs/Object.antt` says which object bytes are, and which refusal. Names and large contents are
+//! ranges of the file, not copies. Read `shared_bytes` first; what links objects reads them through
+//! this crate.
 #![tactic(auto)]
 
 mod build;
@@ -13,7 +14,6 @@ mod fields;
 mod file;
 mod gabi;
 mod header;
-mod name;
 mod name_set;
 mod names;
 mod object;
@@ -27,6 +27,5 @@ mod symbols;
 mod table;
 
 pub use error::{ElfError, NotBuiltKind};
-pub use name::{Name, NameTable};
 pub use object::{ElfObject, Reloc, Relocs, Section, Sections, SymPlace, Symbol, Symbols};
-pub use read::read_object;
+pub use read::{read_object, read_shared};

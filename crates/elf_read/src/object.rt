@@ -1,7 +1,6 @@
 ghost use Rattle.std.specs.Prelude.{◌≡◌, []};
 
-use crate::name::Name;
-use orc_ids::Bytes;
+use shared_bytes::SharedBytes;
 use std::alloc::Global;
 use std::marker::Model;
 
@@ -59,12 +58,12 @@ impl Relocs {
 /// in the file, and else has `size` bytes.
 #[derive(Debug, Drop)]
 pub struct Section {
-    pub name: Name,
+    pub name: SharedBytes,
     pub kind: u32,
     pub flags: u64,
     pub align: u64,
     pub size: u64,
-    pub bytes: Bytes,
+    pub bytes: SharedBytes,
     pub relocs: Relocs,
 }
 
@@ -126,7 +125,7 @@ pub enum SymPlace {
 /// and `vis` is the visibility of `st_other`.
 #[derive(Debug, Drop)]
 pub struct Symbol {
-    pub name: Name,
+    pub name: SharedBytes,
     pub bind: u8,
     pub kind: u8,
     pub vis: u8,

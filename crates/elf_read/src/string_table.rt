@@ -81,12 +81,6 @@ impl<'a> StringTable<'a> {
         Ok(StringTable { bytes, ends })
     }
 
-    pub fn bytes(&self) -> &'a [u8]
-        ensures { result.now ≡ self.now }
-    {
-        self.bytes
-    }
-
     /// The place of the first zero byte from a place on.
     fn end(&self, at: usize) -> Option<usize>
         ensures { MatchOption result (HasNoEnd self.now at) (λ end. IsEnd self.now at end) }

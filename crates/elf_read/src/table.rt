@@ -156,7 +156,7 @@ impl<'a> Table<'a> {
         self.file.table()
     }
 
-    /// The number of sections, of which section 0 is none.
+    /// The number of sections, the null section among them.
     pub fn count(&self) -> u32
         ensures { result ≡ self.now.count }
     {
@@ -198,20 +198,6 @@ impl<'a> Table<'a> {
         ensures { result ≡ length (kept_below self.now i) }
     {
         self.kept[i as usize]
-    }
-
-    /// The bytes of the table of the sections' names.
-    pub fn section_strings(&self) -> &'a [u8]
-        ensures { result.now ≡ section_strings self.now }
-    {
-        self.section_names.bytes()
-    }
-
-    /// The bytes of the table of the symbols' names.
-    pub fn symbol_strings(&self) -> &'a [u8]
-        ensures { result.now ≡ symbol_strings self.now }
-    {
-        self.symbol_names.bytes()
     }
 
     /// The name of a section; none where it is not in the name table, and ended there.

@@ -1,11 +1,9 @@
 -- One more byte, entry or part.
-use Rattle.std.proofs.Common.{◌≡◌, ℕ, zero, suc, ◌+◌, ◌-◌, ◌/◌, ◌%◌, ◌<◌, ◌≤◌, List, [], ◌∷◌, ◌++◌, length, get_or, take, drop, map, refl, sym, ap, ◌∙◌, append_assoc, arith}
+use Rattle.std.proofs.Common.{◌≡◌, ℕ, suc, ◌+◌, ◌-◌, ◌/◌, ◌%◌, List, [], ◌∷◌, ◌++◌, refl, sym, ap, ◌∙◌, append_assoc}
 use Rattle.std.proofs.lemmas.List.{append-nil}
 use Rattle.elf_write.specs.Bytes.{number_bytes}
-use Rattle.elf_write.specs.Tables.{Symtab, with_symbol, with_symbols}
 use Rattle.elf_write.specs.Parts.{Part}
 use Rattle.elf_write.specs.Files.{Written, with_part, with_parts}
-use Rattle.elf_read.specs.declared.object.Symbol.{Symbol}
 
 -- the lowest byte of what is left is written
 pub next_byte : (out new whole : List ℕ) (left fewer rest : ℕ) → left ≡ suc fewer → out ++ number_bytes left rest ≡ whole → new ≡ out ++ rest % 256 ∷ [] → new ++ number_bytes fewer (rest / 256) ≡ whole

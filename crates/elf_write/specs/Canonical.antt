@@ -1,6 +1,6 @@
 -- The objects that a file of this layout holds whole, where it is shorter than 4 GiB: no check of a reader
 -- refuses them, and each number fits its field.
-use Rattle.std.specs.Prelude.{◌≡◌, ◌≢◌, ℕ, ◌+◌, ◌<◌, ◌≤◌, ◌^◌, ◌==◌, ◌++◌, not, Bool, true, false, List, [], length, drop, map, All, slice_get, slice_index_or, Some, ⊤, if◌then◌else◌}
+use Rattle.std.specs.Prelude.{◌≡◌, ◌≢◌, ℕ, ◌+◌, ◌<◌, ◌≤◌, ◌^◌, ◌==◌, ◌++◌, not, true, false, List, [], length, drop, map, All, slice_get, slice_index_or, Some, ⊤, if◌then◌else◌}
 use Rattle.std.specs.List.{IsDistinct, filter, list_any}
 use Rattle.std.specs.Str.{bytes_eq}
 use Rattle.orc_words.specs.Bits.{bits_at, fits_bits}

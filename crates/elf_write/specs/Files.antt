@@ -7,7 +7,7 @@ use Rattle.elf_read.specs.declared.object.ElfObject.{ElfObject}
 use Rattle.elf_read.specs.declared.object.Section.{Section}
 use Rattle.elf_write.specs.declared.part.Header.{Header}
 use Rattle.elf_write.specs.Bytes.{number_bytes, zeros, filled, no_strings, string_place, with_string}
-use Rattle.elf_write.specs.Tables.{Symtab, symtab_of, is_local}
+use Rattle.elf_write.specs.Tables.{symtab_of, is_local}
 use Rattle.elf_write.specs.Parts.{Part, section_part, rela_parts, symtab_part, strings_part}
 
 -- ---- what is written so far

@@ -1,13 +1,10 @@
 -- The sections of the file, each as its header and its bytes (System V gABI, "Sections").
-use Rattle.std.specs.Prelude.{ℕ, ◌+◌, List, [], ◌∷◌, ◌++◌, length, map, codes}
-use Rattle.std.specs.List.{filter}
+use Rattle.std.specs.Prelude.{ℕ, ◌+◌, List, [], ◌∷◌, ◌++◌, length, codes}
 use Rattle.elf_read.specs.Gabi.{sht_symtab, sht_strtab, sht_rela}
 use Rattle.elf_read.specs.declared.object.Reloc.{Reloc}
 use Rattle.elf_read.specs.declared.object.Section.{Section}
-use Rattle.elf_read.specs.declared.object.Symbol.{Symbol}
 use Rattle.elf_write.specs.declared.part.Header.{Header}
-use Rattle.elf_write.specs.Bytes.{number_bytes}
-use Rattle.elf_write.specs.Tables.{Symtab, relocs_bytes, is_local}
+use Rattle.elf_write.specs.Tables.{Symtab, relocs_bytes}
 
 -- a name, a header, and bytes
 pub record Part : Type 0 where

@@ -1,6 +1,6 @@
 -- The entries of an object's tables (System V gABI, "Symbol Table", "Relocation").
 use Rattle.std.specs.Prelude.{ℕ, ◌+◌, ◌*◌, ◌^◌, ◌==◌, Bool, List, [], ◌∷◌, ◌++◌, drop}
-use Rattle.std.specs.List.{flat_map, filter}
+use Rattle.std.specs.List.{flat_map}
 use Rattle.orc_words.specs.Bits.{low_of}
 use Rattle.elf_read.specs.Gabi.{shn_undef, shn_abs, shn_common, stb_local}
 use Rattle.elf_read.specs.declared.object.Reloc.{Reloc}

@@ -6,7 +6,8 @@ ghost use Rattle.link_worker.specs.Works.{IsFree};
 
 use crate::session::{define, look_up, make_dylib, make_tracker};
 use exec_run::{Ran, RunEnd, run};
-use link_worker::{LinkedUnit, LookEnd};
+use link_worker::LinkedUnit;
+use look_ends::LookEnd;
 use orc_ids::{NameId, Stop};
 use orc_io::Note;
 use shared_session::{CopyMemory, Pass, Shared};

@@ -5,7 +5,8 @@ ghost use Rattle.turn_lock.specs.Handles.{view, turn_id, IsReady};
 ghost use Rattle.link_worker.specs.Works.{IsFree};
 
 use execution_session::Session;
-use link_worker::{LinkedUnit, LookEnd, Looked, lookup};
+use link_worker::{LinkedUnit, Looked, lookup};
+use look_ends::LookEnd;
 use notifiers::FiredList;
 use orc_ids::{DylibId, Level, NameId, OrderItem, Scope, Stop, TrackId, Wanted};
 use orc_io::{Note, OpenGate};

@@ -3,6 +3,7 @@ use Rattle.std.proofs.Common.{◌≡◌, ◌⊎◌, ⊎_elim, inl, inr, ℕ, tru
 use Rattle.std.specs.Prelude.{option_map, slice_get, nat_lt, is_some, IsSomeAnd, ◌&&◌}
 use Rattle.std.proofs.Math.Dec.{leb}
 use Rattle.std.proofs.lemmas.Bool.Decides.{leb_tells}
+use Rattle.std.proofs.Math.Path.{fun_ext}
 use Rattle.rv_hart.specs.Map.{Map, byte_of}
 use Rattle.code_memory.specs.Mapped.{byte_at, AreSegments}
 use Rattle.orc_ids.specs.declared.limits.TheConstants.{CODE_START, CODE_END}
@@ -68,12 +69,9 @@ pub with_stack_rises : (ss : List Segment) (t : Segment) → AreSegments ss → 
 with_stack_rises ss t apart base long =
     wider CODE_START 0 (ss ++ t ∷ []) STACK_END STACK_END (omega arith) (omega arith) (stack_above CODE_START ss t apart (omega (arith, base)) (omega (arith, long)) (omega (arith, base, long)))
 
-funext : {A : Type 0} (f g : ℕ → A) → ((a : ℕ) → f a ≡ g a) → f ≡ g
-funext f g h = λ i a. h a i
-
 pub with_stack_is : (ss : List Segment) (t : Segment) → AreSegments ss → t.base ≡ STACK_START → AreZeros t.bytes (STACK_END - STACK_START) → byte_at (ss ++ t ∷ []) ≡ with_stack (byte_at ss)
 with_stack_is ss t apart base zeros =
-    funext (byte_at (ss ++ t ∷ [])) (with_stack (byte_at ss)) (λ a.
+    fun_ext (λ a.
     ⊎_elim (λ (e : (leb STACK_START a ≡ true) × (STACK_START ≤ a)).
     ⊎_elim (λ (f : (leb (suc a) STACK_END ≡ true) × (suc a ≤ STACK_END)).
     let high : a < end_of t = omega (arith, f.1, base, zeros.long) in

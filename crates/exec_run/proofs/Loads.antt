@@ -4,6 +4,7 @@ use Rattle.std.specs.Prelude.{replicate, option_map, slice_get, nat_lt, is_some,
 use Rattle.std.specs.Bool.{OnTrue, OnFalse}
 use Rattle.std.proofs.lemmas.List.{take_all}
 use Rattle.std.proofs.lemmas.Grind.{take-set_at}
+use Rattle.list_laws.proofs.Options.{not_there}
 use Rattle.rv_hart.specs.Map.{Map, byte_of, read, stored, with_byte}
 use Rattle.code_memory.specs.Mapped.{byte_at}
 use Rattle.code_memory.specs.declared.image.Segment.{Segment}
@@ -87,17 +88,14 @@ option_cases : {T : Type 0} (o : Option T) → (o ≡ None) ⊎ (is_some o ≡ t
 option_cases None = inl refl
 option_cases (Some x) = inr refl
 
-pub not_none : {T : Type 0} (o : Option T) → o ≡ None → is_some o ≡ true → ⊥
-not_none o none some = let e : is_some o ≡ false = ap is_some none in cc
-
 pub mapped_each : (map : Map) (at n j : ℕ) → IsSome (bytes_from map at n) → j < n → IsSome (map (at + j))
 mapped_each map at n j some less =
-    ⊎_elim (λ (none : map (at + j) ≡ None). absurd (not_none (bytes_from map at n) (bytes_none map at j n less (byte_none map (at + j) none)) some))
+    ⊎_elim (λ (none : map (at + j) ≡ None). absurd (not_there (bytes_from map at n) (bytes_none map at j n less (byte_none map (at + j) none)) some))
     (λ (yes : is_some (map (at + j)) ≡ true). yes) (option_cases (map (at + j)))
 
 pub below_each : (map : Map) (at n j : ℕ) → IsSome (bytes_from map at n) → j < n → at + j < 2 ^ 64
 below_each map at n j some less =
-    not_less (2 ^ 64) (suc (at + j)) (λ past. not_none (bytes_from map at n) (bytes_none map at j n less (byte_past map (at + j) (omega arith))) some)
+    not_less (2 ^ 64) (suc (at + j)) (λ past. not_there (bytes_from map at n) (bytes_none map at j n less (byte_past map (at + j) (omega arith))) some)
 
 pub mapped_after : (map : Map) (at b other : ℕ) → IsSome (map other) → IsSome (with_byte map at b other)
 mapped_after map at b other some = elim (other == at) as (λ t. is_some (cond t (Some b) (map other)) ≡ true) [ true ↦ refl | false ↦ some ]
@@ -121,7 +119,7 @@ read_some map at n some = subst IsSome (sym (read-bytes map at n)) (mapped (byte
     mapped None h = absurd cc
 
 pub never_read : (map : Map) (at n : ℕ) → read map at n ≡ None → IsSome (read map at n) → ⊥
-never_read map at n none some = not_none (read map at n) none some
+never_read map at n none some = not_there (read map at n) none some
 
 pub within_read : (ss : List Segment) (k : ℕ) (s : Segment) (at n : ℕ) → AreRegions ss → slice_get ss k ≡ Some s → s.base ≤ at → at < end_of s → at - s.base + n ≤ length s.bytes → IsSome (read (byte_at ss) at n)
 within_read ss k s at n rise there low high fits =

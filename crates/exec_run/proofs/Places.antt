@@ -1,13 +1,14 @@
 -- The list of the copies' places, and the ranges of an image with it.
 use Rattle.std.proofs.Common.{◌≡◌, ℕ, Option, Some, None, ◌+◌, ◌-◌, ◌^◌, ◌<◌, ◌≤◌, List, [], ◌∷◌, ◌++◌, length, get_or, set, zero, suc, refl, ap, sym, ◌∙◌, subst, arith}
 use Rattle.std.specs.Prelude.{replicate, slice_get}
+use Rattle.list_laws.proofs.Lists.{some_below}
 use Rattle.orc_ids.specs.declared.limits.TheConstants.{CODE_START, CODE_END}
 use Rattle.code_memory.proofs.Apart.{few_segments}
 use Rattle.code_memory.specs.Mapped.{AreSegments}
 use Rattle.code_memory.specs.declared.image.Segment.{Segment}
 use Rattle.exec_run.specs.Regions.{Region, region_of, regions, with_place, with_number, shown, all_shown, all_uncopied, AreCopied, HasPlaces, IsIn, IsPut, IsSet}
 use Rattle.exec_run.proofs.Copies.{HasAddress, region_read, shown_get, shown_length, put_copy, set_copy, copied_copied, copied_shown}
-use Rattle.exec_run.proofs.Regions.{Rise, end_of, bounds, some_item, item_at, inside}
+use Rattle.exec_run.proofs.Regions.{Rise, end_of, bounds, item_at, inside}
 
 -- range k and its place
 pub region_at : (ss : List Segment) (places : List (Option ℕ)) (k : ℕ) (s : Segment) → slice_get ss k ≡ Some s → slice_get (regions ss places) k ≡ Some (region_of s (get_or places k None))
@@ -162,4 +163,4 @@ extent_is (u ∷ ss) s t segments first there =
 pub extent_none : (ss : List Segment) → slice_get ss (length ss - 1) ≡ None → all_uncopied (regions ss []) ≤ 0
 unfolding all_uncopied
 extent_none [] none = omega arith
-extent_none (s ∷ ss) none = absurd (let e : None ≡ Some (some_item (s ∷ ss) (length (s ∷ ss) - 1) (omega arith)).0 = sym none ∙ (some_item (s ∷ ss) (length (s ∷ ss) - 1) (omega arith)).1 in cc)
+extent_none (s ∷ ss) none = absurd (let e : None ≡ Some (some_below (s ∷ ss) (length (s ∷ ss) - 1) (omega arith)).0 = sym none ∙ (some_below (s ∷ ss) (length (s ∷ ss) - 1) (omega arith)).1 in cc)

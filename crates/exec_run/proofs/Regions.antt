@@ -3,6 +3,7 @@ use Rattle.std.proofs.Common.{◌≡◌, ◌↔◌, ◌⊎◌, ⊎_elim, inl, in
 use Rattle.std.specs.Prelude.{slice_get, nat_lt, option_map}
 use Rattle.std.proofs.Math.Dec.{leb}
 use Rattle.std.proofs.lemmas.Bool.Decides.{leb_tells}
+use Rattle.list_laws.proofs.Lists.{some_below}
 use Rattle.code_memory.specs.Apart.{AreApart}
 use Rattle.code_memory.specs.Mapped.{byte_at, AreSegments}
 use Rattle.code_memory.specs.declared.image.Segment.{Segment}
@@ -192,12 +193,6 @@ base_of o s b is read = let e : Some s.base ≡ Some b = sym (ap (option_map (λ
 pub bytes_of_range : (o : Option Segment) (s : Segment) (bytes : List ℕ) → o ≡ Some s → option_map (λ (s : Segment). s.bytes) o ≡ Some bytes → s.bytes ≡ bytes
 bytes_of_range o s bytes is read = let e : Some s.bytes ≡ Some bytes = sym (ap (option_map (λ (s : Segment). s.bytes)) is) ∙ read in cc
 
--- a number below the length names an item
-pub some_item : {X : Type 0} (xs : List X) (k : ℕ) → k < length xs → (x : X) × (slice_get xs k ≡ Some x)
-some_item [] k less = absurd (omega arith)
-some_item (x ∷ xs) zero less = (x, refl)
-some_item (x ∷ xs) (suc k) less = some_item xs k (omega arith)
-
 -- an item that was read is the one at its number
 pub item_at : {X : Type 0} (xs : List X) (k : ℕ) (x : X) → k < length xs → x ≡ get_or xs k x → slice_get xs k ≡ Some x
 item_at xs k x less is = read xs k x less ∙ ap Some (sym is)
@@ -210,7 +205,7 @@ item_at xs k x less is = read xs k x less ∙ ap Some (sym is)
 -- a range that has the address, by what was read of it
 pub is_in : (ss : List Segment) (k at base : ℕ) (bytes : List ℕ) → k < length ss → option_map (λ (s : Segment). s.base) (slice_get ss k) ≡ Some base → option_map (λ (s : Segment). s.bytes) (slice_get ss k) ≡ Some bytes → base ≤ at → at - base < length bytes → IsIn ss k at
 is_in ss k at base bytes less b bs low high =
-    let s = some_item ss k less in
+    let s = some_below ss k less in
     let p : s.0.base ≡ base = base_of (slice_get ss k) s.0 base s.1 b in
     let q : length s.0.bytes ≡ length bytes = ap length (bytes_of_range (slice_get ss k) s.0 bytes s.1 bs) in
     record { segment = s.0; there = s.1; low = omega arith; high = omega arith }

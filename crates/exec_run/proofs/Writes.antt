@@ -3,17 +3,15 @@ use Rattle.std.proofs.Common.{◌≡◌, ◌≢◌, ◌⊎◌, ⊎_elim, inl, in
 use Rattle.std.specs.Prelude.{slice_get, nat_lt, ◌==◌}
 use Rattle.std.proofs.Math.Dec.{leb}
 use Rattle.std.proofs.lemmas.Bool.Decides.{leb_tells, eqb_tells}
+use Rattle.std.proofs.Math.Path.{fun_ext}
+use Rattle.std.proofs.lemmas.Option.{slice_get_within}
+use Rattle.list_laws.proofs.Lists.{set_there, set_elsewhere}
 use Rattle.rv_hart.specs.Map.{stored, with_byte}
 use Rattle.code_memory.specs.Mapped.{byte_at}
 use Rattle.code_memory.specs.declared.image.Segment.{Segment}
 use Rattle.exec_run.specs.declared.host.TheConstants.{STACK_END}
 use Rattle.exec_run.specs.Regions.{AreRegions, IsPut, IsSet, with_number}
 use Rattle.exec_run.proofs.Regions.{Rise, end_of, in_range, before_first, after_first}
-
-set_there : (ss : List Segment) (k : ℕ) (s t : Segment) → slice_get ss k ≡ Some s → slice_get (set ss k t) k ≡ Some t
-set_there [] k s t there = absurd cc
-set_there (u ∷ ss) zero s t there = refl
-set_there (u ∷ ss) (suc k) s t there = set_there ss k s t there
 
 pub set_itself : (ss : List Segment) (k : ℕ) (s : Segment) → slice_get ss k ≡ Some s → set ss k s ≡ ss
 set_itself [] k s there = refl
@@ -54,18 +52,6 @@ elsewhere (u ∷ ss) zero s t a there base long out =
 elsewhere (u ∷ ss) (suc k) s t a there base long out =
     ap (λ b. cond (nat_lt a u.base) b (cond (nat_lt a (end_of u)) (slice_get u.bytes (a - u.base)) b)) (elsewhere ss k s t a there base long out)
 
-pub get-set_same : {X : Type 0} (bytes : List X) (place : ℕ) (b : X) → place < length bytes → slice_get (set bytes place b) place ≡ Some b
-get-set_same [] place b less = absurd (omega arith)
-get-set_same (x ∷ bytes) zero b less = refl
-get-set_same (x ∷ bytes) (suc place) b less = get-set_same bytes place b (omega arith)
-
-get-set_other : (bytes : List ℕ) (place i b : ℕ) → i ≢ place → slice_get (set bytes place b) i ≡ slice_get bytes i
-get-set_other [] place i b apart = refl
-get-set_other (x ∷ bytes) zero zero b apart = absurd (apart refl)
-get-set_other (x ∷ bytes) zero (suc i) b apart = refl
-get-set_other (x ∷ bytes) (suc place) zero b apart = refl
-get-set_other (x ∷ bytes) (suc place) (suc i) b apart = get-set_other bytes place i b (λ e. apart (ap suc e))
-
 -- a range with one byte written
 abbrev pub with_one : Segment → ℕ → ℕ → Segment
 with_one s place b = record s { bytes = set s.bytes place b }
@@ -74,9 +60,9 @@ byte_there : (ss : List Segment) (k : ℕ) (s : Segment) (place b : ℕ) → Are
 byte_there ss k s place b rise there less =
     let t = with_one s place b in
     let long : length t.bytes ≡ length s.bytes = length-set s.bytes place b in
-    in_range 0 (set ss k t) STACK_END k t (s.base + place) (rise_set 0 ss STACK_END k s t rise there refl long) (set_there ss k s t there) (omega arith) (omega (arith, long))
+    in_range 0 (set ss k t) STACK_END k t (s.base + place) (rise_set 0 ss STACK_END k s t rise there refl long) (set_there ss k t (slice_get_within ss k s there)) (omega arith) (omega (arith, long))
     ∙ ap (slice_get t.bytes) (let e : s.base + place - s.base ≡ place = omega arith in e)
-    ∙ get-set_same s.bytes place b less
+    ∙ set_there s.bytes place b less
 
 byte_other : (ss : List Segment) (k : ℕ) (s : Segment) (place b a : ℕ) → AreRegions ss → slice_get ss k ≡ Some s → place < length s.bytes → a ≢ s.base + place → byte_at (set ss k (with_one s place b)) a ≡ byte_at ss a
 byte_other ss k s place b a rise there less apart =
@@ -86,21 +72,18 @@ byte_other ss k s place b a rise there less apart =
     ⊎_elim (λ (f : (leb (suc a) (end_of s) ≡ true) × (suc a ≤ end_of s)).
     let from : s.base ≤ a = e.1 in
     let below : a < end_of s = omega (arith, f.1) in
-    in_range 0 (set ss k t) STACK_END k t a (rise_set 0 ss STACK_END k s t rise there refl long) (set_there ss k s t there) from (omega (arith, long))
-    ∙ get-set_other s.bytes place (a - s.base) b (λ g. apart (omega arith))
+    in_range 0 (set ss k t) STACK_END k t a (rise_set 0 ss STACK_END k s t rise there refl long) (set_there ss k t (slice_get_within ss k s there)) from (omega (arith, long))
+    ∙ set_elsewhere s.bytes place (a - s.base) b (λ g. apart (omega arith))
     ∙ sym (in_range 0 ss STACK_END k s a rise there from below))
     (λ (f : (leb (suc a) (end_of s) ≡ false) × (end_of s < suc a)). elsewhere ss k s t a there refl long (inr (omega (arith, f.1))))
     (leb_tells (suc a) (end_of s)))
     (λ (e : (leb s.base a ≡ false) × (a < s.base)). elsewhere ss k s t a there refl long (inl e.1))
     (leb_tells s.base a)
 
-funext : {A : Type 0} (f g : ℕ → A) → ((a : ℕ) → f a ≡ g a) → f ≡ g
-funext f g h = λ i a. h a i
-
 -- the map with that byte
 pub one_byte : (ss : List Segment) (k : ℕ) (s : Segment) (place b : ℕ) → AreRegions ss → slice_get ss k ≡ Some s → place < length s.bytes → byte_at (set ss k (with_one s place b)) ≡ with_byte (byte_at ss) (s.base + place) b
 one_byte ss k s place b rise there less =
-    funext (byte_at (set ss k (with_one s place b))) (with_byte (byte_at ss) (s.base + place) b) (λ a.
+    fun_ext (λ a.
     ⊎_elim (λ (e : ((a == s.base + place) ≡ true) × (a ≡ s.base + place)).
     ap (byte_at (set ss k (with_one s place b))) e.1 ∙ byte_there ss k s place b rise there less ∙ sym (ap (λ t. cond t (Some b) (byte_at ss a)) e.0))
     (λ (e : ((a == s.base + place) ≡ false) × (a ≢ s.base + place)).
@@ -122,7 +105,7 @@ several_bytes ss k s place (suc width) value rise there within =
     let t = with_one s place b in
     let long : length t.bytes ≡ length s.bytes = length-set s.bytes place b in
     ap byte_at (sym (set_again ss k t (with_several t (place + 1) width (value / 2 ^ 8))))
-    ∙ several_bytes (set ss k t) k t (place + 1) width (value / 2 ^ 8) (rise_one ss k s place b rise there) (set_there ss k s t there) (omega (arith, long))
+    ∙ several_bytes (set ss k t) k t (place + 1) width (value / 2 ^ 8) (rise_one ss k s place b rise there) (set_there ss k t (slice_get_within ss k s there)) (omega (arith, long))
     ∙ ap (λ m. stored m (s.base + (place + 1)) width (value / 2 ^ 8)) (one_byte ss k s place b rise there (omega arith))
     ∙ ap (λ a. stored (with_byte (byte_at ss) (s.base + place) b) a width (value / 2 ^ 8)) (let e : s.base + (place + 1) ≡ s.base + place + 1 = omega arith in e)
 

@@ -1,7 +1,7 @@
-ghost use Rattle.std.specs.Prelude.{◌<◌, ◌≤◌, length};
+ghost use Rattle.std.specs.Prelude.{◌<◌, length};
 
 use code_memory::{Image, Space};
-use exec_run::{Ran, RunEnd, run};
+use exec_run::{RunEnd, run};
 use orc_ids::{Bytes, Shape, UnitId};
 use std::alloc::{AllocError, Global};
 use std::test::Fail;
@@ -132,6 +132,74 @@ const WRITING: [u8; 62] = [
     0x13, 0x06, 0x40, 0x00, 0x73, 0x00, 0x00, 0x00, 0x67, 0x80, 0x00, 0x00, 0x68, 0x69,
 ];
 
+/// `addi a7, zero, 93` and `ecall`: exits with the value of `a0`.
+const EXIT: [u8; 8] = [0x93, 0x08, 0xd0, 0x05, 0x73, 0x00, 0x00, 0x00];
+
+/// How a run ends.
+#[derive(Clone, Copy)]
+enum Ends {
+    /// With this exit code.
+    Exited(u64),
+    /// In a trap at this address.
+    Traps(u64),
+    /// For want of fuel.
+    OutOfFuel,
+}
+
+fn ends_so(end: RunEnd, expected: Ends) -> bool {
+    match (end, expected) {
+        (RunEnd::Exited(code), Ends::Exited(other)) => code == other,
+        (RunEnd::Trap(pc, _), Ends::Traps(other)) => pc == other,
+        (RunEnd::OutOfFuel, Ends::OutOfFuel) => true,
+        _ => false,
+    }
+}
+
+/// A run of an image from the first address of code memory, and what comes of it.
+#[derive(Clone, Copy)]
+struct Row<'a> {
+    args: &'a [u64],
+    fuel: u64,
+    end: Ends,
+    output: &'a [u8],
+}
+
+impl<'a> Row<'a> {
+    /// A run of fifty instructions at most that writes nothing and exits with this code.
+    fn exits(args: &'a [u64], code: u64) -> Row<'a> {
+        Row {
+            args,
+            fuel: 50,
+            end: Ends::Exited(code),
+            output: b"",
+        }
+    }
+}
+
+/// Whether a run of the image goes as the row says.
+fn goes_so(alloc: Global, image: &Image, row: Row<'_>) -> Result<bool, AllocError> {
+    if row.args.len() > 8 {
+        return Ok(false);
+    }
+    let ran = run(alloc, image, 0x1000_0000, row.args, row.fuel)?;
+    Ok(ends_so(ran.end, row.end) && ran.output.as_slice() == row.output)
+}
+
+/// The number of the first row that runs of one image, one after the other, don't go by, from 0 on.
+fn first_other(
+    alloc: Global,
+    image: &Image,
+    rows: &[Row<'_>],
+) -> Result<Option<usize>, AllocError> {
+    for (at, row) in rows.iter().enumerate() {
+        if !goes_so(alloc, image, *row)? {
+            return Ok(Some(at));
+        }
+    }
+    Ok(None)
+}
+
+/// The image of one range with this code.
 fn image_of(alloc: Global, code: &[u8]) -> Result<Image, AllocError>
     requires { 0 < length code.now }
 {
@@ -146,121 +214,180 @@ fn image_of(alloc: Global, code: &[u8]) -> Result<Image, AllocError>
     space.image()
 }
 
-fn hello(alloc: Global, fuel: u64) -> Result<Ran, AllocError> {
-    run(alloc, &image_of(alloc, &HELLO)?, 0x1000_0000, &[], fuel)
+/// The number of the first row that runs of this code don't go by; there is some code.
+fn play(alloc: Global, code: &[u8], rows: &[Row<'_>]) -> Result<Option<usize>, AllocError> {
+    if code.is_empty() {
+        return Ok(Some(0));
+    }
+    let image = image_of(alloc, code)?;
+    first_other(alloc, &image, rows)
 }
 
 #[test]
-fn hello_is_written_with_nine_instructions(rt: HostRuntime) {
-    let ran = hello(rt.alloc(), 9).expect(&rt, "memory");
-    assert!(rt; ran.end == RunEnd::Exited(0));
-    assert!(rt; ran.output.as_slice() == b"hello\n".as_slice());
+fn hello_is_written_with_nine_instructions(rt: HostRuntime) -> Result<(), Fail> {
+    let row = Row {
+        args: &[],
+        fuel: 9,
+        end: Ends::Exited(0),
+        output: b"hello\n",
+    };
+    assert_eq!(rt; play(rt.alloc(), &HELLO, &[row])?, None);
+    Ok(())
 }
 
 #[test]
-fn hello_is_out_of_fuel_with_eight(rt: HostRuntime) {
-    let ran = hello(rt.alloc(), 8).expect(&rt, "memory");
-    assert!(rt; ran.end == RunEnd::OutOfFuel);
-    assert!(rt; ran.output.as_slice() == b"hello\n".as_slice());
+fn hello_is_out_of_fuel_with_eight(rt: HostRuntime) -> Result<(), Fail> {
+    let row = Row {
+        args: &[],
+        fuel: 8,
+        end: Ends::OutOfFuel,
+        output: b"hello\n",
+    };
+    assert_eq!(rt; play(rt.alloc(), &HELLO, &[row])?, None);
+    Ok(())
 }
 
-/// `addi a7, zero, 93` and `ecall`: exits with the value of `a0`.
-const EXIT: [u8; 8] = [0x93, 0x08, 0xd0, 0x05, 0x73, 0x00, 0x00, 0x00];
+/// A run of two instructions with these arguments, which exits with this code.
+fn exits_in_two(args: &[u64], code: u64) -> Row<'_> {
+    Row {
+        args,
+        fuel: 2,
+        end: Ends::Exited(code),
+        output: b"",
+    }
+}
 
-/// How a run of these instructions with these arguments ends.
-fn end_of(alloc: Global, args: &[u64], fuel: u64) -> Result<RunEnd, AllocError>
-    requires { length args.now ≤ 8 }
-{
-    let ran = run(alloc, &image_of(alloc, &EXIT)?, 0x1000_0000, args, fuel)?;
-    Ok(ran.end)
+/// A run with these arguments and too little fuel.
+fn runs_dry(args: &[u64], fuel: u64) -> Row<'_> {
+    Row {
+        args,
+        fuel,
+        end: Ends::OutOfFuel,
+        output: b"",
+    }
 }
 
 #[test]
 fn memory_is_enough_for_each_number_of_arguments(rt: HostRuntime) -> Result<(), Fail> {
-    let alloc = rt.alloc();
-    assert_eq!(rt; end_of(alloc, &[], 2)?, RunEnd::Exited(0));
-    assert_eq!(rt; end_of(alloc, &[7], 2)?, RunEnd::Exited(7));
-    assert_eq!(rt; end_of(alloc, &[7, 1], 2)?, RunEnd::Exited(7));
-    assert_eq!(rt;
-        end_of(alloc, &[7, 1, 2, 3, 4, 5, 6, 8], 2)?,
-        RunEnd::Exited(7)
-    );
-    assert_eq!(rt; end_of(alloc, &[], 0)?, RunEnd::OutOfFuel);
-    assert_eq!(rt; end_of(alloc, &[7], 1)?, RunEnd::OutOfFuel);
+    let rows = [
+        exits_in_two(&[], 0),
+        exits_in_two(&[7], 7),
+        exits_in_two(&[7, 1], 7),
+        exits_in_two(&[7, 1, 2, 3, 4, 5, 6, 8], 7),
+        runs_dry(&[], 0),
+        runs_dry(&[7], 1),
+    ];
+    assert_eq!(rt; play(rt.alloc(), &EXIT, &rows)?, None);
     Ok(())
+}
+
+/// Whether a run of the image that has no range goes as the row says.
+fn goes_so_without_image(alloc: Global, row: Row<'_>) -> Result<bool, AllocError> {
+    let image = Space::new(alloc).image()?;
+    goes_so(alloc, &image, row)
 }
 
 #[test]
 fn memory_is_enough_for_a_run_of_no_image(rt: HostRuntime) -> Result<(), Fail> {
-    let alloc = rt.alloc();
-    let image = Space::new(alloc).image()?;
-    let ran = run(alloc, &image, 0x1000_0000, &[], 1)?;
-    assert!(rt; matches!(ran.end, RunEnd::Trap(0x1000_0000, _)));
-    assert!(rt; ran.output.is_empty());
+    let row = Row {
+        args: &[],
+        fuel: 1,
+        end: Ends::Traps(0x1000_0000),
+        output: b"",
+    };
+    assert!(rt; goes_so_without_image(rt.alloc(), row)?);
     Ok(())
 }
 
-/// Runs the code of one range from its first instruction.
-fn ran(alloc: Global, code: &[u8], args: &[u64]) -> Result<Ran, AllocError>
-    requires some { 0 < length code.now }
-    requires few { length args.now ≤ 8 }
-{
-    run(alloc, &image_of(alloc, code)?, 0x1000_0000, args, 50)
+#[test]
+fn what_is_written_to_a_range_is_read_and_fetched(rt: HostRuntime) -> Result<(), Fail> {
+    let row = Row::exits(&[], 42);
+    assert_eq!(rt; play(rt.alloc(), &SELF_MODIFYING, &[row])?, None);
+    Ok(())
 }
 
 #[test]
-fn what_is_written_to_a_range_is_read_and_fetched(rt: HostRuntime) {
-    let ran = ran(rt.alloc(), &SELF_MODIFYING, &[]).expect(&rt, "memory");
-    assert!(rt; ran.end == RunEnd::Exited(42));
+fn a_second_run_sees_the_bytes_of_the_image(rt: HostRuntime) -> Result<(), Fail> {
+    let rows = [Row::exits(&[], 77), Row::exits(&[], 77)];
+    assert_eq!(rt; play(rt.alloc(), &OVERWRITING, &rows)?, None);
+    Ok(())
+}
+
+/// A range for code of 48 bytes.
+const CODE: Shape = Shape {
+    need: 48,
+    align: 16,
+};
+
+/// A range for sixteen bytes.
+const DATA: Shape = Shape {
+    need: 16,
+    align: 16,
+};
+
+/// The image of this code and of sixteen times a byte right behind it, if both get these places.
+fn image_of_two(alloc: Global, code: &[u8; 48], byte: u8) -> Result<Option<Image>, AllocError> {
+    let code = Bytes::copy_of(alloc, code)?;
+    let data = Bytes::copy_of(alloc, &[byte; 16])?;
+    let mut space = Space::new(alloc);
+    if !matches!(space.place(UnitId(0), CODE), Ok(0x1000_0000)) {
+        return Ok(None);
+    }
+    if !matches!(space.place(UnitId(1), DATA), Ok(0x1000_0030)) {
+        return Ok(None);
+    }
+    space.deposit(UnitId(0), code);
+    space.deposit(UnitId(1), data);
+    Ok(Some(space.image()?))
+}
+
+/// Whether a run of such an image goes as the row says.
+fn goes_so_over_two(
+    alloc: Global,
+    code: &[u8; 48],
+    byte: u8,
+    row: Row<'_>,
+) -> Result<bool, AllocError> {
+    match image_of_two(alloc, code, byte)? {
+        Some(image) => goes_so(alloc, &image, row),
+        None => Ok(false),
+    }
 }
 
 #[test]
-fn a_second_run_sees_the_bytes_of_the_image(rt: HostRuntime) {
-    let image = image_of(rt.alloc(), &OVERWRITING).expect(&rt, "memory");
-    let first = run(rt.alloc(), &image, 0x1000_0000, &[], 50).expect(&rt, "memory");
-    let second = run(rt.alloc(), &image, 0x1000_0000, &[], 50).expect(&rt, "memory");
-    assert!(rt; first.end == RunEnd::Exited(77));
-    assert!(rt; second.end == RunEnd::Exited(77));
+fn a_store_crosses_into_a_range_that_was_written(rt: HostRuntime) -> Result<(), Fail> {
+    let row = Row::exits(&[7, 0x1122_3344_5566_7788], 57);
+    assert!(rt; goes_so_over_two(rt.alloc(), &ACROSS, 50, row)?);
+    Ok(())
 }
 
 #[test]
-fn a_store_crosses_into_a_range_that_was_written(rt: HostRuntime) {
-    let mut space = Space::new(rt.alloc());
-    let code = Shape {
-        need: 48,
-        align: 16,
+fn the_stack_is_written_deep_after_its_top(rt: HostRuntime) -> Result<(), Fail> {
+    let row = Row::exits(&[5, 30], 35);
+    assert_eq!(rt; play(rt.alloc(), &DEEP, &[row])?, None);
+    Ok(())
+}
+
+#[test]
+fn the_unwritten_stack_is_zero_and_nothing_is_below_it(rt: HostRuntime) -> Result<(), Fail> {
+    let row = Row {
+        args: &[],
+        fuel: 50,
+        end: Ends::Traps(0x1000_0018),
+        output: b"",
     };
-    let data = Shape {
-        need: 16,
-        align: 16,
+    assert_eq!(rt; play(rt.alloc(), &UNWRITTEN, &[row])?, None);
+    Ok(())
+}
+
+#[test]
+fn bytes_of_the_image_and_of_the_stack_are_output(rt: HostRuntime) -> Result<(), Fail> {
+    let row = Row {
+        args: &[],
+        fuel: 50,
+        end: Ends::Exited(4),
+        output: b"hi\0\0!\0",
     };
-    assert!(rt; matches!(space.place(UnitId(0), code), Ok(0x1000_0000)));
-    assert!(rt; matches!(space.place(UnitId(1), data), Ok(0x1000_0030)));
-    let bytes = Bytes::copy_of(rt.alloc(), &ACROSS).expect(&rt, "memory");
-    space.deposit(UnitId(0), bytes);
-    let bytes = Bytes::copy_of(rt.alloc(), &[50; 16]).expect(&rt, "memory");
-    space.deposit(UnitId(1), bytes);
-    let image = space.image().expect(&rt, "memory");
-    let args = [7, 0x1122_3344_5566_7788];
-    let ran = run(rt.alloc(), &image, 0x1000_0000, &args, 50).expect(&rt, "memory");
-    assert!(rt; ran.end == RunEnd::Exited(57));
-}
-
-#[test]
-fn the_stack_is_written_deep_after_its_top(rt: HostRuntime) {
-    let ran = ran(rt.alloc(), &DEEP, &[5, 30]).expect(&rt, "memory");
-    assert!(rt; ran.end == RunEnd::Exited(35));
-}
-
-#[test]
-fn the_unwritten_stack_is_zero_and_nothing_is_below_it(rt: HostRuntime) {
-    let ran = ran(rt.alloc(), &UNWRITTEN, &[]).expect(&rt, "memory");
-    assert!(rt; matches!(ran.end, RunEnd::Trap(0x1000_0018, _)));
-}
-
-#[test]
-fn bytes_of_the_image_and_of_the_stack_are_output(rt: HostRuntime) {
-    let ran = ran(rt.alloc(), &WRITING, &[]).expect(&rt, "memory");
-    assert!(rt; ran.end == RunEnd::Exited(4));
-    assert!(rt; ran.output.as_slice() == b"hi\0\0!\0".as_slice());
+    assert_eq!(rt; play(rt.alloc(), &WRITING, &[row])?, None);
+    Ok(())
 }

@@ -20,18 +20,17 @@ use Rattle.session_model.specs.declared.entry.Reply.TheVariants as reply
 use Rattle.session_model.specs.declared.rows.Ending.{Ending}
 use Rattle.session_model.specs.declared.rows.Ending.TheVariants as ending
 use Rattle.session_model.specs.declared.rows.Query.{Query}
-use Rattle.session_laws.proofs.Elements.{element_below}
-use Rattle.session_laws.proofs.Ending.{open_has_no_end}
-use Rattle.closure_laws.proofs.LevelsStaying.{row_below}
+use Rattle.session_laws.proofs.Declared.{element_below, open_has_no_end}
+use Rattle.closure_laws.proofs.Declared.{row_below}
 use Rattle.query_book.specs.declared.ends.QueryEnd.{QueryEnd}
 use Rattle.query_book.specs.Ends.{collected_of, collected_end}
 use Rattle.session_parts.specs.declared.parts.Parts.{Parts}
 use Rattle.session_parts.specs.Ends.{AreEnds, IsKept}
 use Rattle.execution_session.specs.Collected.{end_reply, is_open}
-use Rattle.execution_session.specs.Performs.{state_of, Enters, IsStopped, HasOpen, Collects}
-use Rattle.execution_session.specs.Stands.{Stands}
-use Rattle.execution_session.specs.Steps.{IsStep}
-use Rattle.execution_session.proofs.Standing.{goes_by, entry}
+use Rattle.session_steps.specs.Performs.{state_of, Enters, IsStopped, HasOpen, Collects}
+use Rattle.session_steps.specs.Stands.{Stands}
+use Rattle.session_steps.specs.Steps.{IsStep}
+use Rattle.session_steps.proofs.Declared.{goes_by, entry}
 
 -- Open queries
 
@@ -99,7 +98,7 @@ pub collect_step : {U N : Type 0} (means : U → Meaning) (m : Plain) (s : ℕ) 
 collect_step means m s q p r at is settled = subst (λ w. IsStep means m s (event.Collect q) w p p) (sym is) (record {
   answered = λ jmax past leads ends. subst (λ n. AnswersCollect past n q.0 (end_reply q (collected_of (slice_get p.book.ends q.0)))) leads (collect_answers past q p.book.ends ends (ap is_open (sym is) ∙ settled));
   goes = goes_by means m s (event.Collect q) (end_reply q (collected_of (slice_get p.book.ends q.0))) change.Nothing p p quiet at.parts refl refl refl at.queries;
-  lawful = subst Rattle.execution_session.specs.Moved.HandsInLawful (sym quiet) tt;
+  lawful = subst Rattle.session_steps.specs.Moved.HandsInLawful (sym quiet) tt;
 })
   where
     quiet : change_of m s (event.Collect q) (end_reply q (collected_of (slice_get p.book.ends q.0))) ≡ change.Nothing

@@ -4,7 +4,6 @@ use Rattle.orc_ids.specs.declared.ids.SeatNo.{SeatNo}
 use Rattle.orc_ids.specs.declared.lookup.Stop.{Stop}
 use Rattle.orc_ids.specs.declared.lookup.Stop.TheVariants as stop
 use Rattle.session_model.specs.Meaning.{Meaning}
-use Rattle.session_model.specs.Plain.{Plain}
 use Rattle.session_model.specs.State.{plain_event, plain_history}
 use Rattle.session_model.specs.History.{places}
 use Rattle.session_model.specs.declared.entry.Entry.{Entry}
@@ -12,18 +11,13 @@ use Rattle.session_model.specs.declared.entry.Event.{Event}
 use Rattle.session_model.specs.declared.entry.Reply.{Reply}
 use Rattle.notifiers.specs.declared.notice.Notice.{Notice}
 use Rattle.notifiers.specs.declared.notice.Unheard.{Unheard}
-use Rattle.session_parts.specs.declared.parts.Parts.{Parts}
-use Rattle.execution_session.specs.declared.live.Live.{Live}
-use Rattle.execution_session.specs.Fires.{AreFires, FiresBy}
-use Rattle.execution_session.specs.Log.{Log}
-use Rattle.execution_session.specs.Performs.{state_of, lacks_places, Performs}
-use Rattle.execution_session.specs.Rest.{Rests}
-use Rattle.execution_session.specs.Steps.{IsStep, IsQuietStep, IsTellingStep}
-use Rattle.execution_session.proofs.Standing.{entry, did_step, stopped}
-
--- a refusal that leaves the session as it was
-pub quiet_telling : {U N : Type 0} (means : U → Meaning) (m : Plain) (s : ℕ) (e : Event Meaning) (r : Reply) (old new : Parts U N) → IsQuietStep means m s e r old new → IsTellingStep means m s e r old new
-quiet_telling means m s e r old new q = record { step = q.step; book = q.book }
+use Rattle.session_steps.specs.declared.live.Live.{Live}
+use Rattle.session_steps.specs.Fires.{AreFires, FiresBy}
+use Rattle.session_steps.specs.Log.{Log}
+use Rattle.session_steps.specs.Performs.{state_of, lacks_places, Performs}
+use Rattle.session_steps.specs.Rest.{Rests}
+use Rattle.session_steps.specs.Steps.{IsStep}
+use Rattle.session_steps.proofs.Declared.{entry, did_step, stopped}
 
 -- it was answered by an entry
 pub did_tell : {U N : Type 0} (means : U → Meaning) (jmax n : ℕ) (old new : Live U N) (view final : List (Entry U)) (s : SeatNo) (e : Event U) (r : Reply) (told : Result Reply Stop) → view ≡ old.journal.items → Rests means jmax old → new ≡ record old { parts = new.parts } → places (state_of means old.journal.items) s.0 (plain_event means e) ≡ n → lacks_places means jmax old.journal.items n ≡ false →

@@ -13,14 +13,14 @@ use Rattle.session_model.specs.declared.entry.Entry.{Entry}
 use Rattle.session_model.specs.declared.entry.Event.TheVariants as event
 use Rattle.session_model.specs.declared.entry.Reply.{Reply}
 use Rattle.session_model.specs.declared.entry.Why.{Why}
-use Rattle.session_laws.proofs.Placing.{holder_can_fail}
+use Rattle.session_laws.proofs.Declared.{holder_can_fail}
 use Rattle.session_parts.specs.declared.parts.Parts.{Parts}
-use Rattle.execution_session.specs.declared.live.Live.{Live}
-use Rattle.execution_session.specs.Gives.{MayFail, GivesUp}
-use Rattle.execution_session.specs.Moved.{CanEnter}
-use Rattle.execution_session.specs.Performs.{state_of, lacks_places, Performs}
-use Rattle.execution_session.specs.Rest.{Rests}
-use Rattle.execution_session.proofs.Standing.{entry, enters, free}
+use Rattle.session_steps.specs.declared.live.Live.{Live}
+use Rattle.session_steps.specs.Gives.{MayFail, GivesUp}
+use Rattle.session_steps.specs.Moved.{CanEnter}
+use Rattle.session_steps.specs.Performs.{state_of, lacks_places, Performs}
+use Rattle.session_steps.specs.Rest.{Rests}
+use Rattle.session_steps.proofs.Declared.{entry, enters, free}
 
 fail_enters : {U N : Type 0} (means : U → Meaning) (jmax n : ℕ) (old : Live U N) (p : Parts U N) (s : SeatNo) (u : UnitId) (why : Why) (r : Reply) → Rests means jmax old → places (state_of means old.journal.items) s.0 (event.Fail u why) ≡ n → lacks_places means jmax old.journal.items n ≡ false →
     MayFail jmax (plain_history means old.journal.items) (state_of means old.journal.items) s.0 u why → GivesUp means (state_of means old.journal.items) s.0 u why r old.parts p → CanEnter means jmax old.journal.items (vec_capacity old.journal) (entry s (event.Fail u why) r) p

@@ -9,13 +9,13 @@ use Rattle.session_model.specs.Meaning.{Meaning, Bindings}
 use Rattle.session_model.specs.Plain.{Plain, UnitRow, is_alias, own_rows, unit_shape}
 use Rattle.session_model.specs.Answer.{called, Right, can_emit, can_place, is_stage}
 use Rattle.session_model.specs.declared.rows.UnitPhase.TheVariants as stage
-use Rattle.session_laws.proofs.Elements.{same_element}
+use Rattle.session_laws.proofs.Declared.{same_element}
 use Rattle.session_replies.proofs.Turning.{right_unit}
-use Rattle.execution_session.specs.Finish.{IsFinish}
+use Rattle.session_steps.specs.Finish.{IsFinish}
 use Rattle.execution_session.specs.Holding.{IsFinished, own_shape}
-use Rattle.execution_session.specs.Taken.{IsUnitOf}
+use Rattle.session_steps.specs.Taken.{IsUnitOf}
 use Rattle.execution_session.specs.declared.holding.Finished.{Finished}
-use Rattle.execution_session.specs.declared.jobs.TakenUnit.{TakenUnit}
+use Rattle.session_steps.specs.declared.jobs.TakenUnit.{TakenUnit}
 
 some_or : {X : Type 0} (o : Option X) (d : X) → is_some o ≡ true → o ≡ Some (unwrap_or o d)
 some_or None d e = absurd (both_ways false refl e)

@@ -1,19 +1,17 @@
 -- Replies without a list of addresses: all but those of a collect and a take.
 use Rattle.std.proofs.Common.{◌≡◌, ℕ, ◌+◌, true, false, not, ◌||◌, ◌==◌, List, [], ◌∷◌, length, slice_get, subst, sym, refl, Option, Some, None, option_map}
-use Rattle.std.specs.Bool.{⊤, if◌then◌else◌}
+use Rattle.std.specs.Bool.{if◌then◌else◌}
 use Rattle.std.specs.Option.{option_map_or}
 use Rattle.orc_ids.specs.declared.ids.InstId.{InstId}
-use Rattle.session_model.specs.Plain.{Plain, UnitRow, GenRow, is_defunct, failed_at}
+use Rattle.session_model.specs.Plain.{Plain, UnitRow, GenRow, failed_at}
 use Rattle.session_model.specs.declared.entry.Reply.TheVariants as reply
-use Rattle.std.specs.List.{AllByRecursion}
 use Rattle.session_model.specs.Lists.{first_some, only_if, or_else}
 use Rattle.session_model.specs.Answer.{bad_dep, refused_lookup, lodged_reply, alias_cycle, answer_link, can_resolve, can_link, can_emit}
 use Rattle.orc_ids.specs.declared.place.Shape.{Shape}
 use Rattle.orc_ids.specs.declared.lookup.Level.TheVariants as level
 use Rattle.orc_ids.specs.declared.limits.TheConstants.{DYLIB_LIMIT, TRACKER_LIMIT, UNIT_LIMIT, GENERATOR_LIMIT, INSTANCE_LIMIT}
-use Rattle.session_model.specs.Plain.{unit_shape, own_rows}
 use Rattle.orc_ids.specs.declared.groups.Group.{Group}
-use Rattle.session_laws.proofs.Settling.{chosen}
+use Rattle.session_laws.proofs.Declared.{chosen, AllReplies, replies_map, replies_only, replies_first, replies_or, replies_else, refusals_other, cycles_other}
 use Rattle.orc_ids.specs.declared.ids.NameId.{NameId}
 use Rattle.orc_ids.specs.declared.flags.SymFlags.{SymFlags}
 use Rattle.orc_ids.specs.declared.lookup.OrderItem.{OrderItem}
@@ -37,8 +35,8 @@ use Rattle.session_model.specs.declared.rows.Verdict.TheVariants.{Kept, Replaces
 use Rattle.session_model.specs.Answer.{AnswersPlace, AnswersCall, AnswersEmit, Answers, called, Called, Gone, Wrong, Right, can_place}
 use Rattle.session_model.specs.declared.entry.Event.{Event}
 use Rattle.session_model.specs.declared.entry.Event.TheVariants as event
-use Rattle.session_laws.proofs.Replies.{AllReplies, replies_map, replies_only, replies_first, replies_or, replies_else, refusals_other, cycles_other}
-use Rattle.execution_session.specs.Steps.{has_list, lists}
+use Rattle.same_replies.specs.Lists.{has_list}
+use Rattle.session_steps.specs.Steps.{lists}
 
 abbrev Listless : Reply → Type 0
 Listless r = has_list r ≡ false

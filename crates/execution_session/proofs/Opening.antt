@@ -10,7 +10,7 @@ use Rattle.query_book.proofs.Current.{nobody_current}
 use Rattle.session_parts.specs.declared.parts.Parts.{Parts}
 use Rattle.session_parts.specs.Ends.{AreEnds}
 use Rattle.session_parts.specs.Parts.{AreParts}
-use Rattle.execution_session.specs.Rest.{IsAtRest}
+use Rattle.session_steps.specs.Rest.{IsAtRest}
 
 pub opens : {U N : Type 0} (means : U → Meaning) (jmax : ℕ) (p : Parts U N) (capacity : ℕ) → jmax ≤ ENTRY_LIMIT → jmax ≤ capacity → AreParts means p empty → p.book ≡ nobody → p.graph.changed ≡ [] → IsAtRest means jmax p [] capacity
 opens {U} {N} means jmax p capacity limit room parts book told = record {

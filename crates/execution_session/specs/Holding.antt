@@ -8,7 +8,7 @@ use Rattle.orc_ids.specs.declared.place.Shape.{Shape}
 use Rattle.session_model.specs.Meaning.{Meaning, Bindings}
 use Rattle.session_model.specs.Plain.{Plain, UnitRow, own_rows}
 use Rattle.execution_session.specs.declared.holding.Finished.{Finished}
-use Rattle.execution_session.specs.declared.jobs.TakenUnit.{TakenUnit}
+use Rattle.session_steps.specs.declared.jobs.TakenUnit.{TakenUnit}
 
 -- the groups and the bytes of the unit, no edge of which is out of range
 pub record IsFinished (u : Meaning) (live : List Bool) (base : ℕ) (bound : Bindings) (own : List InstId) (made : Finished) : Type 0 where

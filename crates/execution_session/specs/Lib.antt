@@ -1,17 +1,2 @@
-pub mod Log
-pub mod Performs
-pub mod Fires
-pub mod Rest
-pub mod Stands
-pub mod Moved
-pub mod Steps
-pub mod Away
-pub mod Given
-pub mod Taken
-pub mod Finish
-pub mod Gives
-pub mod Handed
-pub mod Lookups
 pub mod Collected
 pub mod Holding
-pub mod Generated

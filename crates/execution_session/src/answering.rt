@@ -3,18 +3,18 @@
 ghost use Rattle.std.specs.Prelude.{◌≡◌, ◌∷◌, ◌++◌, [], false, Ok, Err};
 ghost use Rattle.std.specs.Vec.{vec_capacity};
 ghost use Rattle.session_model.specs.State.{plain_event, plain_history};
-ghost use Rattle.execution_session.specs.Rest.{Rests};
-ghost use Rattle.execution_session.specs.Moved.{CanEnter};
-ghost use Rattle.execution_session.specs.Fires.{AreFires};
-ghost use Rattle.execution_session.specs.Steps.{lists};
+ghost use Rattle.session_steps.specs.Rest.{Rests};
+ghost use Rattle.session_steps.specs.Moved.{CanEnter};
+ghost use Rattle.session_steps.specs.Fires.{AreFires};
+ghost use Rattle.session_steps.specs.Steps.{lists};
 
 use crate::entering::enter_stirring;
-use crate::live::Live;
 use crate::session::Told;
 use notifiers::Fires;
 use orc_ids::{SeatNo, Stop};
 use orc_io::Notify;
 use session_model::{Event, Reply, UnitKind};
+use session_steps::Live;
 
 /// The event was stopped, and tells nobody.
 pub(crate) fn stopped<N: Notify>(stop: Stop) -> Told<N>

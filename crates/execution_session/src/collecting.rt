@@ -3,17 +3,17 @@
 ghost use Rattle.std.specs.Prelude.{◌≡◌, ◌≢◌, None, Some, false, slice_get, IfOk, OnErr};
 ghost use Rattle.query_book.specs.Ends.{collected_of};
 ghost use Rattle.execution_session.specs.Collected.{end_reply, is_open};
-ghost use Rattle.execution_session.specs.Performs.{Collects};
-ghost use Rattle.execution_session.specs.Rest.{Rests};
+ghost use Rattle.session_steps.specs.Performs.{Collects};
+ghost use Rattle.session_steps.specs.Rest.{Rests};
 
 use crate::entering::enter_silently;
-use crate::live::Live;
 use crate::places::check_places;
 use crate::session::Session;
 use orc_ids::{QueryId, SeatNo, Stop};
 use orc_io::Notify;
 use query_book::{Book, Collected};
 use session_model::{Entry, Event, Reply, UnitKind};
+use session_steps::Live;
 use std::alloc::AllocError;
 
 /// What is known of a query's end, as a reply.

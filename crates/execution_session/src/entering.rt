@@ -1,32 +1,25 @@
 //! An entry: it is written into its place, and what it settles settles.
 
-ghost use Rattle.std.specs.Prelude.{◌≡◌, ◌≤◌, ◌<◌, ◌∷◌, ◌++◌, [], length, false};
-ghost use Rattle.std.specs.Vec.{vec_len, vec_capacity};
+ghost use Rattle.std.specs.Prelude.{◌≡◌, ◌∷◌, ◌++◌, [], false};
+ghost use Rattle.std.specs.Vec.{vec_capacity};
 ghost use Rattle.session_model.specs.Plain.{Plain};
 ghost use Rattle.session_model.specs.State.{plain_event, plain_history};
 ghost use Rattle.session_model.specs.Change.{change_of};
 ghost use Rattle.closure_laws.specs.Quiet.{stirs};
-ghost use Rattle.execution_session.specs.Performs.{state_of};
-ghost use Rattle.execution_session.specs.Rest.{IsAtRest, Rests};
-ghost use Rattle.execution_session.specs.Moved.{next, CanEnter};
-ghost use Rattle.execution_session.specs.Fires.{AreFires};
-ghost use Rattle.execution_session.specs.Steps.{lists};
+ghost use Rattle.session_steps.specs.Performs.{state_of};
+ghost use Rattle.session_steps.specs.Rest.{IsAtRest, Rests};
+ghost use Rattle.session_steps.specs.Moved.{next, CanEnter};
+ghost use Rattle.session_steps.specs.Fires.{AreFires};
+ghost use Rattle.session_steps.specs.Steps.{lists};
 
-use crate::live::Live;
-use crate::replies::copy_reply;
 use notifiers::Fires;
 use orc_ids::SeatNo;
 use orc_io::Notify;
+use same_replies::copy_reply;
 use session_model::{Entry, Event, Reply, UnitKind};
 use session_parts::Parts;
+use session_steps::{Live, entry_count};
 use std::mem::replace;
-
-/// How many entries there are.
-pub(crate) fn count<T>(journal: &[T]) -> u64
-    ensures { result ≡ length journal.now }
-{
-    journal.len() as u64
-}
 
 /// The entry is written into its place, and the queries that are met now end. Takes no memory.
 pub(crate) fn enter<U: UnitKind, N: Notify, const JMAX: usize>(
@@ -42,7 +35,7 @@ pub(crate) fn enter<U: UnitKind, N: Notify, const JMAX: usize>(
     ensures fires { AreFires (plain_history U.meaning journal.new.items) parts.old.book.armed parts.new.book.armed result }
 {
     journal.push_reserved(entry);
-    let at = count(journal);
+    let at = entry_count(journal);
     parts.settle(at)
 }
 

@@ -3,18 +3,18 @@
 ghost use Rattle.std.specs.Prelude.{◌≡◌, length, slice_get, Some, IfOk, IfSome, IfNone, unwrap_or};
 ghost use Rattle.session_model.specs.Plain.{UnitRow};
 ghost use Rattle.session_model.specs.declared.entry.Event.TheVariants as event;
-ghost use Rattle.execution_session.specs.Fires.{FiresBy};
-ghost use Rattle.execution_session.specs.Handed.{IsLowest};
+ghost use Rattle.session_steps.specs.Fires.{FiresBy};
+ghost use Rattle.session_steps.specs.Handed.{IsLowest};
 ghost use Rattle.execution_session.specs.Holding.{IsFinished, IsRefused, own_groups, own_shape};
-ghost use Rattle.execution_session.specs.Performs.{state_of, Performs};
-ghost use Rattle.execution_session.specs.Taken.{IsUnitOf};
+ghost use Rattle.session_steps.specs.Performs.{state_of, Performs};
+ghost use Rattle.session_steps.specs.Taken.{IsUnitOf};
 
 use crate::answering::stopped;
-use crate::jobs::TakenUnit;
 use crate::session::{Session, Told};
 use orc_ids::{Bytes, Groups, InstId, SeatNo, Shape, Stop, UnitId};
 use orc_io::Notify;
 use session_model::{Matches, Reply, UnitKind};
+use session_steps::TakenUnit;
 use std::alloc::{AllocError, Global};
 
 /// What an emission hands in.

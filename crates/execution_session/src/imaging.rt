@@ -1,23 +1,17 @@
 //! Copies of the memory.
 
-ghost use Rattle.std.specs.Prelude.{◌≡◌, ℕ, Ok, Err, Some, None, IfOk};
-ghost use Rattle.session_model.specs.Plain.{Plain};
+ghost use Rattle.std.specs.Prelude.{◌≡◌, Err, None};
 ghost use Rattle.session_model.specs.declared.entry.Event.TheVariants as event;
-ghost use Rattle.session_model.specs.declared.entry.Reply.TheVariants as reply;
-ghost use Rattle.execution_session.specs.Performs.{Performs};
-ghost use Rattle.execution_session.specs.Handed.{IsMemory, IsCopied};
-ghost use Rattle.execution_session.specs.Stands.{Stands};
-ghost use Rattle.execution_session.specs.Steps.{IsQuietStep};
+ghost use Rattle.session_steps.specs.Performs.{Performs};
+ghost use Rattle.session_steps.specs.Handed.{IsCopied};
 
 use crate::entering::enter_quietly;
-use crate::live::Live;
 use crate::places::check_places;
 use crate::session::Session;
 use code_memory::Image;
 use orc_ids::{SeatNo, Stop};
 use orc_io::Notify;
 use session_model::{Event, Reply, UnitKind};
-use std::alloc::AllocError;
 
 /// The answer of an image, and with the reply Image the copy.
 #[derive(Drop)]
@@ -36,19 +30,6 @@ impl Imaged {
             answer: Err(stop),
             image: None,
         }
-    }
-}
-
-impl<U: UnitKind, N: Notify> Live<U, N> {
-    /// A copy of the memory, which changes nothing.
-    fn copy_memory(&mut self) -> Result<Image, AllocError>
-        ghost m: { Plain }
-        requires stands { Stands U.meaning m self.old.parts }
-        ensures step { (s : ℕ) → IsQuietStep U.meaning m s event.Image reply.Image self.old.parts self.old.parts }
-        ensures same { self.new ≡ self.old }
-        ensures copy { IfOk result (IsMemory m) }
-    {
-        self.parts.space.image()
     }
 }
 

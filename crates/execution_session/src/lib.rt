@@ -2,15 +2,15 @@
 //! `ExecutionSession`).
 //!
 //! Contracts see a session as a `Log`: the entries of its journal, and which query has a notifier. All else
-//! about it follows from the journal by the definitions of `session_model`. Each event ensures `Performs`
-//! (`specs/Performs`): the reply is a right one after the journal so far and the journal has gained just that
-//! entry, or nothing has changed; and, where it may settle queries, `AreFires` (`specs/Fires`): just the
-//! queries that settle at this entry are told their ends, in rising number.
+//! about it follows from the journal by the definitions of `session_model`. Each event ensures `Performs`:
+//! the reply is a right one after the journal so far and the journal has gained just that entry, or nothing
+//! has changed; and, where it may settle queries, `AreFires`: just the queries that settle at this entry are
+//! told their ends, in rising number. `session_steps` defines both, and what a session is from one call to
+//! the next (`Rests`).
 //!
-//! An event is a step of `Live`, the parts and the journal, which decides the reply and makes its change
-//! (`specs/Steps`), and a method of `Session`, which looks for a place in the journal, steps and enters. `enter`
-//! is one for all events (`entering`): it writes the entry and settles. `specs/Rest` says what a session is
-//! from one call to the next. Read `session_parts` first, for the changes.
+//! An event is a method of `Session`, which looks for a place in the journal, takes the event's step
+//! (`session_steps`), and enters it. `enter` is one for all events (`entering`): it writes the entry and
+//! settles.
 #![tactic(auto)]
 
 mod answering;
@@ -26,19 +26,17 @@ mod imaging;
 mod jobs;
 mod lifetime;
 mod linking;
-mod live;
 mod lookups;
 mod places;
 mod placing;
 mod removal;
-mod replies;
 mod resolving;
 mod session;
 mod sharing;
 mod trackers;
-mod turning;
 
 pub use holding::{Finished, Finishes, NOTHING, emit_taken, place_taken};
 pub use imaging::Imaged;
-pub use jobs::{Flags, Taken, TakenUnit};
-pub use session::{Asked, JOURNAL_LIMIT, Offered, Session, Told};
+pub use jobs::Taken;
+pub use session::{Asked, JOURNAL_LIMIT, Session, Told};
+pub use session_steps::{Flags, Offered, TakenUnit};

@@ -4,12 +4,12 @@ ghost use Rattle.std.specs.Prelude.{◌≡◌, ◌≤◌, ◌+◌, [], None, IfO
 ghost use Rattle.query_book.specs.Rows.{armed_count, first_armed, without_first};
 ghost use Rattle.execution_session.specs.declared.session.TheConstants.{JOURNAL_LIMIT};
 
-use crate::live::Live;
 use crate::session::Session;
 use notifiers::Armed;
 use orc_io::Notify;
 use session_model::UnitKind;
 use session_parts::Parts;
+use session_steps::Live;
 use std::alloc::{AllocError, Global};
 
 impl<U: UnitKind, N: Notify, const JMAX: usize> Session<U, N, JMAX> {

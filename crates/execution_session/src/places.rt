@@ -3,14 +3,14 @@
 ghost use Rattle.std.specs.Prelude.{◌≡◌, ◌≤◌, length, true, false, OnOk, IfErr};
 ghost use Rattle.orc_ids.specs.declared.lookup.Stop.TheVariants as stop;
 ghost use Rattle.session_model.specs.Plain.{Plain};
-ghost use Rattle.execution_session.specs.Performs.{state_of, lacks_places};
-ghost use Rattle.execution_session.specs.Rest.{Rests};
+ghost use Rattle.session_steps.specs.Performs.{state_of, lacks_places};
+ghost use Rattle.session_steps.specs.Rest.{Rests};
 
-use crate::live::Live;
 use orc_ids::Stop;
 use orc_io::Notify;
 use session_model::UnitKind;
 use session_replies::kept;
+use session_steps::Live;
 
 /// The journal has places for so many more entries, beside those of the held units.
 pub(crate) fn check_places<U: UnitKind, N: Notify, const JMAX: usize>(

@@ -1,38 +1,17 @@
 //! Trackers that are removed.
 
-ghost use Rattle.std.specs.Prelude.{◌≡◌, ℕ, Err};
+ghost use Rattle.std.specs.Prelude.{◌≡◌, Err};
 ghost use Rattle.orc_ids.specs.declared.lookup.Stop.TheVariants.{NoMemory};
-ghost use Rattle.session_model.specs.Plain.{Plain};
 ghost use Rattle.session_model.specs.declared.entry.Event.TheVariants as event;
-ghost use Rattle.execution_session.specs.Fires.{FiresBy};
-ghost use Rattle.execution_session.specs.Performs.{Performs};
-ghost use Rattle.execution_session.specs.Stands.{Stands};
-ghost use Rattle.execution_session.specs.Steps.{IsTellingStep};
+ghost use Rattle.session_steps.specs.Fires.{FiresBy};
+ghost use Rattle.session_steps.specs.Performs.{Performs};
 
 use crate::answering::{enter_telling, stopped};
-use crate::live::Live;
 use crate::places::check_places;
 use crate::session::{Session, Told};
 use orc_ids::{SeatNo, TrackId};
 use orc_io::Notify;
-use session_model::{Event, Reply, UnitKind};
-use session_replies::refuse_remove;
-
-impl<U: UnitKind, N: Notify> Live<U, N> {
-    /// All that the tracker has goes, or it is gone already. Takes no memory.
-    fn remove_tracker(&mut self, t: TrackId) -> Reply
-        ghost m: { Plain }
-        requires stands { Stands U.meaning m self.old.parts }
-        ensures step { (s : ℕ) → IsTellingStep U.meaning m s (event.Remove t) result self.old.parts self.new.parts }
-        ensures rest { self.new ≡ record self.old { parts = self.new.parts } }
-    {
-        if let Some(refusal) = refuse_remove(&self.parts, t) {
-            return refusal;
-        }
-        self.parts.remove(t);
-        Reply::Removed
-    }
-}
+use session_model::{Event, UnitKind};
 
 impl<U: UnitKind, N: Notify, const JMAX: usize> Session<U, N, JMAX> {
     /// Removes all that the tracker has: its units with their names, jobs and ranges, and its generators

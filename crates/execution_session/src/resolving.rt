@@ -2,38 +2,16 @@
 
 ghost use Rattle.std.specs.Prelude.{◌≡◌, Err};
 ghost use Rattle.orc_ids.specs.declared.lookup.Stop.TheVariants.{NoMemory};
-ghost use Rattle.session_model.specs.Plain.{Plain};
 ghost use Rattle.session_model.specs.declared.entry.Event.TheVariants as event;
-ghost use Rattle.execution_session.specs.Fires.{FiresBy};
-ghost use Rattle.execution_session.specs.Performs.{Performs};
-ghost use Rattle.execution_session.specs.Stands.{Stands};
-ghost use Rattle.execution_session.specs.Steps.{IsTellingStep};
+ghost use Rattle.session_steps.specs.Fires.{FiresBy};
+ghost use Rattle.session_steps.specs.Performs.{Performs};
 
 use crate::answering::{enter_telling, stopped};
-use crate::live::Live;
 use crate::places::check_places;
 use crate::session::{Session, Told};
 use orc_ids::{SeatNo, UnitId};
 use orc_io::Notify;
-use session_model::{Event, Reply, UnitKind};
-use session_replies::{Call, turn_away};
-
-impl<U: UnitKind, N: Notify> Live<U, N> {
-    /// The unit's instances get their addresses, or the call is turned away. Takes no memory.
-    fn resolve_unit(&mut self, s: SeatNo, u: UnitId) -> Reply
-        ghost m: { Plain }
-        requires stands { Stands U.meaning m self.old.parts }
-        ensures step { IsTellingStep U.meaning m s.0 (event.Resolve u) result self.old.parts self.new.parts }
-        ensures rest { self.new ≡ record self.old { parts = self.new.parts } }
-    {
-        if let Some(reply) = turn_away(&self.parts, s, u, Call::Resolve) {
-            self.step_away(s, u, &reply);
-            return reply;
-        }
-        self.parts.resolve(u);
-        Reply::Resolved
-    }
-}
+use session_model::{Event, UnitKind};
 
 impl<U: UnitKind, N: Notify, const JMAX: usize> Session<U, N, JMAX> {
     /// Gives the unit's instances their addresses (ORC: `notifyResolved`). Takes no memory.

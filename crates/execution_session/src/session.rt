@@ -1,18 +1,12 @@
-ghost use Rattle.std.specs.Prelude.{◌≡◌, ◌≤◌, [], length, true, false, IfOk, OnOk, IfErr};
-ghost use Rattle.orc_ids.specs.declared.limits.TheConstants.{ENTRY_LIMIT};
-ghost use Rattle.orc_ids.specs.declared.lookup.Stop.TheVariants as stop;
+ghost use Rattle.std.specs.Prelude.{◌≡◌};
 ghost use Rattle.session_model.specs.State.{plain_history};
 ghost use Rattle.session_model.specs.History.{IsLegal, HasPlaces};
-ghost use Rattle.execution_session.specs.Performs.{lacks_places};
 
-use crate::live::Live;
-use crate::places::check_places;
 use notifiers::{Armed, Fires};
 use orc_ids::{ENTRY_LIMIT, Stop};
 use orc_io::Notify;
 use session_model::{Entry, Reply, UnitKind};
-use session_parts::Parts;
-use std::alloc::{AllocError, Global};
+use session_steps::Live;
 use std::marker::Model;
 
 /// The most entries that a journal can have.
@@ -25,12 +19,12 @@ pub struct Session<U: UnitKind, N: Notify, const JMAX: usize> {
 }
 
 impl<U: UnitKind, N: Notify, const JMAX: usize> Model for Session<U, N, JMAX> {
-    ghost use Rattle.execution_session.specs.Log.{Log};
+    ghost use Rattle.session_steps.specs.Log.{Log};
 
     ghost Value = { Log U N };
 
-    ghost use Rattle.execution_session.specs.Log.{log_of};
-    ghost use Rattle.execution_session.specs.Rest.{Rests};
+    ghost use Rattle.session_steps.specs.Log.{log_of};
+    ghost use Rattle.session_steps.specs.Rest.{Rests};
 
     ghost view = { λ s. log_of s.live };
 
@@ -41,13 +35,6 @@ impl<U: UnitKind, N: Notify, const JMAX: usize> Model for Session<U, N, JMAX> {
 pub struct Told<N: Notify> {
     pub answer: Result<Reply, Stop>,
     pub fires: Fires<N>,
-}
-
-/// The answer of an event that was handed a unit, and the unit where the session didn't take it.
-#[derive(Drop)]
-pub struct Offered<U> {
-    pub answer: Result<Reply, Stop>,
-    pub back: Option<U>,
 }
 
 /// The answer of a lookup, its notifier where no query was lodged, and the notifiers that are to be told.

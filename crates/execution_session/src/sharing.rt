@@ -1,15 +1,15 @@
 //! Units that are handed in, and stand in an entry too.
 
 ghost use Rattle.std.specs.Prelude.{◌≡◌, false, IfOk, OnOk, IfErr};
-ghost use Rattle.execution_session.specs.Given.{StopsEach};
-ghost use Rattle.execution_session.specs.Performs.{lacks_places};
-ghost use Rattle.execution_session.specs.Rest.{Rests};
+ghost use Rattle.session_steps.specs.Given.{StopsEach};
+ghost use Rattle.session_steps.specs.Performs.{lacks_places};
+ghost use Rattle.session_steps.specs.Rest.{Rests};
 
-use crate::live::Live;
 use crate::places::check_places;
 use orc_ids::Stop;
 use orc_io::Notify;
 use session_model::UnitKind;
+use session_steps::Live;
 
 /// Another handle of the unit, for an entry that the journal has a place for.
 pub(crate) fn share_for_entry<U: UnitKind, N: Notify, const JMAX: usize>(

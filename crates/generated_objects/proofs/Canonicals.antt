@@ -1,16 +1,13 @@
 -- The objects are canonical.
-use Rattle.std.proofs.Common.{◌≡◌, ℕ, ◌+◌, ◌<◌, ◌^◌, ◌⊎◌, inl, inr, Bool, true, false, List, [], ◌∷◌, length, pos, refl, sym, ap, ◌∙◌, subst, arith}
-use Rattle.std.specs.Prelude.{◌≢◌, ◌==◌, if◌then◌else◌}
+use Rattle.std.proofs.Common.{◌≡◌, ℕ, ◌+◌, ◌<◌, ◌^◌, ◌⊎◌, inl, inr, false, List, [], ◌∷◌, length, refl, sym, subst, arith}
+use Rattle.std.specs.Prelude.{if◌then◌else◌}
 use Rattle.std.specs.List.{All, IsDistinct}
 use Rattle.std.specs.Str.{bytes_eq}
 use Rattle.std.proofs.lemmas.Bool.{cases_eq, eq-eqb, ne_eqb}
 use Rattle.std.proofs.lemmas.List.Elements.{All-cons, All-nil}
-use Rattle.orc_words.specs.Bits.{bits_at, fits_bits}
+use Rattle.orc_words.specs.Bits.{bits_at}
 use Rattle.elf_read.specs.Sections.{is_small_power}
 use Rattle.elf_read.specs.declared.object.ElfObject.{ElfObject}
-use Rattle.elf_read.specs.declared.object.Reloc.{Reloc}
-use Rattle.elf_read.specs.declared.object.Section.{Section}
-use Rattle.elf_read.specs.declared.object.Symbol.{Symbol}
 use Rattle.elf_write.specs.Bytes.{number_bytes}
 use Rattle.elf_write.specs.Canonical.{Canonical, HoldsReloc, HoldsSection, HoldsSymbol}
 use Rattle.elf_write.specs.Files.{symtab_number}

@@ -1,5 +1,5 @@
 -- The graphs of the objects.
-use Rattle.std.proofs.Common.{◌≡◌, ℕ, ◌+◌, ◌<◌, ◌≤◌, ◌^◌, ◌⊎◌, inl, inr, Bool, true, false, List, [], ◌∷◌, length, Option, Some, None, refl, sym, ap, ◌∙◌, subst, arith}
+use Rattle.std.proofs.Common.{◌≡◌, ℕ, ◌+◌, ◌<◌, ◌≤◌, ◌^◌, ◌⊎◌, inl, inr, Bool, true, false, List, [], ◌∷◌, length, Option, Some, refl, sym, ap, ◌∙◌, subst, arith}
 use Rattle.std.specs.Prelude.{◌≢◌, ◌==◌, IfOk, IsSome, IsTrue, Result, Ok, Err, if◌then◌else◌}
 use Rattle.std.specs.List.{All, AllPairs}
 use Rattle.std.proofs.lemmas.Bool.{both_ways, cases_eq, eq-eqb, ne_eqb}
@@ -10,12 +10,9 @@ use Rattle.elf_write.specs.Bytes.{number_bytes}
 use Rattle.link_graph.specs.Checks.{graph_of_object}
 use Rattle.link_graph.specs.Object.{name_number}
 use Rattle.link_model.specs.Graph.{is_offered}
-use Rattle.link_model.specs.Image.{at_or}
 use Rattle.link_model.specs.Kinds.{row_of, rule_of}
 use Rattle.link_model.specs.Sound.{EdgeFits, IsAlignment, IsSized, OffersDiffer, PlaceFits, Sound}
 use Rattle.link_model.specs.declared.graph.Block.{Block}
-use Rattle.link_model.specs.declared.graph.Edge.{Edge}
-use Rattle.link_model.specs.declared.graph.GPlace.{GPlace}
 use Rattle.link_model.specs.declared.graph.GPlace.TheVariants.{External, In}
 use Rattle.link_model.specs.declared.graph.GSym.{GSym}
 use Rattle.link_model.specs.declared.graph.LinkGraph.{LinkGraph}

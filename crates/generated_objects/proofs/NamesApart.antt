@@ -1,6 +1,6 @@
 -- The names of functions: letters and digits alone, and each function has its own.
 use Rattle.std.proofs.Common.{◌≡◌, ℕ, zero, suc, ◌+◌, ◌<◌, ◌≤◌, ◌^◌, ◌⊎◌, inl, inr, Bool, true, false, List, [], ◌∷◌, ◌++◌, length, drop, map, Option, Some, refl, sym, ap, ◌∙◌, subst, arith}
-use Rattle.std.specs.Prelude.{◌/◌, ◌%◌, ◌==◌, ◌||◌, cond, nat_lt, option_map}
+use Rattle.std.specs.Prelude.{◌%◌, ◌==◌, ◌||◌, cond, nat_lt, option_map}
 use Rattle.std.specs.Fmt.{decimal}
 use Rattle.std.specs.List.{AllByRecursion, list_any, position_from, range_with_len}
 use Rattle.std.specs.Str.{bytes_eq}
@@ -9,7 +9,6 @@ use Rattle.std.proofs.lemmas.Bool.{cases_eq, false_from_ne_true, ne_eqb, or_from
 use Rattle.std.proofs.lemmas.Bool.Decides.{nat_tests}
 use Rattle.std.proofs.lemmas.Fmt.{decimal_by_steps, decimal_injective, length-decimal-le}
 use Rattle.std.proofs.lemmas.Slice.Eq.{bytes_eq-Decides}
-use Rattle.orc_ids.specs.declared.ids.NameId.{NameId}
 use Rattle.elf_read.specs.Symbols.{is_bad_name}
 use Rattle.elf_write.specs.Canonical.{IsText}
 use Rattle.link_graph.specs.Object.{name_number}

@@ -6,9 +6,10 @@ ghost use Rattle.elf_read.specs.Symbols.{symbol_zero};
 ghost use Rattle.generated_objects.specs.Objects.{code, defined, function_name, generated_object, linked_object, lone_object, object_calling, text_section};
 
 use crate::rings::next;
-use elf_read::{ElfObject, Name, Reloc, Relocs, Section, Sections, SymPlace, Symbol, Symbols};
+use elf_read::{ElfObject, Reloc, Relocs, Section, Sections, SymPlace, Symbol, Symbols};
 use link_model::kinds::CALL_PLT;
 use orc_ids::Bytes;
+use shared_bytes::SharedBytes;
 use std::alloc::{AllocError, Global};
 use text_parts::put_numbered;
 
@@ -43,12 +44,12 @@ const LOAD: u32 = 0x513;
 const RETURN: u32 = 0x0000_8067;
 
 /// The name of function `k`.
-fn name_of(alloc: Global, k: u32) -> Result<Name, AllocError>
+fn name_of(alloc: Global, k: u32) -> Result<SharedBytes, AllocError>
     ensures { IfOk result (λ name. name ≡ function_name k) }
 {
     let mut text = Vec::new(alloc);
     put_numbered(&mut text, b"f", k)?;
-    Name::from_bytes(alloc, Bytes::from_vec(text))
+    SharedBytes::from_bytes(alloc, Bytes::from_vec(text))
 }
 
 /// A word in little-endian order.
@@ -65,7 +66,7 @@ fn put_word(code: &mut Vec<u8>, word: u32) -> Result<(), AllocError>
 }
 
 /// The code of function `k`.
-pub(crate) fn code(alloc: Global, k: u32) -> Result<Bytes, AllocError>
+pub(crate) fn code(alloc: Global, k: u32) -> Result<SharedBytes, AllocError>
     ensures { IfOk result (λ bytes. bytes ≡ code k) }
 {
     let mut code = Vec::with_capacity(alloc, CODE_SIZE as usize)?;
@@ -75,7 +76,7 @@ pub(crate) fn code(alloc: Global, k: u32) -> Result<Bytes, AllocError>
     put_word(&mut code, TAIL[1])?;
     put_word(&mut code, (k % 256) * 0x0010_0000 + LOAD)?;
     put_word(&mut code, RETURN)?;
-    Ok(Bytes::from_vec(code))
+    SharedBytes::from_bytes(alloc, Bytes::from_vec(code))
 }
 
 /// The one section, in which the symbol of this number is called.
@@ -90,7 +91,7 @@ fn text_section(alloc: Global, symbol: u32, k: u32) -> Result<Section, AllocErro
         addend: 0,
     })?;
     Ok(Section {
-        name: Name::copy_of(alloc, b".text")?,
+        name: SharedBytes::copy_of(alloc, b".text")?,
         kind: PROGBITS,
         flags: CODE,
         align: 4,
@@ -105,7 +106,7 @@ fn symbol_zero() -> Symbol
     ensures { result ≡ symbol_zero }
 {
     Symbol {
-        name: Name::empty(),
+        name: SharedBytes::empty(),
         bind: 0,
         kind: 0,
         vis: 0,

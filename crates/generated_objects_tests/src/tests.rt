@@ -4,6 +4,7 @@ use elf_read::read_object;
 use elf_write::write_object;
 use generated_objects::{graph_of_function, next, object_of};
 use link_graph::graph_of;
+use link_model::LinkGraph;
 use orc_ids::Bytes;
 use orc_names::Names;
 use rv_asm::assemble;
@@ -18,21 +19,34 @@ fn file_of(alloc: Global, n: u32, k: u32) -> Result<Bytes, Fail>
     Ok(write_object(alloc, &object)?)
 }
 
-/// The file that the assembler makes of a source.
-fn assembled(alloc: Global, source: &str) -> Result<Bytes, Fail> {
+/// The file of function `k` of `n` is what the assembler makes of a source.
+fn is_assembled(alloc: Global, n: u32, k: u32, source: &str) -> Result<bool, Fail>
+    requires { k < n }
+{
+    let file = file_of(alloc, n, k)?;
     let object = assemble(alloc, source.as_bytes())?;
-    Ok(write_object(alloc, &object)?)
+    Ok(write_object(alloc, &object)?.as_slice() == file.as_slice())
+}
+
+/// Function `k` of `n` calls this one.
+fn is_next(n: u32, k: u32, called: u32) -> bool {
+    k < n && next(n, k) == called
 }
 
 #[test]
 fn a_ring_of_seven_closes(rt: HostRuntime) {
-    assert_eq!(rt; next(15, 0), 1);
-    assert_eq!(rt; next(15, 6), 0);
-    assert_eq!(rt; next(15, 12), 13);
-    assert_eq!(rt; next(15, 13), 7);
-    // The last ring has one function.
-    assert_eq!(rt; next(15, 14), 14);
-    assert_eq!(rt; next(16, 15), 14);
+    let rows = [
+        (15, 0, 1),
+        (15, 6, 0),
+        (15, 12, 13),
+        (15, 13, 7),
+        // The last ring has one function.
+        (15, 14, 14),
+        (16, 15, 14),
+    ];
+    for (n, k, called) in rows {
+        assert!(rt; is_next(n, k, called), "{k} of {n}");
+    }
 }
 
 /// The words are those of `riscv64-linux-gnu-as` for these instructions.
@@ -41,9 +55,7 @@ const CALLS_ANOTHER: &str =
 
 #[test]
 fn an_object_is_that_of_its_source(rt: HostRuntime) -> Result<(), Fail> {
-    let file = file_of(rt.alloc(), 15, 12)?;
-    let expected = assembled(rt.alloc(), CALLS_ANOTHER)?;
-    assert_eq!(rt; file.as_slice(), expected.as_slice());
+    assert!(rt; is_assembled(rt.alloc(), 15, 12, CALLS_ANOTHER)?);
     Ok(())
 }
 
@@ -53,9 +65,7 @@ const CALLS_ITSELF: &str =
 
 #[test]
 fn one_that_is_alone_calls_itself(rt: HostRuntime) -> Result<(), Fail> {
-    let file = file_of(rt.alloc(), 302, 301)?;
-    let expected = assembled(rt.alloc(), CALLS_ITSELF)?;
-    assert_eq!(rt; file.as_slice(), expected.as_slice());
+    assert!(rt; is_assembled(rt.alloc(), 302, 301, CALLS_ITSELF)?);
     Ok(())
 }
 
@@ -64,22 +74,55 @@ const TEXTS: [&str; 12] = [
     "j0", "j1", "j2", "j3", "f0", "f1", "f2", "f3", "f4", "f5", "f6", "f7",
 ];
 
-#[test]
-fn the_graph_is_that_of_the_object_read(rt: HostRuntime) -> Result<(), Fail> {
-    let mut names = Names::new(rt.alloc());
+/// The names of a session of eight objects.
+fn session_names(alloc: Global) -> Result<Names, Fail> {
+    let mut names = Names::new(alloc);
     for text in TEXTS {
         names.intern(text.as_bytes())?;
     }
+    Ok(names)
+}
+
+/// The graph of the file of function `k` of eight.
+fn read_graph(alloc: Global, k: u32, names: &mut Names) -> Result<LinkGraph, Fail>
+    requires { k < 8 }
+{
+    let object = read_object(alloc, file_of(alloc, 8, k)?.as_slice())?;
+    Ok(graph_of(alloc, &object, names)?)
+}
+
+/// All parts of a graph.
+fn shown(alloc: Global, graph: &LinkGraph) -> Result<String, Fail> {
+    Ok(format!(in alloc; "{graph:?}")?)
+}
+
+/// The graph of function `k` of eight is that of its file.
+fn is_read_back(alloc: Global, k: u32, names: &mut Names) -> Result<bool, Fail>
+    requires { k < 8 }
+{
+    let read = shown(alloc, &read_graph(alloc, k, names)?)?;
+    let made = shown(alloc, &graph_of_function(alloc, 8, k)?)?;
+    Ok(made.as_str() == read.as_str())
+}
+
+#[test]
+fn the_graph_is_that_of_the_object_read(rt: HostRuntime) -> Result<(), Fail> {
+    let mut names = session_names(rt.alloc())?;
     for k in 0..8 {
-        let object = read_object(rt.alloc(), file_of(rt.alloc(), 8, k)?.as_slice())?;
-        let read = graph_of(rt.alloc(), &object, &mut names)?;
-        let made = graph_of_function(rt.alloc(), 8, k)?;
-        let read = format!(in rt.alloc(); "{read:?}")?;
-        let made = format!(in rt.alloc(); "{made:?}")?;
-        assert_eq!(rt; made.as_str(), read.as_str());
+        assert!(rt; is_read_back(rt.alloc(), k, &mut names)?, "{k}");
     }
     assert_eq!(rt; names.len(), 12);
     Ok(())
+}
+
+/// The object of function `k` of `n` has one section, and its graph one block.
+fn is_of_one_part(alloc: Global, n: u32, k: u32) -> Result<bool, Fail>
+    requires below { k < n }
+    requires few { n < 9 }
+{
+    let object = object_of(alloc, n, k)?;
+    let graph = graph_of_function(alloc, n, k)?;
+    Ok(object.sections.as_slice().len() == 1 && graph.blocks.as_slice().len() == 1)
 }
 
 /// The last ring of each number of functions has one of seven lengths.
@@ -87,10 +130,7 @@ fn the_graph_is_that_of_the_object_read(rt: HostRuntime) -> Result<(), Fail> {
 fn memory_is_enough_for_any_number_of_functions(rt: HostRuntime) -> Result<(), Fail> {
     for n in 1..9 {
         for k in 0..n {
-            let object = object_of(rt.alloc(), n, k)?;
-            assert_eq!(rt; object.sections.as_slice().len(), 1);
-            let graph = graph_of_function(rt.alloc(), n, k)?;
-            assert_eq!(rt; graph.blocks.as_slice().len(), 1);
+            assert!(rt; is_of_one_part(rt.alloc(), n, k)?, "{k} of {n}");
         }
     }
     Ok(())

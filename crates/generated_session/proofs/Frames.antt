@@ -7,7 +7,7 @@ use Rattle.orc_ids.specs.declared.ids.DylibId.{DylibId}
 use Rattle.orc_ids.specs.declared.ids.NameId.{NameId}
 use Rattle.orc_ids.specs.declared.ids.TrackId.{TrackId}
 use Rattle.orc_ids.specs.declared.lookup.OrderItem.{OrderItem}
-use Rattle.session_model.specs.Change.{change_of, changed, let_go_unit, linked_unit, new_unit, removed_generator, removed_unit, settled, verdicts, without_replaced}
+use Rattle.session_model.specs.Change.{change_of, changed, let_go_unit, new_unit, removed_generator, removed_unit, verdicts, without_replaced}
 use Rattle.session_model.specs.History.{LegalFrom}
 use Rattle.session_model.specs.Lists.{numbered}
 use Rattle.session_model.specs.Meaning.{Meaning}
@@ -18,9 +18,8 @@ use Rattle.session_model.specs.declared.entry.Event.{Event}
 use Rattle.session_model.specs.declared.entry.Event.TheVariants as event
 use Rattle.session_model.specs.declared.entry.Reply.{Reply}
 use Rattle.session_model.specs.declared.entry.Reply.TheVariants as reply
-use Rattle.session_laws.proofs.Elements.{changed_length, mapped_length, numbered_length}
-use Rattle.session_laws.proofs.Settling.{settling_keeps}
-use Rattle.closure_laws.proofs.Homing.{settled_frame}
+use Rattle.session_laws.proofs.Declared.{changed_length, mapped_length, numbered_length}
+use Rattle.closure_laws.proofs.Declared.{settled_frame}
 use Rattle.run_laws.proofs.Calm.{AsMany, IsUnoffered, after_many, answer_unoffered, is_call, settled_many}
 use Rattle.run_laws.proofs.Falling.{total}
 

@@ -8,7 +8,7 @@ use Rattle.std.proofs.lemmas.List.{length-append, length-map, length-take-le, ta
 use Rattle.std.proofs.lemmas.List.Elements.{All-weaker}
 use Rattle.std.proofs.lemmas.List.Sums.{count_by-le-length}
 use Rattle.std.proofs.lemmas.Option.{none-some, same_Some}
-use Rattle.list_laws.proofs.Each.{each_taken}
+use Rattle.list_laws.proofs.Each.{each_taken, each_mapped}
 use Rattle.orc_ids.specs.declared.lookup.Stop.{Stop}
 use Rattle.orc_ids.specs.declared.lookup.Stop.TheVariants.{JournalFull}
 use Rattle.session_model.specs.Calls.{numbered_calls}
@@ -17,9 +17,7 @@ use Rattle.session_model.specs.Meaning.{Meaning}
 use Rattle.session_model.specs.Plain.{Plain, UnitRow, empty, kept}
 use Rattle.session_model.specs.State.{state}
 use Rattle.session_model.specs.declared.entry.Entry.{Entry}
-use Rattle.session_laws.proofs.Along.{prefixes_legal}
-use Rattle.session_laws.proofs.Invariant.{legal_is_sound}
-use Rattle.session_laws.proofs.Readying.{legal_rest, state_from_joined}
+use Rattle.session_laws.proofs.Declared.{prefixes_legal, legal_is_sound, legal_rest, state_from_joined}
 use Rattle.run_laws.specs.Ended.{IsCauseIn, IsCrowded}
 use Rattle.run_laws.proofs.Calm.{IsUnoffered}
 use Rattle.run_laws.proofs.Costs.{NumberedUnoffered, taken}
@@ -36,7 +34,7 @@ use Rattle.generated_session.specs.Scripts.{client_lines, generated_script, set_
 use Rattle.generated_session.proofs.Asked.{IsFirst, client_cost, client_tame, set_up_defines, set_up_first, set_up_length}
 use Rattle.generated_session.proofs.Frames.{IsClient, IsSetUp, IsWithin, clients_many, defined, defines, never_offered, set_up_within}
 use Rattle.generated_session.proofs.Lines.{lines_are_calls, lines_are_short}
-use Rattle.generated_session.proofs.Lists.{each_image, each_mapped, only_seat, total_mapped}
+use Rattle.generated_session.proofs.Lists.{each_image, only_seat, total_mapped}
 use Rattle.generated_session.proofs.Takes.{takes_few}
 
 -- ---- beginnings of the set-up

@@ -1,21 +1,16 @@
 -- Each take uses up a job, and a unit has two; a removal gives none back.
-use Rattle.std.proofs.Common.{◌≡◌, ℕ, suc, ◌+◌, ◌<◌, ◌≤◌, Bool, true, false, List, [], ◌∷◌, ◌++◌, length, ◌⊎◌, inl, inr, refl, sym, ap, subst, arith, nat_lt}
-use Rattle.std.specs.Bool.{if◌then◌else◌}
+use Rattle.std.proofs.Common.{◌≡◌, ℕ, ◌+◌, ◌≤◌, true, List, [], ◌∷◌, ◌++◌, ◌⊎◌, inl, inr, ap, arith}
 use Rattle.std.specs.List.{AllByRecursion}
-use Rattle.std.proofs.lemmas.Bool.{cases_lt, lt-ltb, le-ltb}
-use Rattle.std.proofs.lemmas.Option.{same_Some}
 use Rattle.orc_ids.specs.declared.ids.TrackId.{TrackId}
 use Rattle.session_model.specs.Answer.{Answers}
 use Rattle.session_model.specs.History.{LegalFrom}
 use Rattle.session_model.specs.Meaning.{Meaning}
-use Rattle.session_model.specs.Plain.{Plain, UnitRow}
+use Rattle.session_model.specs.Plain.{Plain}
 use Rattle.session_model.specs.State.{after, state_from}
 use Rattle.session_model.specs.declared.entry.Entry.{Entry}
 use Rattle.session_model.specs.declared.entry.Event.TheVariants as event
-use Rattle.session_laws.proofs.Invariant.{sound_after}
-use Rattle.session_laws.proofs.Rising.{Rises, after_rises}
+use Rattle.session_laws.proofs.Declared.{sound_after, after_rises}
 use Rattle.session_laws.specs.Sound.{IsSound}
-use Rattle.session_laws.specs.Work.{rank}
 use Rattle.run_laws.proofs.Calm.{is_call}
 use Rattle.run_laws.proofs.Falling.{all_left, is_take, left_rises, takes, takes_within, total}
 use Rattle.generated_session.proofs.Frames.{IsClient, client_cases, client_many}

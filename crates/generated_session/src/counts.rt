@@ -6,7 +6,7 @@ ghost use Rattle.script_laws.specs.declared.line_end.LineEnd.TheVariants.{Looked
 
 use crate::functions::{is_head, is_removed};
 use exec_run::RunEnd;
-use link_worker::LookEnd;
+use look_ends::LookEnd;
 use script_laws::LineEnd;
 use session_model::Reply;
 

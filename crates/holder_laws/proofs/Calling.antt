@@ -21,13 +21,8 @@ use Rattle.session_model.specs.declared.entry.Why.TheVariants as why
 use Rattle.session_model.specs.declared.rows.InstRow.{InstRow}
 use Rattle.session_model.specs.declared.rows.UnitPhase.TheVariants as stage
 use Rattle.session_laws.specs.Holding.{AllOthers, OwnSame}
-use Rattle.session_laws.proofs.Elements.{same_element}
-use Rattle.session_laws.proofs.Ending.{end_stays, entries_are}
-use Rattle.session_laws.proofs.Changes.{owned_parts}
-use Rattle.session_laws.proofs.Facts.{test_parts, test_from}
-use Rattle.session_laws.proofs.Guards.{call_cases}
-use Rattle.session_laws.proofs.Placing.{full_stays}
-use Rattle.execution_session.specs.Finish.{IsFinish}
+use Rattle.session_laws.proofs.Declared.{same_element, end_stays, entries_are, owned_parts, test_parts, test_from, call_cases, full_stays}
+use Rattle.session_steps.specs.Finish.{IsFinish}
 use Rattle.holder_laws.specs.Holders.{Holds, WasHeld, SameReplies}
 use Rattle.holder_laws.specs.Conditions.{PlaceStays, EmitStays, FailStays}
 use Rattle.holder_laws.proofs.Giving.{others_give_none}

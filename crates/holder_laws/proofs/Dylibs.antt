@@ -14,11 +14,8 @@ use Rattle.session_model.specs.declared.change.Change.{Change}
 use Rattle.session_model.specs.declared.change.Change.TheVariants.{MakeDylib, SetOrder, Generate, Ask, Resolve, Link, Move}
 use Rattle.session_model.specs.declared.entry.Entry.{Entry}
 use Rattle.session_model.specs.declared.rows.Dylib.{Dylib}
-use Rattle.session_laws.proofs.Along.{state_from_push}
-use Rattle.session_laws.proofs.Elements.{changed_length}
-use Rattle.session_laws.proofs.Settling.{chosen}
-use Rattle.closure_laws.proofs.Histories.{OneMore, kept_along}
-use Rattle.closure_laws.proofs.Homing.{same_frame, claims_frame, settled_frame}
+use Rattle.session_laws.proofs.Declared.{state_from_push, changed_length, chosen}
+use Rattle.closure_laws.proofs.Declared.{OneMore, kept_along, same_frame, claims_frame, settled_frame}
 use Rattle.holder_laws.specs.Conditions.{SourceStays}
 
 -- at least as many dylibs

@@ -23,13 +23,8 @@ use Rattle.session_model.specs.declared.rows.Query.{Query}
 use Rattle.session_model.specs.declared.rows.UnitPhase.TheVariants as stage
 use Rattle.session_model.specs.declared.rows.Verdict.{Verdict}
 use Rattle.session_laws.specs.Holding.{AllOthers, IsKept, OwnSame}
-use Rattle.session_laws.proofs.Along.{state_from_push}
-use Rattle.session_laws.proofs.Elements.{changed_cases, mapped_parts, numbered_parts, pushed_cases, same_element}
-use Rattle.session_laws.proofs.Keeping.{held_stays}
-use Rattle.session_laws.proofs.Replies.{Guard}
-use Rattle.session_laws.proofs.Rising.{defunct_stays}
-use Rattle.session_laws.proofs.Settling.{chosen, settling_keeps}
-use Rattle.closure_laws.proofs.Histories.{OneMore}
+use Rattle.session_laws.proofs.Declared.{state_from_push, changed_cases, mapped_parts, numbered_parts, pushed_cases, same_element, held_stays, Guard, defunct_stays, chosen, settling_keeps}
+use Rattle.closure_laws.proofs.Declared.{OneMore}
 use Rattle.holder_laws.specs.Holders.{Holds, WasHeld, OthersGiveNone}
 use Rattle.holder_laws.proofs.Others.{others_along}
 

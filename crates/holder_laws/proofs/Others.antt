@@ -8,11 +8,9 @@ use Rattle.session_model.specs.Plain.{Plain, UnitRow, is_defunct}
 use Rattle.session_model.specs.State.{state}
 use Rattle.session_model.specs.History.{IsLegal}
 use Rattle.session_model.specs.declared.entry.Entry.{Entry}
-use Rattle.session_model.specs.declared.rows.UnitPhase.TheVariants as stage
 use Rattle.session_laws.specs.Holding.{AllOthers}
-use Rattle.session_laws.proofs.Along.{prefixes_legal}
-use Rattle.session_laws.proofs.Keeping.{held_stays, gone_stays_held}
-use Rattle.closure_laws.proofs.Histories.{OneMore, one_more}
+use Rattle.session_laws.proofs.Declared.{prefixes_legal, held_stays, gone_stays_held}
+use Rattle.closure_laws.proofs.Declared.{OneMore, one_more}
 
 -- what each entry of another seat keeps
 pub others_along : (jmax s : ℕ) (P : List (Entry Meaning) → Type 0) → ((h : List (Entry Meaning)) (e : Entry Meaning) → (e.seat.0 ≡ s → ⊥) → OneMore jmax h e → P h → P (h ++ e ∷ [])) →

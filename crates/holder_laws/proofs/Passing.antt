@@ -12,9 +12,8 @@ use Rattle.session_model.specs.declared.entry.Entry.{Entry}
 use Rattle.session_model.specs.declared.entry.Event.{Event}
 use Rattle.session_model.specs.declared.entry.Event.TheVariants as event
 use Rattle.session_model.specs.declared.entry.Reply.{Reply}
-use Rattle.session_laws.proofs.Elements.{same_element}
-use Rattle.session_laws.proofs.Guards.{call_cases}
-use Rattle.closure_laws.proofs.Histories.{OneMore}
+use Rattle.session_laws.proofs.Declared.{same_element, call_cases}
+use Rattle.closure_laws.proofs.Declared.{OneMore}
 use Rattle.holder_laws.specs.Holders.{SameReplies, LastRepliesStay}
 use Rattle.holder_laws.proofs.Others.{others_along, one_other, IsSeated, seat_stays}
 

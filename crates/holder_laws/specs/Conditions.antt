@@ -11,8 +11,8 @@ use Rattle.session_model.specs.History.{IsLegal, HasPlaces}
 use Rattle.session_model.specs.declared.entry.Entry.{Entry}
 use Rattle.session_model.specs.declared.entry.Why.{Why}
 use Rattle.session_laws.specs.Holding.{AllOthers}
-use Rattle.execution_session.specs.Finish.{IsFinish}
-use Rattle.execution_session.specs.Gives.{MayFail}
+use Rattle.session_steps.specs.Finish.{IsFinish}
+use Rattle.session_steps.specs.Gives.{MayFail}
 
 -- the shape is that of the unit, if the seat may place it
 abbrev pub MayPlace : Plain → ℕ → UnitId → Shape → Type 0

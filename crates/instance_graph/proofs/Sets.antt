@@ -23,12 +23,6 @@ flag_past [] k h = refl
 flag_past (x ∷ xs) zero h = absurd (omega (arith, h))
 flag_past (x ∷ xs) (suc k) h = flag_past xs k (omega (arith, h))
 
-pub flag_grown : (xs : List Bool) (k : ℕ) → is_set (xs ++ false ∷ []) k ≡ is_set xs k
-flag_grown [] zero = refl
-flag_grown [] (suc k) = refl
-flag_grown (x ∷ xs) zero = refl
-flag_grown (x ∷ xs) (suc k) = flag_grown xs k
-
 -- an open flag is there, and isn't set
 pub open_within : (xs : List Bool) (k : ℕ) → option_map_or not (slice_get xs k) false ≡ true → k < length xs
 open_within [] k e = absurd (both_ways false refl e)

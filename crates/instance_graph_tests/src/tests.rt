@@ -1,7 +1,6 @@
-ghost use Rattle.std.specs.Prelude.{◌≡◌, ◌<◌, ◌≤◌, ◌+◌, ◌∷◌, [], ℕ, true, false, None, Some, length, slice_get, OnOk};
+ghost use Rattle.std.specs.Prelude.{◌≡◌, ◌<◌, ◌∷◌, [], true, false, None};
 ghost use Rattle.orc_ids.specs.declared.ids.UnitName.TheVariants.{Absolute};
-ghost use Rattle.session_model.specs.declared.rows.InstRow.{InstRow};
-ghost use Rattle.instance_graph.specs.Graph.{NoneEmitted};
+ghost use Rattle.instance_graph.specs.Graph.{NoneEmitted, OffersBelow};
 
 use instance_graph::InstanceGraph;
 use orc_ids::{DylibId, Group, InstId, Items, NameId, Shape, SymFlags, UnitId, UnitName, Wanted};
@@ -73,19 +72,24 @@ impl UnitKind for One {
     }
 }
 
-/// Adds a unit of one name.
-fn add_unit(graph: &mut InstanceGraph, name: u32) -> Result<(), AllocError>
-    requires few { length graph.old.rows < 16 }
-    requires units { graph.old.units < 16 }
-    ensures units { OnOk result (graph.new.units ≡ graph.old.units + 1) }
-    ensures rows { OnOk result (length graph.new.rows ≤ length graph.old.rows + 1) }
-{
-    graph.room(1)?;
-    graph.define(DylibId(0), &[(NameId(name), FLAGS)], &[true]);
-    Ok(())
+/// What is read of a graph.
+#[derive(Clone, Copy)]
+enum Said<'a> {
+    /// Whether an instance is present.
+    Present(u32, bool),
+    /// Whether an instance is ready.
+    Ready(u32, bool),
+    /// Whether an instance has failed.
+    Failed(u32, bool),
+    /// The address of an instance.
+    Address(u32, Option<u64>),
+    /// The unsearched unit of an instance.
+    Unsearched(u32, Option<UnitId>),
+    /// These instances changed, and no others.
+    Told(&'a [u32]),
 }
 
-/// These instances changed.
+/// These instances changed, and no others.
 fn are_told(graph: &InstanceGraph, numbers: &[u32]) -> bool {
     for number in numbers {
         if !graph.changed().contains(&InstId(*number)) {
@@ -95,46 +99,160 @@ fn are_told(graph: &InstanceGraph, numbers: &[u32]) -> bool {
     graph.changed().len() == numbers.len()
 }
 
+/// Whether that is read of the graph.
+fn says(graph: &InstanceGraph, said: Said<'_>) -> bool {
+    match said {
+        Said::Present(i, present) => graph.present(InstId(i)) == present,
+        Said::Ready(i, ready) => graph.ready(InstId(i)) == ready,
+        Said::Failed(i, failed) => graph.failed(InstId(i)) == failed,
+        Said::Address(i, address) => graph.address(InstId(i)) == address,
+        Said::Unsearched(i, unit) => graph.unsearched_unit(InstId(i)) == unit,
+        Said::Told(numbers) => are_told(graph, numbers),
+    }
+}
+
+/// The number of the first of these that isn't read of the graph, from 0 on.
+fn first_unsaid(graph: &InstanceGraph, sayings: &[Said<'_>]) -> Option<usize> {
+    for (at, said) in sayings.iter().enumerate() {
+        if !says(graph, *said) {
+            return Some(at);
+        }
+    }
+    None
+}
+
+/// A call on two units, or what is read of them by then.
+#[derive(Clone, Copy)]
+enum Step<'a> {
+    /// The unit of this number is claimed.
+    Claim(u32),
+    /// These instances are replaced.
+    Replace(&'a [InstId]),
+    /// The unit of this number is removed.
+    Remove(u32),
+    /// What changed is forgotten.
+    Clear,
+    /// This is read.
+    Says(Said<'a>),
+}
+
+/// Two units of one name each.
+#[derive(Drop)]
+struct Two {
+    alloc: Global,
+    graph: InstanceGraph,
+    ghost units: { graph.units ≡ 2 },
+}
+
+impl Two {
+    fn new(alloc: Global) -> Result<Two, AllocError> {
+        let mut graph = InstanceGraph::new(alloc);
+        graph.room(1)?;
+        graph.define(DylibId(0), &[(NameId(0), FLAGS)], &[true]);
+        graph.room(1)?;
+        graph.define(DylibId(0), &[(NameId(1), FLAGS)], &[true]);
+        Ok(Two { alloc, graph })
+    }
+
+    fn claim(&mut self, unit: u32) -> bool {
+        if unit < 2 {
+            self.graph.claim(UnitId(unit));
+        }
+        unit < 2
+    }
+
+    fn replace(&mut self, gone: &[InstId]) -> bool {
+        self.graph.replace(gone);
+        true
+    }
+
+    fn remove(&mut self, unit: u32) -> bool {
+        if unit >= 2 {
+            return false;
+        }
+        let mut gone = LinkedList::new(self.alloc);
+        if gone.push_back(UnitId(unit)).is_err() {
+            return false;
+        }
+        self.graph.remove(&gone);
+        true
+    }
+
+    fn clear(&mut self) -> bool {
+        self.graph.clear();
+        true
+    }
+
+    /// Whether the call is made, or that is read.
+    fn makes(&mut self, step: Step<'_>) -> bool {
+        match step {
+            Step::Claim(unit) => self.claim(unit),
+            Step::Replace(gone) => self.replace(gone),
+            Step::Remove(unit) => self.remove(unit),
+            Step::Clear => self.clear(),
+            Step::Says(said) => says(&self.graph, said),
+        }
+    }
+}
+
+/// The number of the first step that two units don't take so, from 0 on.
+fn play(alloc: Global, steps: &[Step<'_>]) -> Result<Option<usize>, AllocError> {
+    let mut units = Two::new(alloc)?;
+    for (at, step) in steps.iter().enumerate() {
+        if !units.makes(*step) {
+            return Ok(Some(at));
+        }
+    }
+    Ok(None)
+}
+
 #[test]
 fn a_replaced_instance_is_told(rt: HostRuntime) -> Result<(), Fail> {
-    let mut graph = InstanceGraph::new(rt.alloc());
-    add_unit(&mut graph, 0)?;
-    add_unit(&mut graph, 1)?;
-    assert!(rt; graph.present(InstId(1)));
-    assert_eq!(rt; graph.unsearched_unit(InstId(1)), Some(UnitId(1)));
-    graph.claim(UnitId(1));
-    assert_eq!(rt; graph.unsearched_unit(InstId(1)), None);
-    assert!(rt; are_told(&graph, &[]));
-    graph.replace(&[InstId(1), InstId(1), InstId(7)]);
-    assert!(rt; !graph.present(InstId(1)));
-    assert!(rt; are_told(&graph, &[1]));
-    graph.clear();
-    assert!(rt; are_told(&graph, &[]));
+    let steps = [
+        Step::Says(Said::Present(1, true)),
+        Step::Says(Said::Unsearched(1, Some(UnitId(1)))),
+        Step::Claim(1),
+        Step::Says(Said::Unsearched(1, None)),
+        Step::Says(Said::Told(&[])),
+        Step::Replace(&[InstId(1), InstId(1), InstId(7)]),
+        Step::Says(Said::Present(1, false)),
+        Step::Says(Said::Told(&[1])),
+        Step::Clear,
+        Step::Says(Said::Told(&[])),
+    ];
+    assert_eq!(rt; play(rt.alloc(), &steps)?, None);
     Ok(())
 }
 
 #[test]
 fn a_removed_unit_is_told(rt: HostRuntime) -> Result<(), Fail> {
-    let mut graph = InstanceGraph::new(rt.alloc());
-    add_unit(&mut graph, 0)?;
-    add_unit(&mut graph, 1)?;
-    let mut gone = LinkedList::new(rt.alloc());
-    gone.push_back(UnitId(1))?;
-    graph.remove(&gone);
-    assert!(rt; graph.present(InstId(0)));
-    assert!(rt; !graph.present(InstId(1)));
-    assert!(rt; graph.failed(InstId(1)));
-    assert!(rt; are_told(&graph, &[1]));
+    let steps = [
+        Step::Remove(1),
+        Step::Says(Said::Present(0, true)),
+        Step::Says(Said::Present(1, false)),
+        Step::Says(Said::Failed(1, true)),
+        Step::Says(Said::Told(&[1])),
+    ];
+    assert_eq!(rt; play(rt.alloc(), &steps)?, None);
     Ok(())
 }
 
-/// Resolves the first unit at 64 and emits it, depending on nothing.
-fn emit_first(graph: &mut InstanceGraph, alloc: Global) -> Result<(), AllocError>
+/// Resolves the first unit at 64.
+fn resolve_first(graph: &mut InstanceGraph)
     requires there { 0 < graph.old.units }
-    requires offers { (i : ℕ) (r : InstRow) → slice_get graph.old.rows i ≡ Some r → r.unit.0 ≡ 0 → r.offer < 1 }
+    requires offers { OffersBelow 0 1 graph.old.rows }
     requires unemitted { NoneEmitted 0 graph.old.rows }
+    ensures there { 0 < graph.new.units }
+    ensures unemitted { NoneEmitted 0 graph.new.rows }
 {
     graph.resolve(UnitId(0), &One, 64);
+}
+
+/// Emits the first unit, depending on nothing.
+fn emit_first(graph: &mut InstanceGraph, alloc: Global) -> Result<(), AllocError>
+    requires there { 0 < graph.old.units }
+    requires unemitted { NoneEmitted 0 graph.old.rows }
+{
     let group = Group {
         members: graph.own(UnitId(0))?,
         deps: Items::new(alloc),
@@ -142,28 +260,49 @@ fn emit_first(graph: &mut InstanceGraph, alloc: Global) -> Result<(), AllocError
     graph.emit(UnitId(0), &[group])
 }
 
-#[test]
-fn an_emitted_unit_is_ready_and_told(rt: HostRuntime) -> Result<(), Fail> {
-    let alloc = rt.alloc();
+/// What isn't read of a unit before it is emitted, and what isn't then.
+fn emitted_unsaid(
+    alloc: Global,
+    before: &[Said<'_>],
+    after: &[Said<'_>],
+) -> Result<[Option<usize>; 2], AllocError> {
     let mut graph = InstanceGraph::new(alloc);
     graph.room(1)?;
     graph.define(DylibId(0), &[(NameId(0), FLAGS)], &[true]);
-    assert!(rt; !graph.ready(InstId(0)));
+    let unsaid = first_unsaid(&graph, before);
+    resolve_first(&mut graph);
     emit_first(&mut graph, alloc)?;
-    assert!(rt; graph.ready(InstId(0)));
-    assert_eq!(rt; graph.address(InstId(0)), Some(64));
-    assert!(rt; are_told(&graph, &[0]));
+    Ok([unsaid, first_unsaid(&graph, after)])
+}
+
+/// What isn't read of a unit that has failed.
+fn failed_unsaid(alloc: Global, sayings: &[Said<'_>]) -> Result<Option<usize>, AllocError> {
+    let mut graph = InstanceGraph::new(alloc);
+    graph.room(1)?;
+    graph.define(DylibId(0), &[(NameId(0), FLAGS)], &[true]);
+    graph.fail(UnitId(0));
+    Ok(first_unsaid(&graph, sayings))
+}
+
+#[test]
+fn an_emitted_unit_is_ready_and_told(rt: HostRuntime) -> Result<(), Fail> {
+    let before = [Said::Ready(0, false)];
+    let after = [
+        Said::Ready(0, true),
+        Said::Address(0, Some(64)),
+        Said::Told(&[0]),
+    ];
+    assert_eq!(rt; emitted_unsaid(rt.alloc(), &before, &after)?, [None, None]);
     Ok(())
 }
 
 #[test]
 fn a_failed_unit_is_told(rt: HostRuntime) -> Result<(), Fail> {
-    let mut graph = InstanceGraph::new(rt.alloc());
-    graph.room(1)?;
-    graph.define(DylibId(0), &[(NameId(0), FLAGS)], &[true]);
-    graph.fail(UnitId(0));
-    assert!(rt; graph.failed(InstId(0)));
-    assert!(rt; graph.present(InstId(0)));
-    assert!(rt; are_told(&graph, &[0]));
+    let sayings = [
+        Said::Failed(0, true),
+        Said::Present(0, true),
+        Said::Told(&[0]),
+    ];
+    assert_eq!(rt; failed_unsaid(rt.alloc(), &sayings)?, None);
     Ok(())
 }

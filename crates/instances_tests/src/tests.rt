@@ -72,7 +72,7 @@ impl UnitKind for One {
     }
 }
 
-/// Rows of so many units, as phases: `-` unsearched, `c` claimed, `r` resolved, `e` emitted, `f` failed; a
+/// The phase of a row as a letter: `-` unsearched, `c` claimed, `r` resolved, `e` emitted, `f` failed; a
 /// row that isn't present is `.`.
 fn letter(row: &InstRow) -> u8 {
     if !row.present {
@@ -87,71 +87,169 @@ fn letter(row: &InstRow) -> u8 {
     }
 }
 
-fn reads(alloc: Global, table: &Instances, letters: &[u8]) -> Result<bool, AllocError> {
-    let mut read = Vec::new(alloc);
-    for row in table.rows() {
-        read.push(letter(row))?;
+/// Whether these are the letters of the rows.
+fn reads(table: &Instances, letters: &[u8]) -> bool {
+    let rows = table.rows();
+    if rows.len() != letters.len() {
+        return false;
     }
-    Ok(read.as_slice() == letters)
+    for at in 0..rows.len() {
+        if letter(&rows[at]) != letters[at] {
+            return false;
+        }
+    }
+    true
 }
 
-/// A unit of two names, of which the first stays, and a unit of one name.
-fn two_units(alloc: Global) -> Result<Instances, AllocError>
-    ensures { IfOk result (λ t. t.units ≡ 2) }
-{
-    let mut table = Instances::new(alloc);
-    table.room(2)?;
-    table.define(
-        DylibId(0),
-        &[(NameId(0), FLAGS), (NameId(1), FLAGS)],
-        &[true, false],
-    );
-    table.room(1)?;
-    table.define(DylibId(0), &[(NameId(2), FLAGS)], &[true]);
-    Ok(table)
+/// A call on two units, or what is read of them by then.
+#[derive(Clone, Copy)]
+enum Step<'a> {
+    /// The unit of this number is claimed.
+    Claim(u32),
+    /// These instances fail.
+    Fail(&'a [InstId]),
+    /// These instances are replaced.
+    Replace(&'a [InstId]),
+    /// The unit of this number is removed.
+    Remove(u32),
+    /// The phases of the rows, a letter each.
+    Reads(&'a [u8]),
+    /// The names of the two rows.
+    Names(u32, u32),
+    /// The unsearched unit of an instance.
+    Unsearched(u32, Option<UnitId>),
+    /// The instances of the unit of this number.
+    Own(u32, &'a [InstId]),
 }
 
-/// There are two rows, of these names.
-fn are_named(rows: &[InstRow], first: NameId, second: NameId) -> bool {
-    match rows {
-        [a, b] => a.name == first && b.name == second,
-        _ => false,
+/// Two units.
+#[derive(Drop)]
+struct Two {
+    table: Instances,
+    ghost units: { table.units ≡ 2 },
+}
+
+impl Two {
+    /// A unit of two names, of which the first stays, and a unit of one name.
+    fn new(alloc: Global) -> Result<Two, AllocError> {
+        let mut table = Instances::new(alloc);
+        table.room(2)?;
+        table.define(
+            DylibId(0),
+            &[(NameId(0), FLAGS), (NameId(1), FLAGS)],
+            &[true, false],
+        );
+        table.room(1)?;
+        table.define(DylibId(0), &[(NameId(2), FLAGS)], &[true]);
+        Ok(Two { table })
     }
+
+    fn claim(&mut self, unit: u32) -> bool {
+        if unit < 2 {
+            self.table.claim(UnitId(unit));
+        }
+        unit < 2
+    }
+
+    fn fail(&mut self, hit: &[InstId]) -> bool {
+        self.table.fail(hit);
+        true
+    }
+
+    fn replace(&mut self, gone: &[InstId]) -> bool {
+        self.table.replace(gone);
+        true
+    }
+
+    fn remove(&mut self, unit: u32) -> bool {
+        if unit < 2 {
+            self.table.remove(UnitId(unit));
+        }
+        unit < 2
+    }
+
+    /// Whether there are two rows, of these names.
+    fn are_named(&self, first: u32, second: u32) -> bool {
+        match self.table.rows() {
+            [a, b] => a.name == NameId(first) && b.name == NameId(second),
+            _ => false,
+        }
+    }
+
+    /// Whether these are the unit's instances.
+    fn owns(&self, unit: u32, expected: &[InstId]) -> bool {
+        if unit >= 2 {
+            return false;
+        }
+        match self.table.own(UnitId(unit)) {
+            Ok(own) => own.as_slice() == expected,
+            Err(_) => false,
+        }
+    }
+
+    /// Whether the call is made, or that is read.
+    fn makes(&mut self, step: Step<'_>) -> bool {
+        match step {
+            Step::Claim(unit) => self.claim(unit),
+            Step::Fail(hit) => self.fail(hit),
+            Step::Replace(gone) => self.replace(gone),
+            Step::Remove(unit) => self.remove(unit),
+            Step::Reads(letters) => reads(&self.table, letters),
+            Step::Names(first, second) => self.are_named(first, second),
+            Step::Unsearched(i, unit) => self.table.unsearched_unit(InstId(i)) == unit,
+            Step::Own(unit, expected) => self.owns(unit, expected),
+        }
+    }
+}
+
+/// The number of the first step that two units don't take so, from 0 on.
+fn play(alloc: Global, steps: &[Step<'_>]) -> Result<Option<usize>, AllocError> {
+    let mut units = Two::new(alloc)?;
+    for at in 0..steps.len() {
+        if !units.makes(steps[at]) {
+            return Ok(Some(at));
+        }
+    }
+    Ok(None)
 }
 
 #[test]
 fn each_name_that_stays_has_an_instance(rt: HostRuntime) -> Result<(), Fail> {
-    let table = two_units(rt.alloc())?;
-    assert!(rt; reads(rt.alloc(), &table, b"--")?);
-    assert!(rt; are_named(table.rows(), NameId(0), NameId(2)));
-    let own = table.own(UnitId(0))?;
-    assert_eq!(rt; own.as_slice(), [InstId(0)].as_slice());
-    let own = table.own(UnitId(1))?;
-    assert_eq!(rt; own.as_slice(), [InstId(1)].as_slice());
+    let steps = [
+        Step::Reads(b"--"),
+        Step::Names(0, 2),
+        Step::Own(0, &[InstId(0)]),
+        Step::Own(1, &[InstId(1)]),
+    ];
+    assert_eq!(rt; play(rt.alloc(), &steps)?, None);
     Ok(())
 }
 
 #[test]
 fn a_claim_is_of_one_unit(rt: HostRuntime) -> Result<(), Fail> {
-    let mut table = two_units(rt.alloc())?;
-    assert_eq!(rt; table.unsearched_unit(InstId(1)), Some(UnitId(1)));
-    table.claim(UnitId(1));
-    assert!(rt; reads(rt.alloc(), &table, b"-c")?);
-    assert_eq!(rt; table.unsearched_unit(InstId(1)), None);
-    assert_eq!(rt; table.unsearched_unit(InstId(2)), None);
+    let steps = [
+        Step::Unsearched(1, Some(UnitId(1))),
+        Step::Claim(1),
+        Step::Reads(b"-c"),
+        Step::Unsearched(1, None),
+        Step::Unsearched(2, None),
+    ];
+    assert_eq!(rt; play(rt.alloc(), &steps)?, None);
     Ok(())
 }
 
 #[test]
 fn what_fails_goes_or_is_replaced(rt: HostRuntime) -> Result<(), Fail> {
-    let mut table = two_units(rt.alloc())?;
-    table.fail(&[InstId(1), InstId(7)]);
-    assert!(rt; reads(rt.alloc(), &table, b"-f")?);
-    table.replace(&[InstId(0)]);
-    assert!(rt; reads(rt.alloc(), &table, b".f")?);
-    table.remove(UnitId(1));
-    assert!(rt; reads(rt.alloc(), &table, b"..")?);
-    assert!(rt; table.own(UnitId(1))?.is_empty());
+    let steps = [
+        Step::Fail(&[InstId(1), InstId(7)]),
+        Step::Reads(b"-f"),
+        Step::Replace(&[InstId(0)]),
+        Step::Reads(b".f"),
+        Step::Remove(1),
+        Step::Reads(b".."),
+        Step::Own(1, &[]),
+    ];
+    assert_eq!(rt; play(rt.alloc(), &steps)?, None);
     Ok(())
 }
 
@@ -173,20 +271,37 @@ fn is_emitted(table: &Instances) -> bool {
     }
 }
 
-#[test]
-fn a_unit_is_resolved_and_emitted(rt: HostRuntime) -> Result<(), Fail> {
-    let alloc = rt.alloc();
+/// A group of the first instance, which depends on itself.
+fn group_of_first(alloc: Global) -> Result<Group, AllocError> {
+    Ok(Group {
+        members: Items::from_vec(vec![in alloc; InstId(0)]?),
+        deps: Items::from_vec(vec![in alloc; InstId(0)]?),
+    })
+}
+
+/// A unit of one name, claimed and resolved at 64.
+fn resolved_unit(alloc: Global) -> Result<Instances, AllocError>
+    ensures { IfOk result (λ table. table.units ≡ 1) }
+{
     let mut table = Instances::new(alloc);
     table.room(1)?;
     table.define(DylibId(0), &[(NameId(0), FLAGS)], &[true]);
     table.claim(UnitId(0));
     table.resolve(UnitId(0), &One, 64);
-    assert!(rt; reads(alloc, &table, b"r")?);
-    let group = Group {
-        members: Items::from_vec(vec![in alloc; InstId(0)]?),
-        deps: Items::from_vec(vec![in alloc; InstId(0)]?),
-    };
+    Ok(table)
+}
+
+/// Whether a unit is resolved, and emitted then.
+fn is_resolved_and_emitted(alloc: Global) -> Result<[bool; 2], AllocError> {
+    let group = group_of_first(alloc)?;
+    let mut table = resolved_unit(alloc)?;
+    let resolved = reads(&table, b"r");
     table.emit(UnitId(0), &[group])?;
-    assert!(rt; is_emitted(&table));
+    Ok([resolved, is_emitted(&table)])
+}
+
+#[test]
+fn a_unit_is_resolved_and_emitted(rt: HostRuntime) -> Result<(), Fail> {
+    assert_eq!(rt; is_resolved_and_emitted(rt.alloc())?, [true, true]);
     Ok(())
 }

@@ -15,8 +15,7 @@ use Rattle.session_model.specs.declared.entry.Reply.{Reply}
 use Rattle.session_model.specs.declared.entry.Reply.TheVariants as reply
 use Rattle.session_model.specs.declared.entry.Why.{Why}
 use Rattle.session_model.specs.declared.entry.Why.TheVariants as why
-use Rattle.session_laws.proofs.Guards.{call_cases}
-use Rattle.session_laws.proofs.Replies.{AllReplies, replies_only, replies_else}
+use Rattle.session_laws.proofs.Declared.{call_cases, AllReplies, replies_only, replies_else}
 use Rattle.journal_text.specs.Events.{KnownEvent, KnownWhy}
 use Rattle.journal_text.specs.Journal.{KnownEntry, AreKnown}
 use Rattle.journal_text.specs.Replies.{KnownReply}

@@ -39,9 +39,7 @@ use Rattle.session_model.specs.declared.rows.Match.{Match}
 use Rattle.session_model.specs.declared.rows.Match.TheVariants.{Instance, Offered}
 use Rattle.session_model.specs.declared.rows.Verdict.{Verdict}
 use Rattle.session_model.specs.declared.rows.Verdict.TheVariants.{Kept, Replaces, Discarded, Clashes}
-use Rattle.session_laws.proofs.Guards.{call_cases}
-use Rattle.session_laws.proofs.Replies.{AllReplies, replies_map, replies_only, replies_first, replies_or, replies_else}
-use Rattle.session_laws.proofs.Settling.{chosen}
+use Rattle.session_laws.proofs.Declared.{call_cases, AllReplies, replies_map, replies_only, replies_first, replies_or, replies_else, chosen}
 use Rattle.journal_text.specs.Parts.{IsGiven}
 use Rattle.journal_text.specs.Replies.{KnownReply}
 use Rattle.journal_names.specs.Laws.{HasKnownNames, HandsInKnown}

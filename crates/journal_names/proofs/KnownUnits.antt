@@ -19,10 +19,8 @@ use Rattle.session_model.specs.declared.entry.Event.TheVariants as event
 use Rattle.session_model.specs.declared.entry.Reply.{Reply}
 use Rattle.session_model.specs.declared.entry.Reply.TheVariants as reply
 use Rattle.session_model.specs.declared.rows.Verdict.{Verdict}
-use Rattle.session_laws.proofs.Elements.{changed_cases, pushed_cases, mapped_parts, numbered_parts}
-use Rattle.session_laws.proofs.Settling.{chosen}
-use Rattle.closure_laws.proofs.Fields.{is_define, IsNew, HasFields, change_fields, settled_fields}
-use Rattle.closure_laws.proofs.Homing.{same_frame, claims_frame, settled_frame}
+use Rattle.session_laws.proofs.Declared.{changed_cases, pushed_cases, mapped_parts, numbered_parts, chosen}
+use Rattle.closure_laws.proofs.Declared.{is_define, IsNew, HasFields, change_fields, settled_fields, same_frame, claims_frame, settled_frame}
 use Rattle.journal_names.specs.Laws.{HasKnownNames, HandsInKnown}
 
 abbrev UnitsKnown : List (List ℕ) → List UnitRow → Type 0

@@ -19,7 +19,7 @@ use Rattle.session_model.specs.declared.entry.Reply.{Reply}
 use Rattle.session_model.specs.declared.entry.Reply.TheVariants as reply
 use Rattle.session_model.specs.declared.rows.Job.{Job}
 use Rattle.session_model.specs.declared.rows.Job.TheVariants as job
-use Rattle.session_laws.proofs.Ending.{end_is_unique}
+use Rattle.session_laws.proofs.Declared.{end_is_unique}
 use Rattle.journal_reading.specs.Laws.{shown_reply, shown}
 
 -- Replies whose text hides something

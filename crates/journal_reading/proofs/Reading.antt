@@ -9,7 +9,7 @@ use Rattle.session_model.specs.Meaning.{Meaning}
 use Rattle.session_model.specs.Plain.{empty}
 use Rattle.session_model.specs.State.{state}
 use Rattle.session_model.specs.declared.entry.Entry.{Entry}
-use Rattle.session_laws.proofs.Along.{one_more_legal}
+use Rattle.session_laws.proofs.Declared.{one_more_legal}
 use Rattle.journal_text.specs.Events.{event_text}
 use Rattle.journal_text.specs.Journal.{line_of, lines_from}
 use Rattle.journal_text.specs.Replies.{reply_text}

@@ -34,10 +34,11 @@ place_kept (x ∷ old) (y ∷ new) text i keeps c =
       | inr f ↦ rw (same, f) (place_kept old new text (i + 1) (λ number text there. keeps (suc number) text there) (among_rest text x old f c))
     ]
 
-name_kept : (old new : List (List ℕ)) (text : List ℕ) → KeepsNumbers old new → Contains old text → name_number old text ≡ name_number new text
+pub name_kept : (old new : List (List ℕ)) (text : List ℕ) → KeepsNumbers old new → Contains old text → name_number old text ≡ name_number new text
 name_kept old new text keeps c = ap (λ (k : Option ℕ). option_map (λ k. record { 0 = k }) k) (place_kept old new text 0 keeps c)
 
-either_kept : (global : Bool) (a b : Option NameId) → (global ≡ true → a ≡ b) → cond global a None ≡ cond global b None
+-- a name that is numbered at all
+pub either_kept : (global : Bool) (a b : Option NameId) → (global ≡ true → a ≡ b) → cond global a None ≡ cond global b None
 either_kept true a b h = h refl
 either_kept false a b h = refl
 

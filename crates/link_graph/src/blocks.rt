@@ -6,6 +6,7 @@ use crate::cuts::Cuts;
 use elf_read::{ElfObject, Section, SymPlace, Symbol};
 use link_model::Block;
 use orc_ids::Bytes;
+use shared_bytes::SharedBytes;
 use std::alloc::{AllocError, Global};
 
 /// Whether the place is that of a common symbol.
@@ -32,8 +33,8 @@ fn rest(bytes: &[u8], from: u64) -> &[u8]
     &bytes[start..]
 }
 
-/// The bytes that lie in no cut.
-fn kept_bytes(alloc: Global, bytes: &[u8], cuts: &Cuts) -> Result<Bytes, AllocError>
+/// A copy of the bytes that lie in no cut.
+fn uncut_parts(alloc: Global, bytes: &[u8], cuts: &Cuts) -> Result<Bytes, AllocError>
     ensures exact { IfOk result (λ kept. kept ≡ kept_bytes 0 cuts.now bytes.now) }
     ensures kept { IfOk result (λ kept. Keeps cuts.now bytes.now kept) }
 {
@@ -47,21 +48,32 @@ fn kept_bytes(alloc: Global, bytes: &[u8], cuts: &Cuts) -> Result<Bytes, AllocEr
     Ok(Bytes::from_vec(kept))
 }
 
+/// The bytes that lie in no cut. Where nothing is cut, none is copied.
+fn kept_bytes(alloc: Global, bytes: &SharedBytes, cuts: &Cuts) -> Result<SharedBytes, AllocError>
+    ensures exact { IfOk result (λ kept. kept ≡ kept_bytes 0 cuts.now bytes.now) }
+    ensures kept { IfOk result (λ kept. Keeps cuts.now bytes.now kept) }
+{
+    if cuts.as_slice().is_empty() {
+        return bytes.share();
+    }
+    SharedBytes::from_bytes(alloc, uncut_parts(alloc, bytes.as_slice(), cuts)?)
+}
+
 fn block_of_section(alloc: Global, s: &Section, cuts: &Cuts) -> Result<Block, AllocError>
     ensures { IfOk result (λ block. block ≡ section_block (trimmed_by cuts.now s.now)) }
 {
     Ok(Block {
-        bytes: kept_bytes(alloc, s.bytes.as_slice(), cuts)?,
+        bytes: kept_bytes(alloc, &s.bytes, cuts)?,
         size: cuts.moved(s.size),
         align: cuts.raised(s.align),
     })
 }
 
-fn block_of_common(alloc: Global, s: &Symbol) -> Block
+fn block_of_common(s: &Symbol) -> Block
     ensures { result ≡ common_block s.now }
 {
     Block {
-        bytes: Bytes::new(alloc),
+        bytes: SharedBytes::empty(),
         size: s.size,
         align: s.value,
     }
@@ -83,12 +95,12 @@ fn section_blocks(
 }
 
 /// Adds a block for each common symbol.
-fn add_commons(alloc: Global, blocks: &mut Vec<Block>, symbols: &[Symbol]) -> Result<(), AllocError>
+fn add_commons(blocks: &mut Vec<Block>, symbols: &[Symbol]) -> Result<(), AllocError>
     ensures { OnOk result (blocks.new.items ≡ blocks.old.items ++ map common_block (common_symbols symbols.now)) }
 {
     for symbol in symbols {
         if in_common(symbol.place) {
-            blocks.push(block_of_common(alloc, symbol))?;
+            blocks.push(block_of_common(symbol))?;
         }
     }
     Ok(())
@@ -104,6 +116,6 @@ pub(crate) fn all_blocks(
     ensures { IfOk result (λ blocks. blocks.items ≡ blocks_of (trimmed o.now)) }
 {
     let mut blocks = section_blocks(alloc, o.sections.as_slice(), cuts)?;
-    add_commons(alloc, &mut blocks, o.symbols.as_slice())?;
+    add_commons(&mut blocks, o.symbols.as_slice())?;
     Ok(blocks)
 }

@@ -55,6 +55,14 @@ fn add_edges(
     Ok(())
 }
 
+/// How many relocations the sections have: at least as many as edges.
+fn reloc_count(sections: &[Section]) -> usize {
+    sections.iter().fold(
+        0,
+        |count: usize, section| count.saturating_add(section.relocs.as_slice().len()),
+    )
+}
+
 /// The edges of the sections after deletion.
 pub(crate) fn all_edges(
     alloc: Global,
@@ -65,7 +73,7 @@ pub(crate) fn all_edges(
     requires same { cuts.now ≡ all_cuts sections.now }
     ensures { IfOk result (λ edges. edges.items ≡ trimmed_edges 0 sections.now) }
 {
-    let mut edges = Vec::new(alloc);
+    let mut edges = Vec::with_capacity(alloc, reloc_count(sections))?;
     for (block, section) in sections.iter().enumerate() {
         add_edges(&mut edges, block as u32, section, &cuts[block])?;
     }

@@ -137,7 +137,7 @@ pub(crate) fn all_symbols(
     ensures only { AddsNamesOf symbols.now names.old names.new }
     ensures err { IfErr result (λ why. why ≡ NoMemory) }
 {
-    let mut made = Vec::new(alloc);
+    let mut made = Vec::with_capacity(alloc, symbols.len())?;
     let mut common = first_common;
     for s in symbols {
         let name = number_of(names, s)?;
@@ -159,7 +159,7 @@ pub(crate) fn all_places(
     requires { first_common + length symbols.now < 2 ^ 32 }
     ensures { IfOk result (λ places. places.items ≡ graph_places first_common (map (trimmed_symbol cuts.now) symbols.now)) }
 {
-    let mut places = Vec::new(alloc);
+    let mut places = Vec::with_capacity(alloc, symbols.len())?;
     let mut common = first_common;
     for s in symbols {
         places.push(place_in_graph(s, common, cuts))?;

@@ -1,9 +1,10 @@
 use elf_read::read_object;
 use link_graph::{GraphError, graph_of};
-use link_model::{Edge, GPlace, LinkGraph};
+use link_model::{Block, Edge, GPlace, GSym, LinkGraph};
 use orc_ids::{NameId, Place};
 use orc_names::Names;
-use std::alloc::Global;
+use std::alloc::{AllocError, Global};
+use std::process::Abort;
 use std::test::Fail;
 
 /// What an assembler makes of `examples/hello.s`.
@@ -65,6 +66,17 @@ const PADDED: [u8; 664] = [
     0, 0, 0, 0, 0, 0, 0, 0, 0, 0,
 ];
 
+/// A file with some bytes changed.
+fn changed(alloc: Global, file: &[u8], changes: &[(usize, u8)]) -> Result<Vec<u8>, AllocError> {
+    let mut bytes = file.to_vec(alloc)?;
+    for (at, value) in changes {
+        if let Some(byte) = bytes.get_mut(*at) {
+            *byte = *value;
+        }
+    }
+    Ok(bytes)
+}
+
 /// What is answered to a file with some bytes changed.
 fn answer(
     alloc: Global,
@@ -72,53 +84,107 @@ fn answer(
     changes: &[(usize, u8)],
     names: &mut Names,
 ) -> Result<Result<LinkGraph, GraphError>, Fail> {
-    let mut bytes = file.to_vec(alloc)?;
-    for &(at, value) in changes {
-        if at < bytes.len() {
-            bytes[at] = value;
+    let bytes = changed(alloc, file, changes)?;
+    let object = read_object(alloc, bytes.as_slice())?;
+    Ok(graph_of(alloc, &object, names))
+}
+
+/// The graph of a file with some bytes changed.
+fn graph(alloc: Global, file: &[u8], changes: &[(usize, u8)]) -> Result<LinkGraph, Fail> {
+    let mut names = Names::new(alloc);
+    Ok(answer(alloc, file, changes, &mut names)??)
+}
+
+/// The graph of a file, where one name was interned earlier.
+fn graph_after_a_name(alloc: Global, file: &[u8]) -> Result<LinkGraph, Fail> {
+    let mut names = Names::new(alloc);
+    names.intern(b"earlier")?;
+    Ok(answer(alloc, file, &[], &mut names)??)
+}
+
+/// A block that is made.
+#[derive(Clone, Copy)]
+struct BlockRow<'a> {
+    bytes: &'a [u8],
+    size: u64,
+    align: u64,
+}
+
+/// The number of the first block that is not that of the table.
+fn other_block(blocks: &[Block], rows: &[BlockRow<'_>]) -> Option<usize> {
+    for (number, (block, row)) in blocks.iter().zip(rows).enumerate() {
+        if block.bytes.as_slice() != row.bytes
+            || block.size != row.size
+            || block.align != row.align
+        {
+            return Some(number);
         }
     }
-    let object = read_object(alloc, &bytes)?;
-    Ok(graph_of(alloc, &object, names))
+    if blocks.len() == rows.len() {
+        None
+    } else {
+        Some(rows.len())
+    }
+}
+
+/// The number of the first symbol whose place and name are not those of the table.
+fn other_symbol(symbols: &[GSym], rows: &[(GPlace, Option<NameId>)]) -> Option<usize> {
+    for (number, (symbol, (place, name))) in symbols.iter().zip(rows).enumerate() {
+        if symbol.place != *place || symbol.name != *name {
+            return Some(number);
+        }
+    }
+    if symbols.len() == rows.len() {
+        None
+    } else {
+        Some(rows.len())
+    }
+}
+
+/// The last symbol is offered to other units.
+fn is_last_exported(symbols: &[GSym]) -> bool {
+    match symbols {
+        [.., last] => last.flags.exported,
+        [] => false,
+    }
 }
 
 #[test]
 fn the_blocks_of_the_file(rt: HostRuntime) -> Result<(), Fail> {
-    let alloc = rt.alloc();
-    let mut names = Names::new(alloc);
-    let graph = answer(alloc, &HELLO, &[], &mut names)??;
-    let blocks = graph.blocks.as_slice();
-    assert_eq!(rt; blocks.len(), 2);
-    assert_eq!(rt; blocks[0].bytes.as_slice(), &HELLO[64..100]);
-    assert_eq!(rt; blocks[0].size, 36);
-    assert_eq!(rt; blocks[0].align, 4);
-    assert_eq!(rt; blocks[1].bytes.as_slice(), b"hello\n".as_slice());
+    let graph = graph(rt.alloc(), &HELLO, &[])?;
+    let rows = [
+        BlockRow {
+            bytes: &HELLO[64..100],
+            size: 36,
+            align: 4,
+        },
+        BlockRow {
+            bytes: b"hello\n",
+            size: 6,
+            align: 1,
+        },
+    ];
+    assert_eq!(rt; other_block(graph.blocks.as_slice(), &rows), None);
     Ok(())
 }
 
 #[test]
 fn the_symbols_of_the_file(rt: HostRuntime) -> Result<(), Fail> {
-    let alloc = rt.alloc();
-    let mut names = Names::new(alloc);
-    names.intern(b"earlier")?;
-    let graph = answer(alloc, &HELLO, &[], &mut names)??;
-    let symbols = graph.symbols.as_slice();
-    assert_eq!(rt; symbols.len(), 4);
-    assert_eq!(rt; symbols[0].place, GPlace::Abs(0));
-    assert_eq!(rt; symbols[1].place, GPlace::In(0, 4));
-    assert_eq!(rt; symbols[2].place, GPlace::In(1, 0));
-    assert_eq!(rt; symbols[2].name, None);
-    assert_eq!(rt; symbols[3].place, GPlace::In(0, 0));
-    assert_eq!(rt; symbols[3].name, Some(NameId(1)));
-    assert!(rt; symbols[3].flags.exported);
+    let graph = graph_after_a_name(rt.alloc(), &HELLO)?;
+    let rows = [
+        (GPlace::Abs(0), None),
+        (GPlace::In(0, 4), None),
+        (GPlace::In(1, 0), None),
+        (GPlace::In(0, 0), Some(NameId(1))),
+    ];
+    assert_eq!(rt; other_symbol(graph.symbols.as_slice(), &rows), None);
+    assert!(rt; is_last_exported(graph.symbols.as_slice()));
     Ok(())
 }
 
 #[test]
 fn the_edges_of_the_file(rt: HostRuntime) -> Result<(), Fail> {
-    let alloc = rt.alloc();
-    let mut names = Names::new(alloc);
-    let graph = answer(alloc, &HELLO, &[], &mut names)??;
+    let graph = graph(rt.alloc(), &HELLO, &[])?;
     let low = Edge {
         block: 0,
         offset: 8,
@@ -153,31 +219,39 @@ fn is_refused(
     Ok(answered.err() == Some(why) && names.is_empty())
 }
 
+/// A file with some bytes changed, and why it is refused.
+type Refusal<'a> = (&'a [(usize, u8)], GraphError);
+
+/// The file is refused with the changes of each row.
+fn expect_refused(
+    rt: &impl Abort,
+    alloc: Global,
+    file: &[u8],
+    rows: &[Refusal<'_>],
+) -> Result<(), Fail> {
+    for (number, (changes, why)) in rows.iter().enumerate() {
+        assert!(rt; is_refused(alloc, file, changes, *why)?, "row {number}");
+    }
+    Ok(())
+}
+
 #[test]
 fn refuses_a_changed_relocation(rt: HostRuntime) -> Result<(), Fail> {
-    let alloc = rt.alloc();
-    let unknown = GraphError::UnknownReloc(60, at(4));
-    assert!(rt; is_refused(alloc, &HELLO, &[(120, 0x3c)], unknown)?);
-    let outside = GraphError::RelocOutside(at(34));
-    assert!(rt; is_refused(alloc, &HELLO, &[(112, 0x22)], outside)?);
-    Ok(())
+    let rows: [Refusal<'_>; 2] = [
+        (&[(120, 0x3c)], GraphError::UnknownReloc(60, at(4))),
+        (&[(112, 0x22)], GraphError::RelocOutside(at(34))),
+    ];
+    expect_refused(&rt, rt.alloc(), &HELLO, &rows)
 }
 
 #[test]
 fn refuses_a_changed_symbol(rt: HostRuntime) -> Result<(), Fail> {
-    let alloc = rt.alloc();
-    let thread_local = GraphError::TlsOrIfunc(2);
-    assert!(rt; is_refused(alloc, &HELLO, &[(212, 0x06)], thread_local)?);
-    let unpaired = GraphError::BadPair(at(8));
-    assert!(rt; is_refused(alloc, &HELLO, &[(148, 0x02)], unpaired)?);
-    assert!(rt; is_refused(alloc, &HELLO, &[(120, 0x2b)], unpaired)?);
-    Ok(())
-}
-
-/// The graph of the padded file with some bytes changed.
-fn padded(alloc: Global, changes: &[(usize, u8)]) -> Result<LinkGraph, Fail> {
-    let mut names = Names::new(alloc);
-    Ok(answer(alloc, &PADDED, changes, &mut names)??)
+    let rows: [Refusal<'_>; 3] = [
+        (&[(212, 0x06)], GraphError::TlsOrIfunc(2)),
+        (&[(148, 0x02)], GraphError::BadPair(at(8))),
+        (&[(120, 0x2b)], GraphError::BadPair(at(8))),
+    ];
+    expect_refused(&rt, rt.alloc(), &HELLO, &rows)
 }
 
 /// Where the section's alignment stands, and the place and addend of its ALIGN, the place of its jump,
@@ -198,25 +272,34 @@ const TARGET_VALUE: usize = 176;
 
 const ALIGN: u8 = 43;
 
+/// The only block is the padded section without 4 bytes of its padding.
+fn is_without_padding(blocks: &[Block]) -> bool {
+    match blocks {
+        [block] => {
+            block.bytes.as_slice().get(..16) == Some(&PADDED[64..80])
+                && block.bytes.as_slice().get(16..) == Some(&PADDED[84..92])
+                && block.size == 24
+                && block.align == 16
+        }
+        _ => false,
+    }
+}
+
 #[test]
 fn deletes_padding(rt: HostRuntime) -> Result<(), Fail> {
-    let alloc = rt.alloc();
     for section_align in [8, 16] {
-        let graph = padded(alloc, &[(SECTION_ALIGN, section_align)])?;
-        let blocks = graph.blocks.as_slice();
-        assert_eq!(rt; blocks.len(), 1);
-        assert_eq!(rt; blocks[0].bytes.as_slice().get(..16), Some(&PADDED[64..80]));
-        assert_eq!(rt; blocks[0].bytes.as_slice().get(16..), Some(&PADDED[84..92]));
-        assert_eq!(rt; blocks[0].size, 24);
-        assert_eq!(rt; blocks[0].align, 16);
+        let graph = graph(rt.alloc(), &PADDED, &[(SECTION_ALIGN, section_align)])?;
+        assert!(rt;
+            is_without_padding(graph.blocks.as_slice()),
+            "{section_align}"
+        );
     }
     Ok(())
 }
 
 #[test]
 fn moves_what_follows_padding(rt: HostRuntime) -> Result<(), Fail> {
-    let alloc = rt.alloc();
-    let graph = padded(alloc, &[])?;
+    let graph = graph(rt.alloc(), &PADDED, &[])?;
     let align = Edge {
         block: 0,
         offset: 8,
@@ -232,63 +315,67 @@ fn moves_what_follows_padding(rt: HostRuntime) -> Result<(), Fail> {
         ..align
     };
     assert_eq!(rt; graph.edges.as_slice(), [align, jump].as_slice());
-    let symbols = graph.symbols.as_slice();
-    assert_eq!(rt; symbols.len(), 3);
-    assert_eq!(rt; symbols[1].place, GPlace::In(0, 20));
-    let inside = padded(alloc, &[(TARGET_VALUE, 18)])?;
-    assert_eq!(rt;
-        inside.symbols.as_slice().get(1).map(|s| s.place),
-        Some(GPlace::In(0, 16))
-    );
+    Ok(())
+}
+
+/// The place of the jump's target, the second of three symbols, where some bytes of the padded file are
+/// changed.
+fn target(alloc: Global, changes: &[(usize, u8)]) -> Result<Option<GPlace>, Fail> {
+    let graph = graph(alloc, &PADDED, changes)?;
+    match graph.symbols.as_slice() {
+        [_, target, _] => Ok(Some(target.place)),
+        _ => Ok(None),
+    }
+}
+
+#[test]
+fn moves_symbols_with_padding(rt: HostRuntime) -> Result<(), Fail> {
+    assert_eq!(rt; target(rt.alloc(), &[])?, Some(GPlace::In(0, 20)));
+    let inside = target(rt.alloc(), &[(TARGET_VALUE, 18)])?;
+    assert_eq!(rt; inside, Some(GPlace::In(0, 16)));
     Ok(())
 }
 
 #[test]
 fn refuses_changed_padding(rt: HostRuntime) -> Result<(), Fail> {
-    let alloc = rt.alloc();
-    // an end past the section, a boundary above 4,096, a negative addend
-    assert!(rt;
-        is_refused(
-            alloc,
-            &PADDED,
-            &[(ALIGN_ADDEND, 24)],
-            GraphError::NeedsAlign(at(8))
-        )?
-    );
-    assert!(rt;
-        is_refused(
-            alloc,
-            &PADDED,
-            &[(ALIGN_ADDEND + 1, 16)],
-            GraphError::NeedsAlign(at(8))
-        )?
-    );
-    assert!(rt;
-        is_refused(
-            alloc,
-            &PADDED,
-            &[(ALIGN_ADDEND + 7, 0x80)],
-            GraphError::NeedsAlign(at(8))
-        )?
-    );
-    // less padding than is needed: 7 bytes lead from 9 to 16
-    let short = [(ALIGN_AT, 9), (ALIGN_ADDEND, 4)];
-    assert!(rt; is_refused(alloc, &PADDED, &short, GraphError::NeedsAlign(at(9)))?);
-    // a second ALIGN inside the padding of the first
-    let inside = [(JUMP_AT, 16), (JUMP_KIND, ALIGN), (JUMP_ADDEND, 4)];
-    assert!(rt; is_refused(alloc, &PADDED, &inside, GraphError::NeedsAlign(at(16)))?);
-    Ok(())
+    let rows: [Refusal<'_>; 5] = [
+        // an end past the section, a boundary above 4,096, a negative addend
+        (&[(ALIGN_ADDEND, 24)], GraphError::NeedsAlign(at(8))),
+        (&[(ALIGN_ADDEND + 1, 16)], GraphError::NeedsAlign(at(8))),
+        (&[(ALIGN_ADDEND + 7, 0x80)], GraphError::NeedsAlign(at(8))),
+        // less padding than is needed: 7 bytes lead from 9 to 16
+        (
+            &[(ALIGN_AT, 9), (ALIGN_ADDEND, 4)],
+            GraphError::NeedsAlign(at(9)),
+        ),
+        // a second ALIGN inside the padding of the first
+        (
+            &[(JUMP_AT, 16), (JUMP_KIND, ALIGN), (JUMP_ADDEND, 4)],
+            GraphError::NeedsAlign(at(16)),
+        ),
+    ];
+    expect_refused(&rt, rt.alloc(), &PADDED, &rows)
+}
+
+/// The place of the second edge where the jump's place is changed.
+fn jump_at(alloc: Global, place: u8) -> Result<Option<u64>, Fail> {
+    let graph = graph(alloc, &PADDED, &[(JUMP_AT, place)])?;
+    Ok(graph.edges.as_slice().get(1).map(|e| e.offset))
 }
 
 #[test]
 fn refuses_relocations_of_deleted_bytes(rt: HostRuntime) -> Result<(), Fail> {
-    let alloc = rt.alloc();
     for place in 13..20_u8 {
         let why = GraphError::RelocOutside(at(place as u64));
-        assert!(rt; is_refused(alloc, &PADDED, &[(JUMP_AT, place)], why)?);
+        let refused = is_refused(rt.alloc(), &PADDED, &[(JUMP_AT, place)], why)?;
+        assert!(rt; refused, "{place}");
     }
-    let graph = padded(alloc, &[(JUMP_AT, 12)])?;
-    assert_eq!(rt; graph.edges.as_slice().get(1).map(|e| e.offset), Some(12));
+    Ok(())
+}
+
+#[test]
+fn takes_a_relocation_of_the_last_bytes_before(rt: HostRuntime) -> Result<(), Fail> {
+    assert_eq!(rt; jump_at(rt.alloc(), 12)?, Some(12));
     Ok(())
 }
 
@@ -303,15 +390,20 @@ const NOTHING: [u8; 200] = [
     0, 0, 0, 0, 0, 0, 0, 0, 0, 0, 0, 0, 0,
 ];
 
-#[test]
-fn memory_is_enough_for_the_graph_of_nothing(rt: HostRuntime) -> Result<(), Fail> {
-    let alloc = rt.alloc();
+/// The file has no block, no edge, one symbol, and no name.
+fn is_nothing(alloc: Global) -> Result<bool, Fail> {
     let mut names = Names::new(alloc);
     let graph = answer(alloc, &NOTHING, &[], &mut names)??;
-    assert!(rt; graph.blocks.as_slice().is_empty());
-    assert!(rt; graph.edges.as_slice().is_empty());
-    assert_eq!(rt; graph.symbols.as_slice().len(), 1);
-    assert_eq!(rt; graph.symbols.as_slice()[0].place, GPlace::Abs(0));
-    assert!(rt; names.is_empty());
+    Ok(
+        graph.blocks.as_slice().is_empty()
+            && graph.edges.as_slice().is_empty()
+            && other_symbol(graph.symbols.as_slice(), &[(GPlace::Abs(0), None)]).is_none()
+            && names.is_empty(),
+    )
+}
+
+#[test]
+fn memory_is_enough_for_the_graph_of_nothing(rt: HostRuntime) -> Result<(), Fail> {
+    assert!(rt; is_nothing(rt.alloc())?);
     Ok(())
 }

@@ -1,9 +1,10 @@
-use orc_ids::{Bytes, Items, NameId, Shape, SymFlags};
+use orc_ids::{Items, NameId, Shape, SymFlags};
+use shared_bytes::SharedBytes;
 
 /// A block: the contents of one section, or one common symbol. Empty bytes stand for zeros.
 #[derive(Debug, Drop)]
 pub struct Block {
-    pub bytes: Bytes,
+    pub bytes: SharedBytes,
     /// In bytes; the bytes are this many, or none.
     pub size: u64,
     /// A power of two.

@@ -1,11 +1,8 @@
 -- An alias that was given its address may be emitted.
-use Rattle.std.proofs.Common.{◌≡◌, ℕ, ◌+◌, ◌<◌, ◌^◌, Bool, true, false, List, [], ◌∷◌, ◌++◌, length, map, slice_get, refl, sym, ap, subst, ◌∙◌, arith, Option, Some, None, is_some, unwrap_or}
+use Rattle.std.proofs.Common.{◌≡◌, ℕ, ◌+◌, ◌<◌, ◌^◌, Bool, List, [], ◌∷◌, ◌++◌, length, map, slice_get, refl, sym, ap, subst, ◌∙◌, arith, Some, None, unwrap_or}
 use Rattle.std.specs.Bool.{if◌then◌else◌}
-use Rattle.std.specs.Prelude.{IfSome}
 use Rattle.std.specs.Option.{option_map_or}
-use Rattle.std.proofs.lemmas.Bool.{both_ways}
 use Rattle.std.proofs.lemmas.Option.{none-some}
-use Rattle.orc_ids.specs.declared.ids.DylibId.{DylibId}
 use Rattle.orc_ids.specs.declared.ids.InstId.{InstId}
 use Rattle.orc_ids.specs.declared.ids.SeatNo.{SeatNo}
 use Rattle.orc_ids.specs.declared.ids.UnitId.{UnitId}
@@ -22,15 +19,11 @@ use Rattle.session_model.specs.declared.entry.Event.TheVariants as event
 use Rattle.session_model.specs.declared.entry.Reply.TheVariants as reply
 use Rattle.session_model.specs.declared.rows.InstRow.{InstRow}
 use Rattle.session_laws.specs.Holding.{AllOthers}
-use Rattle.session_laws.proofs.Along.{state_from_push}
-use Rattle.session_laws.proofs.Elements.{changed_some, same_element}
-use Rattle.session_laws.proofs.Guards.{call_cases}
-use Rattle.session_laws.proofs.Invariant.{sound_changed}
-use Rattle.session_laws.proofs.Settling.{settled_rows}
-use Rattle.closure_laws.proofs.Histories.{OneMore, one_more}
-use Rattle.execution_session.specs.Finish.{IsFinish}
+use Rattle.session_laws.proofs.Declared.{state_from_push, changed_some, same_element, call_cases, sound_changed, settled_rows}
+use Rattle.closure_laws.proofs.Declared.{OneMore, one_more, lawful_alias}
+use Rattle.session_steps.specs.Finish.{IsFinish}
 use Rattle.execution_session.specs.Holding.{IsFinished}
-use Rattle.execution_session.specs.Performs.{state_of}
+use Rattle.session_steps.specs.Performs.{state_of}
 use Rattle.execution_session.specs.declared.holding.Finished.{Finished}
 use Rattle.holder_laws.specs.Conditions.{MayEmit}
 use Rattle.holder_laws.specs.Holders.{Holds, WasHeld}
@@ -45,13 +38,6 @@ use Rattle.link_worker.specs.declared.job.Job.{Job}
 use Rattle.link_worker.proofs.Turning.{Found, TurnOf, found, legal_after, number_is, seen_plain}
 
 -- Aliases
-
-as_alias : (u : Meaning) → IsLawful u → is_some u.source ≡ true → IsAlias u
-as_alias u lawful = by (u.source) lawful.alias
-  where
-    by : (o : Option DylibId) → IfSome o (λ d. IsAlias u) → is_some o ≡ true → IsAlias u
-    by None a e = absurd (both_ways false refl e)
-    by (Some d) a e = a
 
 none_of : {X : Type 0} (xs : List X) → length xs ≡ 0 → xs ≡ []
 none_of [] e = refl
@@ -155,14 +141,14 @@ module _ {U : Type 0} (means : U → Meaning) (jmax : ℕ) where
 
       g : IsFinished z.meaning z.live (unwrap_or z.base 0) (unwrap_or z.bound []) (own_rows u.0 0 n.rows) made
       g = as_row (means job.taken.share) z.meaning job.taken.live z.live (unwrap_or z.base 0) job.bound (unwrap_or z.bound []) job.taken.instances (own_rows u.0 0 n.rows) made meaning_is live_is bound_is own_is
-          (at_any_base (means job.taken.share) knows.lawful (as_alias (means job.taken.share) knows.lawful knows.alias) job.taken.live (unwrap_or job.taken.base 0) (unwrap_or z.base 0) job.bound job.taken.instances made finished)
+          (at_any_base (means job.taken.share) knows.lawful (lawful_alias (means job.taken.share) knows.lawful knows.alias) job.taken.live (unwrap_or job.taken.base 0) (unwrap_or z.base 0) job.bound job.taken.instances made finished)
 
   alias_low : (job : Job U) (m : Plain) → MayResolve means m job → unwrap_or job.taken.base 0 < 2 ^ 62
   alias_low job m knows = subst (λ o. unwrap_or o 0 < 2 ^ 62) (sym knows.unbased) (omega arith)
 
   -- an alias has no edge
   pub alias_refuses_none : (job : Job U) (m : Plain) → MayResolve means m job → own_refusal means job ≡ None
-  alias_refuses_none job m knows = (as_alias (means job.taken.share) knows.lawful knows.alias).refusal job.taken.live (unwrap_or job.taken.base 0) job.bound
+  alias_refuses_none job m knows = (lawful_alias (means job.taken.share) knows.lawful knows.alias).refusal job.taken.live (unwrap_or job.taken.base 0) job.bound
 
   -- An alias that was resolved by its seat may be emitted by it.
   pub alias_finishes : (v w : View (Entry U)) (job : Job U) → MayResolve means (state_of means v.seen) job → (does : List (Entry U) → List (Entry U) → Type 0) (t : TurnOf means jmax v w does) →

@@ -34,28 +34,27 @@ use Rattle.session_model.specs.declared.entry.Event.TheVariants as event
 use Rattle.session_model.specs.declared.entry.Reply.{Reply}
 use Rattle.session_model.specs.declared.entry.Reply.TheVariants as reply
 use Rattle.session_model.specs.declared.rows.Query.{Query}
-use Rattle.session_laws.proofs.Elements.{pushed_last}
-use Rattle.session_laws.proofs.Replies.{AllReplies, replies_else, replies_first, replies_only, replies_or}
-use Rattle.session_laws.proofs.Settling.{chosen}
+use Rattle.session_laws.proofs.Declared.{pushed_last, AllReplies, replies_else, replies_first, replies_only, replies_or, chosen}
 use Rattle.notifiers.specs.Notices.{Told}
 use Rattle.notifiers.specs.declared.notice.Notice.{Notice}
 use Rattle.notifiers.specs.declared.notice.Unheard.{Unheard}
 use Rattle.note_laws.specs.Notes.{AreTold, event_note}
 use Rattle.note_laws.proofs.Unlodged.{Lodges, entry_lodges, unstirred}
 use Rattle.turn_lock.specs.declared.view.View.{View}
-use Rattle.execution_session.specs.Fires.{is_lodged}
-use Rattle.execution_session.specs.Lookups.{BacksNotifier}
-use Rattle.execution_session.specs.Performs.{Performs}
+use Rattle.session_steps.specs.Fires.{is_lodged}
+use Rattle.session_steps.specs.Lookups.{BacksNotifier}
+use Rattle.session_steps.specs.Performs.{Performs}
 use Rattle.shared_session.specs.Does.{Tells, seat}
 use Rattle.seat_calls.specs.Did.{Did, Nothing, Promise, Single}
 use Rattle.seat_calls.proofs.Doing.{nothing_is_done}
 use Rattle.seat_calls.proofs.Numbers.{taken_start}
 use Rattle.link_worker.specs.Does.{Does}
 use Rattle.link_worker.specs.Jobs.{IsCause, SpareAll}
-use Rattle.link_worker.specs.Looks.{Asking, EndsAs, HasAwaited, HasLooked, HasSettled, IsAsked, IsLodgedBy, LastIs, end_stopped, has_lodged, is_ask, left_of, lookup_of, offered_in}
+use Rattle.look_ends.specs.Ends.{EndsAs, LastIs}
+use Rattle.link_worker.specs.Looks.{Asking, HasAwaited, HasLooked, HasSettled, IsAsked, IsLodgedBy, end_stopped, has_lodged, is_ask, left_of, lookup_of, offered_in}
 use Rattle.link_worker.specs.Works.{IsFree}
-use Rattle.link_worker.specs.declared.looking.LookEnd.{LookEnd}
-use Rattle.link_worker.specs.declared.looking.LookEnd.TheVariants as end
+use Rattle.look_ends.specs.declared.look_end.LookEnd.{LookEnd}
+use Rattle.look_ends.specs.declared.look_end.LookEnd.TheVariants as end
 use Rattle.link_worker.proofs.Collecting.{one_lacks}
 use Rattle.link_worker.proofs.Freeing.{ask_untaken, free_after, generate_untaken}
 use Rattle.link_worker.proofs.Sparing.{spare_both, spare_none, spare_one}

@@ -12,12 +12,11 @@ use Rattle.session_model.specs.declared.entry.Entry.{Entry}
 use Rattle.session_model.specs.declared.entry.Event.TheVariants as event
 use Rattle.session_model.specs.declared.entry.Reply.TheVariants as reply
 use Rattle.session_model.specs.declared.rows.Query.{Query}
-use Rattle.session_laws.proofs.Elements.{same_element}
-use Rattle.session_laws.proofs.Ending.{query_stays}
-use Rattle.session_laws.proofs.Readying.{state_from_joined}
+use Rattle.session_laws.proofs.Declared.{same_element, query_stays, state_from_joined}
 use Rattle.turn_lock.specs.declared.view.View.{View}
 use Rattle.link_worker.specs.Jobs.{SpareAll, is_cut_fail}
-use Rattle.link_worker.specs.Looks.{LastIs, Waits}
+use Rattle.look_ends.specs.Ends.{LastIs}
+use Rattle.link_worker.specs.Looks.{Waits}
 use Rattle.link_worker.specs.Works.{OneJobAtMost}
 use Rattle.link_worker.proofs.Knowing.{Between}
 use Rattle.link_worker.proofs.Sparing.{spare_both, spare_one}

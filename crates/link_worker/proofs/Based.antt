@@ -12,9 +12,8 @@ use Rattle.session_model.specs.State.{state}
 use Rattle.session_model.specs.declared.entry.Entry.{Entry}
 use Rattle.session_model.specs.declared.rows.Verdict.{Verdict}
 use Rattle.session_laws.specs.Placements.{AreApart}
-use Rattle.session_laws.proofs.Ranges.{placements_lie_apart}
-use Rattle.session_laws.proofs.Moving.{Moves, Stays, Loses, Claims, Starts, Finishes, Places, Resolves, Waits, Links, Emits, Fails, Goes, Changes, Leaves, Runs, Here, On, UnitsMove, change_moves, settled_run, Doing, Other, doing_of}
-use Rattle.closure_laws.proofs.Histories.{kept_by_changes}
+use Rattle.session_laws.proofs.Declared.{placements_lie_apart, Moves, Stays, Loses, Claims, Starts, Finishes, Places, Resolves, Waits, Links, Emits, Fails, Goes, Changes, Leaves, Runs, Here, On, UnitsMove, change_moves, settled_run, Doing, Other, doing_of}
+use Rattle.closure_laws.proofs.Declared.{kept_by_changes}
 
 -- what has a base is an alias, or needs memory
 abbrev IsBased : UnitRow → Type 0

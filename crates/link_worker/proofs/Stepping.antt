@@ -19,16 +19,15 @@ use Rattle.session_model.specs.declared.entry.Reply.{Reply}
 use Rattle.session_model.specs.declared.entry.Reply.TheVariants as reply
 use Rattle.session_model.specs.declared.entry.Why.{Why}
 use Rattle.session_model.specs.declared.entry.Why.TheVariants as why
-use Rattle.session_laws.proofs.Ending.{entries_are}
-use Rattle.session_laws.proofs.Placing.{kept_within}
+use Rattle.session_laws.proofs.Declared.{entries_are, kept_within}
 use Rattle.notifiers.specs.Notices.{AreHeard, Told, outcomes}
 use Rattle.notifiers.specs.declared.notice.Notice.{Notice}
 use Rattle.note_laws.specs.Notes.{AreTold}
 use Rattle.note_laws.specs.Laws.{may_settle}
 use Rattle.note_laws.proofs.Unlodged.{unstirred}
 use Rattle.turn_lock.specs.declared.view.View.{View}
-use Rattle.execution_session.specs.Handed.{IsLowest}
-use Rattle.execution_session.specs.Performs.{Performs, IsStopped, state_of}
+use Rattle.session_steps.specs.Handed.{IsLowest}
+use Rattle.session_steps.specs.Performs.{Performs, IsStopped, state_of}
 use Rattle.shared_session.specs.Does.{seat, HolderIsAnswered, Tells, TellsAlways}
 use Rattle.materialization.specs.Laws.{HasReason, IsLeft, GoesOn, may_stop}
 use Rattle.materialization.specs.Rest.{IsCall, Has, Rest}

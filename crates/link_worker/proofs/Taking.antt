@@ -20,13 +20,12 @@ use Rattle.session_model.specs.declared.entry.Reply.{Reply}
 use Rattle.session_model.specs.declared.entry.Reply.TheVariants as reply
 use Rattle.session_model.specs.declared.entry.Why.TheVariants as why
 use Rattle.session_model.specs.declared.rows.UnitPhase.TheVariants as phase
-use Rattle.session_laws.proofs.Elements.{same_element}
-use Rattle.closure_laws.proofs.Histories.{OneMore, one_more}
-use Rattle.closure_laws.proofs.OwnRows.{units_fit}
-use Rattle.execution_session.specs.Gives.{MayFail}
-use Rattle.execution_session.specs.Performs.{state_of}
-use Rattle.execution_session.specs.Taken.{IsUnitOf}
-use Rattle.execution_session.specs.declared.jobs.TakenUnit.{TakenUnit}
+use Rattle.session_laws.proofs.Declared.{same_element}
+use Rattle.closure_laws.proofs.Declared.{OneMore, one_more, units_fit}
+use Rattle.session_steps.specs.Gives.{MayFail}
+use Rattle.session_steps.specs.Performs.{state_of}
+use Rattle.session_steps.specs.Taken.{IsUnitOf}
+use Rattle.session_steps.specs.declared.jobs.TakenUnit.{TakenUnit}
 use Rattle.execution_session.proofs.HeldCalls.{finishes_itself}
 use Rattle.holder_laws.proofs.Calling.{right_parts}
 use Rattle.turn_lock.specs.declared.view.View.{View}

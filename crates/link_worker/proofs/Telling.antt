@@ -15,9 +15,9 @@ use Rattle.session_model.specs.declared.entry.Entry.{Entry}
 use Rattle.session_model.specs.declared.entry.Event.{Event}
 use Rattle.session_model.specs.declared.entry.Event.TheVariants as event
 use Rattle.session_model.specs.declared.entry.Reply.{Reply}
-use Rattle.execution_session.specs.Handed.{IsLowest}
+use Rattle.session_steps.specs.Handed.{IsLowest}
 use Rattle.closure_laws.specs.Quiet.{stirs}
-use Rattle.closure_laws.proofs.Unstirred.{quiet_settles_none}
+use Rattle.closure_laws.proofs.Declared.{quiet_settles_none}
 use Rattle.notifiers.specs.Notices.{AreHeard, Told}
 use Rattle.notifiers.specs.declared.notice.Notice.{Notice}
 use Rattle.note_laws.specs.Notes.{AreTold}
@@ -54,6 +54,10 @@ is_placing e = false
 abbrev pub IsPlacedLowest : Plain → Event Meaning → Reply → Type 0
 IsPlacedLowest m e r = (u : UnitId) (shape : Shape) → e ≡ event.Place u shape → IsLowest m shape r
 
+-- the same of a call of a history
+abbrev pub IsCalledLowest : List (Entry Meaning) → ℕ × Entry Meaning → Type 0
+IsCalledLowest h c = IsPlacedLowest (state (take (c.0 - 1) h)) c.1.event c.1.reply
+
 -- what is no place places nothing
 pub places_nothing : (m : Plain) (e : Event Meaning) (r : Reply) → is_placing e ≡ false → IsPlacedLowest m e r
 places_nothing m e r other u shape is = absurd (both_ways (is_placing e) other (ap is_placing is))
@@ -67,20 +71,20 @@ pub places_there : (m : Plain) (u : UnitId) (shape : Shape) (r : Reply) → IsLo
 places_there m u shape r lowest v other is = subst (λ s. IsLowest m s r) (ap (shape_in shape) is) lowest
 
 -- no call
-lowest_none : (h : List (Entry Meaning)) → PlacesLowest h []
-lowest_none h = All-nil (λ (c : ℕ × Entry Meaning). IsPlacedLowest (state (take (c.0 - 1) h)) c.1.event c.1.reply)
+pub lowest_none : (h : List (Entry Meaning)) → PlacesLowest h []
+lowest_none h = All-nil (IsCalledLowest h)
 
 -- one call, at the lowest base of the history before it
 one_lowest : (before : List (Entry Meaning)) (e : Entry Meaning) → IsPlacedLowest (state before) e.event e.reply → (h : List (Entry Meaning)) → take (length before) h ≡ before → PlacesLowest h ((length before + 1, e) ∷ [])
 one_lowest before e lowest h starts =
     let last : length before + 1 - 1 ≡ length before = omega arith in
     let same : take (length before + 1 - 1) h ≡ before = ap (λ k. take k h) last ∙ starts in
-    All-cons (λ (c : ℕ × Entry Meaning). IsPlacedLowest (state (take (c.0 - 1) h)) c.1.event c.1.reply) (length before + 1, e) []
+    All-cons (IsCalledLowest h) (length before + 1, e) []
     (λ u shape is. subst (λ l. IsLowest (state l) shape e.reply) (sym same) (lowest u shape is)) (lowest_none h)
 
 -- two lists of calls
 lowest_both : (h : List (Entry Meaning)) (cs ds : List (ℕ × Entry Meaning)) → PlacesLowest h cs → PlacesLowest h ds → PlacesLowest h (cs ++ ds)
-lowest_both h cs ds a b = All-append (λ (c : ℕ × Entry Meaning). IsPlacedLowest (state (take (c.0 - 1) h)) c.1.event c.1.reply) cs ds a b
+lowest_both h cs ds a b = All-append (IsCalledLowest h) cs ds a b
 
 module _ {U N : Type 0} (means : U → Meaning) (hears : N → Option Outcome) where
   -- a promise, and what is said of all calls: these were told at them, and what they placed is at the lowest base

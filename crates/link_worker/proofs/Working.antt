@@ -3,7 +3,7 @@ use Rattle.std.proofs.Common.{◌≡◌, ℕ, ◌+◌, ◌≤◌, ◌⊎◌, Boo
 use Rattle.std.specs.Prelude.{IfSome, is_none, nat_eq}
 use Rattle.std.proofs.lemmas.Bool.{both_ways, cases_Bool, eqb-true, eqb-false, ltb-true}
 use Rattle.std.proofs.lemmas.List.{map-append}
-use Rattle.std.proofs.lemmas.List.Elements.{All-append, All-nil}
+use Rattle.std.proofs.lemmas.List.Elements.{All-nil}
 use Rattle.std.proofs.lemmas.Option.{none-some}
 use Rattle.orc_ids.specs.declared.ids.UnitId.{UnitId}
 use Rattle.orc_ids.specs.declared.lookup.Outcome.{Outcome}
@@ -22,14 +22,13 @@ use Rattle.session_model.specs.declared.entry.Reply.{Reply}
 use Rattle.session_model.specs.declared.entry.Reply.TheVariants as reply
 use Rattle.session_model.specs.declared.rows.Job.{Job as ListedJob}
 use Rattle.session_model.specs.declared.rows.Job.TheVariants as listed
-use Rattle.session_laws.proofs.Ending.{entries_are}
-use Rattle.session_laws.proofs.Placing.{kept_within}
+use Rattle.session_laws.proofs.Declared.{entries_are, kept_within}
 use Rattle.notifiers.specs.declared.notice.Notice.{Notice}
 use Rattle.turn_lock.specs.declared.view.View.{View}
 use Rattle.turn_lock.specs.Lists.{StartsWith}
-use Rattle.execution_session.specs.Performs.{state_of}
-use Rattle.execution_session.specs.Taken.{IsUnitOf}
-use Rattle.execution_session.specs.declared.jobs.TakenUnit.{TakenUnit}
+use Rattle.session_steps.specs.Performs.{state_of}
+use Rattle.session_steps.specs.Taken.{IsUnitOf}
+use Rattle.session_steps.specs.declared.jobs.TakenUnit.{TakenUnit}
 use Rattle.shared_session.specs.Does.{HandsOut}
 use Rattle.materialization.specs.Rest.{HoldsNone, Rest}
 use Rattle.materialization.specs.Stages.{stopped}
@@ -50,11 +49,6 @@ use Rattle.link_worker.proofs.Sparing.{spare_both, spare_none}
 use Rattle.link_worker.proofs.Taking.{does_open, has_first}
 use Rattle.link_worker.proofs.Telling.{does_both, does_none}
 use Rattle.link_worker.proofs.Turning.{Found, TurnOf, found, seen_is, number_is, no_call}
-
--- Lists of calls
-
-calls_of : List (ℕ × Entry Meaning) → List (Entry Meaning)
-calls_of cs = map (λ c. c.1) cs
 
 -- what comes after two lists of calls
 after_both : (P : List (Entry Meaning) → Type 0) (cs ds : List (ℕ × Entry Meaning)) (es : List (Entry Meaning)) → P (map (λ c. c.1) cs ++ (map (λ c. c.1) ds ++ es)) → P (map (λ c. c.1) (cs ++ ds) ++ es)

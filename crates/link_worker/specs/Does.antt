@@ -1,5 +1,5 @@
 -- What a pass did by one or more calls: its promise about them, who was told at them, and where they placed.
-use Rattle.std.specs.Prelude.{◌≡◌, ℕ, ◌-◌, List, [], ◌∷◌, ◌++◌, take, All, Option}
+use Rattle.std.specs.Prelude.{◌≡◌, ℕ, ◌-◌, List, ◌++◌, take, All, Option}
 use Rattle.orc_ids.specs.declared.ids.UnitId.{UnitId}
 use Rattle.orc_ids.specs.declared.lookup.Outcome.{Outcome}
 use Rattle.orc_ids.specs.declared.place.Shape.{Shape}
@@ -7,17 +7,12 @@ use Rattle.session_model.specs.Meaning.{Meaning}
 use Rattle.session_model.specs.State.{state}
 use Rattle.session_model.specs.declared.entry.Entry.{Entry}
 use Rattle.session_model.specs.declared.entry.Event.TheVariants as event
-use Rattle.execution_session.specs.Handed.{IsLowest}
+use Rattle.session_steps.specs.Handed.{IsLowest}
 use Rattle.notifiers.specs.Notices.{AreHeard}
 use Rattle.notifiers.specs.declared.notice.Notice.{Notice}
-use Rattle.note_laws.specs.Notes.{AreTold}
+pub use Rattle.note_laws.specs.Notes.{ToldAt, Nobody, Call}
 use Rattle.turn_lock.specs.declared.view.View.{View}
 use Rattle.seat_calls.specs.Did.{Did, Promise}
-
--- at each of these calls of the history these notices were told: those of the queries that settle there
-pub data ToldAt {N : Type 0} (h : List (Entry Meaning)) : List (ℕ × Entry Meaning) → List (Notice N) → Type 0 where
-  Nobody : ToldAt h [] []
-  Call : (n : ℕ) (e : Entry Meaning) (cs : List (ℕ × Entry Meaning)) (now later : List (Notice N)) → AreTold (take n h) now → ToldAt h cs later → ToldAt h ((n, e) ∷ cs) (now ++ later)
 
 -- a unit that a call placed is placed at the lowest base that was free
 abbrev pub PlacesLowest : List (Entry Meaning) → List (ℕ × Entry Meaning) → Type 0

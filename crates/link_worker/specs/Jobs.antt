@@ -16,12 +16,12 @@ use Rattle.session_model.specs.declared.entry.Reply.TheVariants as reply
 use Rattle.session_model.specs.declared.entry.Why.TheVariants as why
 use Rattle.notifiers.specs.declared.notice.Notice.{Notice}
 use Rattle.turn_lock.specs.declared.view.View.{View}
-use Rattle.execution_session.specs.Gives.{MayFail}
+use Rattle.session_steps.specs.Gives.{MayFail}
 use Rattle.execution_session.specs.Holding.{IsFinished}
-use Rattle.execution_session.specs.Performs.{state_of}
-use Rattle.execution_session.specs.Taken.{IsUnitOf}
+use Rattle.session_steps.specs.Performs.{state_of}
+use Rattle.session_steps.specs.Taken.{IsUnitOf}
 use Rattle.execution_session.specs.declared.holding.Finished.{Finished}
-use Rattle.execution_session.specs.declared.jobs.TakenUnit.{TakenUnit}
+use Rattle.session_steps.specs.declared.jobs.TakenUnit.{TakenUnit}
 use Rattle.holder_laws.specs.Conditions.{MayEmit}
 use Rattle.materialization.specs.Laws.{HasReason}
 use Rattle.materialization.specs.Rest.{Has, Rest}

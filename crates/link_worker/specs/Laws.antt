@@ -7,7 +7,7 @@ use Rattle.session_model.specs.declared.entry.Entry.{Entry}
 use Rattle.session_model.specs.declared.entry.Event.{Event}
 use Rattle.session_model.specs.declared.entry.Event.TheVariants as event
 use Rattle.session_model.specs.declared.entry.Reply.{Reply}
-use Rattle.execution_session.specs.Performs.{Performs}
+use Rattle.session_steps.specs.Performs.{Performs}
 use Rattle.turn_lock.specs.declared.view.View.{View}
 use Rattle.turn_lock.specs.Passes.{Turned}
 use Rattle.shared_session.specs.Does.{seat}

@@ -1,5 +1,5 @@
 -- What a lookup has done, while it goes on and at its end.
-use Rattle.std.specs.Prelude.{◌≡◌, ℕ, ◌≤◌, ◌&&◌, Bool, true, false, List, [], ◌∷◌, ◌++◌, length, slice_get, take, Option, Some, None, option_map, if◌then◌else◌}
+use Rattle.std.specs.Prelude.{◌≡◌, ℕ, ◌≤◌, ◌&&◌, Bool, true, false, List, ◌++◌, length, slice_get, take, Option, Some, None, option_map, if◌then◌else◌}
 use Rattle.std.specs.List.{list_any}
 use Rattle.orc_ids.specs.declared.ids.GenId.{GenId}
 use Rattle.orc_ids.specs.declared.ids.QueryId.{QueryId}
@@ -18,15 +18,16 @@ use Rattle.session_model.specs.declared.entry.Event.TheVariants as event
 use Rattle.session_model.specs.declared.entry.Reply.{Reply}
 use Rattle.session_model.specs.declared.entry.Reply.TheVariants as reply
 use Rattle.session_model.specs.declared.rows.Query.{Query}
-use Rattle.execution_session.specs.Fires.{is_lodged}
+use Rattle.session_steps.specs.Fires.{is_lodged}
 use Rattle.notifiers.specs.declared.notice.Notice.{Notice}
 use Rattle.notifiers.specs.declared.notice.Unheard.{Unheard}
 use Rattle.turn_lock.specs.declared.view.View.{View}
+use Rattle.look_ends.specs.Ends.{EndsAs}
 use Rattle.link_worker.specs.Does.{Does}
 use Rattle.link_worker.specs.Jobs.{SpareAll}
 use Rattle.link_worker.specs.Works.{WasStopped}
-use Rattle.link_worker.specs.declared.looking.LookEnd.{LookEnd}
-use Rattle.link_worker.specs.declared.looking.LookEnd.TheVariants.{Found, Failed, InError, Missing, NoDylib, JournalFull, NoMemory}
+use Rattle.look_ends.specs.declared.look_end.LookEnd.{LookEnd}
+use Rattle.look_ends.specs.declared.look_end.LookEnd.TheVariants.{Found, Failed, InError, Missing, NoDylib, JournalFull, NoMemory}
 
 -- what is looked up, with the note of the notifier
 abbrev pub lookup_of : {N : Type 0} → List OrderItem → List Wanted → Level → Option (Unheard N) → Lookup
@@ -43,24 +44,6 @@ has_lodged cs = list_any (λ c. is_ask c.1.event && is_lodged c.1.reply) cs
 -- what is left of the notifier
 abbrev pub left_of : {N : Type 0} → Option (Unheard N) → List (ℕ × Entry Meaning) → Option (Unheard N)
 left_of then' cs = if has_lodged cs then None else then'
-
--- the last call was answered so
-pub record LastIs (cs : List (ℕ × Entry Meaning)) (r : Reply) : Type 0 where
-  pub before : List (ℕ × Entry Meaning)
-  pub number : ℕ
-  pub entry : Entry Meaning
-  pub are : cs ≡ before ++ (number, entry) ∷ []
-  pub reply : entry.reply ≡ r
-
--- the lookup ended as its last call was answered; or it was stopped
-abbrev pub EndsAs : LookEnd → List (ℕ × Entry Meaning) → Type 0
-EndsAs (Found matches) cs = (at : ℕ) × LastIs cs (reply.Found at matches)
-EndsAs (Failed i) cs = (at : ℕ) × LastIs cs (reply.Lost at i)
-EndsAs (InError i) cs = LastIs cs (reply.InError i)
-EndsAs (Missing name) cs = LastIs cs (reply.Missing name)
-EndsAs (NoDylib d) cs = LastIs cs (reply.NoDylib d)
-EndsAs (JournalFull len) cs = ⊥
-EndsAs NoMemory cs = ⊥
 
 -- Calls after which the names are asked for again: each generator that they were offered was used.
 pub record Asking (l : Lookup) (h : List (Entry Meaning)) (cs : List (ℕ × Entry Meaning)) : Type 0 where

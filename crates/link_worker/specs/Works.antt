@@ -11,8 +11,8 @@ use Rattle.session_model.specs.declared.entry.Reply.{Reply}
 use Rattle.notifiers.specs.declared.notice.Notice.{Notice}
 use Rattle.turn_lock.specs.declared.view.View.{View}
 use Rattle.turn_lock.specs.Lists.{StartsWith}
-use Rattle.execution_session.specs.Performs.{state_of}
-use Rattle.execution_session.specs.declared.jobs.TakenUnit.{TakenUnit}
+use Rattle.session_steps.specs.Performs.{state_of}
+use Rattle.session_steps.specs.declared.jobs.TakenUnit.{TakenUnit}
 use Rattle.materialization.specs.Rest.{HoldsNone, Rest}
 use Rattle.materialization.specs.declared.stage.Stage.{Stage}
 use Rattle.materialization.specs.declared.stage.Stage.TheVariants as stage

@@ -18,6 +18,6 @@ mod work;
 pub use assisting::assist;
 pub use job::Job;
 pub use laws::free_stays;
-pub use looking::{LookEnd, Looked, lookup};
+pub use looking::{Looked, lookup};
 pub use unit::{FinishError, LinkedUnit};
 pub use work::{Worked, work_one};

@@ -8,34 +8,15 @@ ghost use Rattle.link_worker.specs.Works.{IsFree};
 use crate::unit::LinkedUnit;
 use crate::work::{Worked, work_one};
 use execution_session::Asked;
+use look_ends::LookEnd;
 use notifiers::{Armed, FiredList};
-use orc_ids::{DylibId, GenId, InstId, Level, NameId, OrderItem, QueryId, Stop, Wanted};
+use orc_ids::{GenId, Level, OrderItem, QueryId, Stop, Wanted};
 use orc_io::{Gate, Notify};
-use session_model::{Matches, Reply};
+use session_model::Reply;
 use shared_session::{Ask, Collect, Generate, Pass, Shared};
 use std::alloc::Global;
 use std::sync::Wait;
 use std::thread;
-
-/// How a lookup ended.
-#[derive(Drop)]
-pub enum LookEnd {
-    /// All names have come to the level: for each its instance and address, or none for one that is
-    /// weakly referenced and has no match.
-    Found(Matches),
-    /// This instance failed or was removed first.
-    Failed(InstId),
-    /// This one had failed before.
-    InError(InstId),
-    /// There is no match for this name.
-    Missing(NameId),
-    /// The order names this dylib, which doesn't exist.
-    NoDylib(DylibId),
-    /// A call found no place in the journal, which had so many entries.
-    JournalFull(u64),
-    /// A call wanted memory.
-    NoMemory,
-}
 
 /// What came of a lookup, with its notifier where no query was lodged for it.
 pub struct Looked<N: Notify> {
@@ -43,15 +24,13 @@ pub struct Looked<N: Notify> {
     pub back: Option<Armed<N>>,
 }
 
-impl LookEnd {
-    /// The end of a lookup of which a call was stopped.
-    fn stopped(stop: Stop) -> LookEnd
-        ensures { result ≡ end_stopped stop }
-    {
-        match stop {
-            Stop::JournalFull(len) => LookEnd::JournalFull(len),
-            Stop::NoMemory => LookEnd::NoMemory,
-        }
+/// The end of a lookup of which a call was stopped.
+fn end_stopped(stop: Stop) -> LookEnd
+    ensures { result ≡ end_stopped stop }
+{
+    match stop {
+        Stop::JournalFull(len) => LookEnd::JournalFull(len),
+        Stop::NoMemory => LookEnd::NoMemory,
     }
 }
 
@@ -100,7 +79,7 @@ fn await_end<U: LinkedUnit, N: Notify, G: Gate, R: Wait, const JMAX: usize>(
                     return end;
                 }
             }
-            Err(stop) => return LookEnd::stopped(stop),
+            Err(stop) => return end_stopped(stop),
         }
         match work_one(rt, alloc, shared, pass, gate, fired) {
             Worked::Did => {}
@@ -179,7 +158,7 @@ pub fn lookup<U: LinkedUnit, N: Notify, G: Gate, R: Wait, const JMAX: usize>(
             Ok(reply) => match offered_in(&reply) {
                 Some(generator) => {
                     if let Err(stop) = shared.perform(rt, pass, Generate { generator }) {
-                        let end = LookEnd::stopped(stop);
+                        let end = end_stopped(stop);
                         return Looked { end, back };
                     }
                     then = back;
@@ -190,7 +169,7 @@ pub fn lookup<U: LinkedUnit, N: Notify, G: Gate, R: Wait, const JMAX: usize>(
                 }
             },
             Err(stop) => {
-                let end = LookEnd::stopped(stop);
+                let end = end_stopped(stop);
                 return Looked { end, back };
             }
         }

@@ -23,9 +23,9 @@ use Rattle.seat_calls.specs.Did.{Did, Promise}
 use Rattle.seat_calls.proofs.Numbers.{starts_again}
 use Rattle.link_worker.specs.Does.{PlacesLowest}
 use Rattle.link_worker.specs.Jobs.{SpareAll, is_cut_fail}
-use Rattle.link_worker.specs.Looks.{LastIs}
-use Rattle.link_worker.specs.declared.looking.LookEnd.{LookEnd}
-use Rattle.link_worker.specs.declared.looking.LookEnd.TheVariants as look
+use Rattle.look_ends.specs.Ends.{LastIs}
+use Rattle.look_ends.specs.declared.look_end.LookEnd.{LookEnd}
+use Rattle.look_ends.specs.declared.look_end.LookEnd.TheVariants as look
 use Rattle.program_names.specs.Programs.{setup_events}
 use Rattle.run_laws.specs.Ended.{Ended, InDefinition, InSetUp, InLookup, NotThere, NotReady, IsReady, IsRefusedAt, IsRun, NoneIsCut, is_cut, is_whole}
 use Rattle.run_laws.specs.Laws.{EndsLookup}

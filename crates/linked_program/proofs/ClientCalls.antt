@@ -3,30 +3,27 @@ use Rattle.std.proofs.Common.{◌≡◌, ℕ, ◌-◌, Bool, true, false, List, 
 use Rattle.std.proofs.lemmas.Bool.{both_ways}
 use Rattle.std.proofs.lemmas.List.Elements.{All-append, All-cons, All-nil}
 use Rattle.orc_ids.specs.declared.ids.NameId.{NameId}
-use Rattle.orc_ids.specs.declared.ids.UnitId.{UnitId}
 use Rattle.orc_ids.specs.declared.lookup.Outcome.{Outcome}
 use Rattle.orc_ids.specs.declared.lookup.Stop.{Stop}
 use Rattle.orc_ids.specs.declared.lookup.Stop.TheVariants as stop
-use Rattle.orc_ids.specs.declared.place.Shape.{Shape}
 use Rattle.code_memory.specs.declared.image.Segment.{Segment}
 use Rattle.session_model.specs.Calls.{IsStopped, Looks}
 use Rattle.session_model.specs.Meaning.{Meaning, Bindings}
 use Rattle.session_model.specs.State.{state}
 use Rattle.session_model.specs.declared.entry.Entry.{Entry}
-use Rattle.session_model.specs.declared.entry.Event.TheVariants as event
-use Rattle.execution_session.specs.Handed.{IsLowest}
 use Rattle.notifiers.specs.declared.notice.Notice.{Notice}
 use Rattle.notifiers.specs.declared.notice.Unheard.{Unheard}
 use Rattle.turn_lock.specs.declared.view.View.{View}
 use Rattle.seat_calls.specs.Did.{Did, Nothing, Then}
 use Rattle.seat_calls.proofs.Doing.{less_is_done, parts_are_done}
 use Rattle.link_worker.specs.Does.{Does, PlacesLowest, ToldAt}
-use Rattle.link_worker.specs.Looks.{EndsAs, HasLooked, end_stopped, left_of}
-use Rattle.link_worker.specs.declared.looking.LookEnd.{LookEnd}
-use Rattle.link_worker.specs.declared.looking.LookEnd.TheVariants as end
+use Rattle.look_ends.specs.Ends.{EndsAs}
+use Rattle.link_worker.specs.Looks.{HasLooked, end_stopped, left_of}
+use Rattle.look_ends.specs.declared.look_end.LookEnd.{LookEnd}
+use Rattle.look_ends.specs.declared.look_end.LookEnd.TheVariants as end
 use Rattle.link_worker.specs.Jobs.{SpareAll, is_cut_fail}
 use Rattle.link_worker.proofs.Sparing.{spare_both, spare_one}
-use Rattle.link_worker.proofs.Telling.{is_placing, places_nothing}
+use Rattle.link_worker.proofs.Telling.{is_placing, places_nothing, IsCalledLowest}
 use Rattle.link_worker.proofs.Working.{stopped_since}
 use Rattle.run_laws.specs.Runs.{lookup_of}
 use Rattle.linked_program.specs.Clients.{Begins, Copies, Ends, IsClient, LookedUp, found_in}
@@ -51,10 +48,6 @@ module _ {U N : Type 0} (means : U → Meaning) (heard : N → Option Outcome) (
     looked_up (end.NoDylib d) has = found_end (end.NoDylib d) has
     looked_up (end.JournalFull len) has = (stopped_end has.0, has.1)
     looked_up end.NoMemory has = stopped_end has
-
--- what a call placed is at the lowest base
-abbrev Lowest : List (Entry Meaning) → ℕ × Entry Meaning → Type 0
-Lowest h c = (u : UnitId) (shape : Shape) → c.1.event ≡ event.Place u shape → IsLowest (state (take (c.0 - 1) h)) shape c.1.reply
 
 -- a lookup that was found
 abbrev is_ok : {A B : Type 0} → Result A B → Bool
@@ -86,8 +79,8 @@ module _ {U : Type 0} (means : U → Meaning) (jmax : ℕ) (entry : NameId) (v x
         ends = t.3.1;
         copies = copy.3;
         has = copy.4;
-        lowest = subst (PlacesLowest h) (sym are) (All-append (Lowest h) t.0 ((copy.0, copy.1) ∷ []) t.3.2
-            (All-cons (Lowest h) (copy.0, copy.1) [] (places_nothing (state (take (copy.0 - 1) h)) copy.1.event copy.1.reply (subst (λ f. is_placing f ≡ false) (sym copy.3) refl)) (All-nil (Lowest h))));
+        lowest = subst (PlacesLowest h) (sym are) (All-append (IsCalledLowest h) t.0 ((copy.0, copy.1) ∷ []) t.3.2
+            (All-cons (IsCalledLowest h) (copy.0, copy.1) [] (places_nothing (state (take (copy.0 - 1) h)) copy.1.event copy.1.reply (subst (λ f. is_placing f ≡ false) (sym copy.3) refl)) (All-nil (IsCalledLowest h))));
         spare = subst SpareAll (sym are) (spare_both t.0 ((copy.0, copy.1) ∷ []) t.3.3 (spare_one copy.0 copy.1 (ap is_cut_fail copy.3)));
       }
 

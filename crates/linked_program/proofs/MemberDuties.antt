@@ -4,15 +4,15 @@ use Rattle.std.specs.Prelude.{if◌then◌else◌, ◌==◌, option_to_list}
 use Rattle.std.proofs.lemmas.Bool.{eq-eqb, eqb-true, ne_eqb}
 use Rattle.std.proofs.lemmas.List.{length_push}
 use Rattle.std.proofs.lemmas.Option.{slice_get_within}
-use Rattle.session_laws.proofs.Elements.{pushed_cases}
+use Rattle.session_laws.proofs.Declared.{pushed_cases}
 use Rattle.orc_ids.specs.declared.ids.NameId.{NameId}
 use Rattle.code_memory.specs.declared.image.Segment.{Segment}
 use Rattle.session_model.specs.Meaning.{Meaning}
 use Rattle.session_model.specs.declared.entry.Entry.{Entry}
 use Rattle.turn_lock.specs.declared.view.View.{View}
 use Rattle.shared_session.specs.Home.{seat_of}
-use Rattle.link_worker.specs.declared.looking.LookEnd.{LookEnd}
-use Rattle.link_worker.specs.declared.looking.LookEnd.TheVariants as look
+use Rattle.look_ends.specs.declared.look_end.LookEnd.{LookEnd}
+use Rattle.look_ends.specs.declared.look_end.LookEnd.TheVariants as look
 use Rattle.crew.specs.Crew.{HaveWorked, IsKept, Says, WasDone}
 use Rattle.crew.proofs.Worked.{all_at, some_there}
 use Rattle.linked_program.specs.Clients.{IsClient}

@@ -24,7 +24,7 @@ use Rattle.session_model.specs.declared.entry.Reply.{Reply}
 use Rattle.session_model.specs.declared.entry.Reply.TheVariants as reply
 use Rattle.session_model.specs.declared.rows.Verdict.{Verdict}
 use Rattle.session_model.specs.declared.rows.Verdict.TheVariants.{Clashes}
-use Rattle.execution_session.specs.Performs.{Performs, state_of}
+use Rattle.session_steps.specs.Performs.{Performs, state_of}
 use Rattle.turn_lock.specs.declared.view.View.{View}
 use Rattle.shared_session.specs.Does.{Keeps, seat}
 use Rattle.link_worker.proofs.Turning.{TurnOf}

@@ -8,15 +8,15 @@ use Rattle.session_model.specs.Meaning.{Meaning, Bindings}
 use Rattle.session_model.specs.State.{state}
 use Rattle.session_model.specs.declared.entry.Entry.{Entry}
 use Rattle.session_model.specs.declared.entry.Event.TheVariants as event
-use Rattle.execution_session.specs.Handed.{IsMemory}
+use Rattle.session_steps.specs.Handed.{IsMemory}
 use Rattle.turn_lock.specs.declared.view.View.{View}
 use Rattle.seat_calls.specs.Did.{Did, Promise}
 use Rattle.link_worker.specs.Does.{PlacesLowest}
 use Rattle.link_worker.specs.Jobs.{SpareAll}
-use Rattle.link_worker.specs.Looks.{EndsAs}
+use Rattle.look_ends.specs.Ends.{EndsAs}
 use Rattle.link_worker.specs.Works.{WasStopped}
-use Rattle.link_worker.specs.declared.looking.LookEnd.{LookEnd}
-use Rattle.link_worker.specs.declared.looking.LookEnd.TheVariants.{Found, JournalFull, NoMemory}
+use Rattle.look_ends.specs.declared.look_end.LookEnd.{LookEnd}
+use Rattle.look_ends.specs.declared.look_end.LookEnd.TheVariants.{Found, JournalFull, NoMemory}
 use Rattle.run_laws.specs.Runs.{lookup_of}
 use Rattle.linked_program.specs.declared.client.ClientEnd.{ClientEnd}
 

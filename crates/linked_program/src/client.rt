@@ -6,7 +6,8 @@ ghost use Rattle.link_worker.specs.Works.{IsFree};
 ghost use Rattle.linked_program.specs.Clients.{IsClientOf, LookedUp, found_in};
 
 use code_memory::Image;
-use link_worker::{LinkedUnit, LookEnd, Looked, lookup};
+use link_worker::{LinkedUnit, Looked, lookup};
+use look_ends::LookEnd;
 use notifiers::FiredList;
 use orc_ids::{DylibId, Level, NameId, OrderItem, Scope, Stop, Wanted};
 use orc_io::{Gate, Note};

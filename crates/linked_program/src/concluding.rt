@@ -3,7 +3,7 @@ ghost use Rattle.linked_program.specs.Ends.{Concludes, ConcludesClient, IsFoundA
 
 use crate::client::ClientEnd;
 use code_memory::Image;
-use link_worker::LookEnd;
+use look_ends::LookEnd;
 use orc_ids::Stop;
 use run_laws::Linked;
 use session_model::Matches;

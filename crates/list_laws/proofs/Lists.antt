@@ -1,5 +1,5 @@
 -- Elements of lists by number: of lists that are longer at the end, mapped, or changed at a place.
-use Rattle.std.proofs.Common.{◌≡◌, ℕ, zero, suc, ◌+◌, ◌<◌, ◌≤◌, ◌⊎◌, inl, inr, cond, Bool, ◌==◌, List, [], ◌∷◌, ◌++◌, map, take, drop, set, get_or, length, slice_get, Some, None, option_map, refl, ap, ap₂, sym, ◌∙◌, add-one, get_or-set_same, get_or-set_other, arith}
+use Rattle.std.proofs.Common.{◌≡◌, ℕ, zero, suc, ◌+◌, ◌<◌, ◌≤◌, ◌⊎◌, inl, inr, cond, Bool, ◌==◌, List, [], ◌∷◌, ◌++◌, map, take, drop, set, get_or, length, slice_get, Some, None, option_map, refl, ap, ap₂, sym, ◌∙◌, add-one, get_or-set_same, get_or-set_other, arith, unwrap_or}
 use Rattle.std.proofs.lemmas.Bool.{cases_eq, eq-eqb, ne_eqb}
 use Rattle.std.proofs.lemmas.List.{take_more}
 use Rattle.std.proofs.lemmas.Option.{none-some, same_Some, slice_get-map, slice_get-get_or, slice_get_within, get_or_from_slice_get}
@@ -69,6 +69,13 @@ appended_cases {X} (x ∷ xs) ys (suc i) y e = split (appended_cases xs ys i y e
 pub pushed_last : {X : Type 0} (xs : List X) (x : X) → slice_get (xs ++ x ∷ []) (length xs) ≡ Some x
 pushed_last [] x = refl
 pushed_last (y ∷ ys) x = pushed_last ys x
+
+-- what is read as the default where nothing is can stand there
+pub pushed_read : {X : Type 0} (xs : List X) (d : X) (k : ℕ) → unwrap_or (slice_get (xs ++ d ∷ []) k) d ≡ unwrap_or (slice_get xs k) d
+pushed_read [] d zero = refl
+pushed_read [] d (suc k) = refl
+pushed_read (x ∷ xs) d zero = refl
+pushed_read (x ∷ xs) d (suc k) = pushed_read xs d k
 
 -- an element of a list with one more
 pub pushed_cases : {X : Type 0} (xs : List X) (x : X) (i : ℕ) (y : X) → slice_get (xs ++ x ∷ []) i ≡ Some y →

@@ -1,5 +1,5 @@
 -- An instance that comes to its next stage is all that changes.
-use Rattle.std.proofs.Common.{◌≡◌, ◌≢◌, ◌⊎◌, inl, inr, ⊎_elim, ◌<◌, ◌≤◌, ℕ, zero, suc, Bool, true, false, List, [], ◌∷◌, get_or, slice_get, length, set, Option, Some, None, option_map, refl, sym, ap, subst, ◌∙◌, arith}
+use Rattle.std.proofs.Common.{◌≡◌, ◌≢◌, ◌⊎◌, inl, inr, ⊎_elim, ℕ, zero, suc, Bool, true, false, List, [], ◌∷◌, slice_get, Option, Some, None, option_map, refl, sym, ap, subst, ◌∙◌}
 use Rattle.std.specs.Prelude.{◌==◌, ◌||◌}
 use Rattle.std.proofs.lemmas.Bool.Decides.{eqb_tells}
 use Rattle.orc_ids.specs.declared.ids.InstId.{InstId}
@@ -12,20 +12,6 @@ use Rattle.query_book.specs.Stands.{at_level, is_lost, is_among}
 use Rattle.lookup_lab.specs.declared.stages.Stage.{Stage}
 use Rattle.lookup_lab.specs.declared.stages.Stage.TheVariants.{Waiting, Resolved, Ready, Failed, Gone}
 use Rattle.lookup_lab.specs.Stages.{stand_of, stands, later}
-
-set_changed_at : {X : Type 0} (f : X → X) (xs : List X) (k : ℕ) (d : X) → k < length xs → set xs k (f (get_or xs k d)) ≡ changed_at k f xs
-set_changed_at f [] k d h = absurd (omega arith)
-set_changed_at f (x ∷ xs) zero d h = refl
-set_changed_at f (x ∷ xs) (suc k) d h = ap (λ ys. x ∷ ys) (set_changed_at f xs k d (omega arith))
-
-pub set_changed : {X : Type 0} (f : X → X) (xs : List X) (k : ℕ) (d z : X) → k < length xs → z ≡ f (get_or xs k d) → set xs k z ≡ changed_at k f xs
-set_changed f xs k d z h is = ap (λ y. set xs k y) is ∙ set_changed_at f xs k d h
-
--- nothing is changed behind the list
-pub changed_past : {X : Type 0} (k : ℕ) (f : X → X) (xs : List X) → length xs ≤ k → changed_at k f xs ≡ xs
-changed_past k f [] h = refl
-changed_past zero f (x ∷ xs) h = absurd (omega arith)
-changed_past (suc k) f (x ∷ xs) h = ap (λ ys. x ∷ ys) (changed_past k f xs (omega arith))
 
 changed_here : {X : Type 0} (f : X → X) (xs : List X) (k : ℕ) → slice_get (changed_at k f xs) k ≡ option_map f (slice_get xs k)
 changed_here f [] k = refl

@@ -36,7 +36,7 @@ fn stage_after(stage: Stage, fails: bool) -> Stage
 }
 
 /// The instance comes to its next stage, if it is there.
-#[tactic(auto, using(crate::proofs::Steps::set_changed, crate::proofs::Steps::changed_past))]
+#[tactic(auto, using(model_laws::proofs::Changes::set_changed, model_laws::proofs::Changes::changed_past))]
 fn advance_at(stages: &mut Vec<Stage>, at: usize, fails: bool)
     ensures { stages.new.items ≡ changed_at at (later fails) stages.old.items }
 {

@@ -26,14 +26,8 @@ use Rattle.session_model.specs.declared.entry.Reply.TheVariants as reply
 use Rattle.session_model.specs.declared.entry.Why.TheVariants as why
 use Rattle.session_model.specs.declared.rows.Ending.TheVariants.{Lost}
 use Rattle.session_model.specs.declared.rows.UnitPhase.TheVariants as phase
-use Rattle.session_laws.proofs.Along.{state_from_push}
-use Rattle.session_laws.proofs.Elements.{changed_cases, changed_some, same_element}
-use Rattle.session_laws.proofs.Ending.{end_stays}
-use Rattle.session_laws.proofs.Invariant.{sound_changed}
-use Rattle.session_laws.proofs.Replies.{Guard}
-use Rattle.session_laws.proofs.Rising.{start_listed, finish_linked}
-use Rattle.closure_laws.proofs.Histories.{OneMore, one_more}
-use Rattle.closure_laws.proofs.Working.{is_unbound}
+use Rattle.session_laws.proofs.Declared.{state_from_push, changed_cases, changed_some, same_element, end_stays, sound_changed, Guard, start_listed, finish_linked}
+use Rattle.closure_laws.proofs.Declared.{OneMore, one_more, is_unbound}
 use Rattle.holder_laws.proofs.Calling.{right_parts}
 use Rattle.materialization.specs.Rest.{HoldsNone, HoldsOnly, IsAt, fits}
 use Rattle.materialization.specs.Stages.{first}

@@ -25,10 +25,7 @@ use Rattle.session_model.specs.declared.entry.Reply.TheVariants as reply
 use Rattle.session_model.specs.declared.rows.InstRow.{InstRow}
 use Rattle.session_model.specs.declared.rows.Match.{Match}
 use Rattle.session_model.specs.declared.rows.Match.TheVariants.{Instance, Offered}
-use Rattle.session_laws.proofs.Elements.{same_element}
-use Rattle.session_laws.proofs.Guards.{call_cases}
-use Rattle.session_laws.proofs.Replies.{AllReplies, replies_first, replies_only, replies_or, replies_else}
-use Rattle.session_laws.proofs.Settling.{chosen}
+use Rattle.session_laws.proofs.Declared.{same_element, call_cases, AllReplies, replies_first, replies_only, replies_or, replies_else, chosen}
 use Rattle.materialization.specs.Rest.{IsAt, fits}
 use Rattle.materialization.specs.declared.stage.Stage.{Stage}
 

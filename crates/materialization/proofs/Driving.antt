@@ -1,8 +1,7 @@
 -- The entries of a seat that goes by the stages are one job.
-use Rattle.std.proofs.Common.{◌≡◌, ℕ, suc, ◌+◌, Bool, true, false, map, take, List, [], ◌∷◌, ◌++◌, length, append_assoc, subst, sym, refl, ap, ◌∙◌, Option}
-use Rattle.std.specs.Bool.{if◌then◌else◌}
+use Rattle.std.proofs.Common.{◌≡◌, ℕ, suc, ◌+◌, true, false, map, take, List, [], ◌∷◌, ◌++◌, length, append_assoc, subst, sym, refl, ap, ◌∙◌, Option}
 use Rattle.std.proofs.Math.Seq.{take-append-add}
-use Rattle.std.proofs.lemmas.Bool.{both_ways, eq-eqb, ne_eqb}
+use Rattle.std.proofs.lemmas.Bool.{both_ways}
 use Rattle.orc_ids.specs.declared.ids.UnitId.{UnitId}
 use Rattle.orc_ids.specs.declared.lookup.Stop.{Stop}
 use Rattle.orc_ids.specs.declared.lookup.Stop.TheVariants as stop
@@ -14,7 +13,7 @@ use Rattle.session_model.specs.History.{IsLegal}
 use Rattle.session_model.specs.declared.entry.Entry.{Entry}
 use Rattle.session_model.specs.declared.entry.Why.TheVariants as why
 use Rattle.session_laws.specs.Holding.{AllOthers}
-use Rattle.session_laws.proofs.Along.{prefixes_legal}
+use Rattle.session_laws.proofs.Declared.{prefixes_legal, call_first, call_skipped}
 use Rattle.holder_laws.proofs.Others.{one_other}
 use Rattle.materialization.specs.Rest.{Has, HoldsNone, Rest}
 use Rattle.materialization.specs.Stages.{next, stopped}
@@ -32,18 +31,9 @@ use Rattle.materialization.proofs.Stopping.{may_give_up, refused_edge_fails, sto
 abbrev own : ℕ → ℕ → List (Entry Meaning) → List (Entry Meaning)
 own s n es = map (λ d. d.1) (numbered_calls s n es)
 
-abbrev chosen_calls : ℕ → ℕ → Entry Meaning → List (Entry Meaning) → Bool → List (ℕ × Entry Meaning)
-chosen_calls s n e es b = if b then (n, e) ∷ numbered_calls s (n + 1) es else numbered_calls s (n + 1) es
-
-calls_mine : (s n : ℕ) (e : Entry Meaning) (es : List (Entry Meaning)) → e.seat.0 ≡ s → numbered_calls s n (e ∷ es) ≡ (n, e) ∷ numbered_calls s (n + 1) es
-calls_mine s n e es mine = ap (chosen_calls s n e es) (eq-eqb e.seat.0 s mine)
-
-calls_other : (s n : ℕ) (e : Entry Meaning) (es : List (Entry Meaning)) → (e.seat.0 ≡ s → ⊥) → numbered_calls s n (e ∷ es) ≡ numbered_calls s (n + 1) es
-calls_other s n e es apart = ap (chosen_calls s n e es) (ne_eqb e.seat.0 s apart)
-
 no_calls : (s n : ℕ) (es : List (Entry Meaning)) → AllOthers s es → numbered_calls s n es ≡ []
 no_calls s n [] o = refl
-no_calls s n (e ∷ es) o = calls_other s n e es (o 0 e refl) ∙ no_calls s (n + 1) es (λ k f. o (suc k) f)
+no_calls s n (e ∷ es) o = call_skipped s n e es (o 0 e refl) ∙ no_calls s (n + 1) es (λ k f. o (suc k) f)
 
 -- The stages, one after the other
 
@@ -69,12 +59,12 @@ driven jmax s u refusal h _ _ n l has (Others at e es apart d) =
     let legal = legal_after jmax h e es l in
     let first = (prefixes_legal jmax (h ++ e ∷ []) es).0 legal in
     let rest = driven jmax s u refusal (h ++ e ∷ []) es at (n + 1) legal (others_leave_has jmax h (e ∷ []) first s u.0 (one_other s e apart) at has) d in
-    (ended_after h e es s rest.0, subst (λ cs. Rest u refusal at (map (λ d. d.1) cs)) (sym (calls_other s n e es apart)) rest.1)
+    (ended_after h e es s rest.0, subst (λ cs. Rest u refusal at (map (λ d. d.1) cs)) (sym (call_skipped s n e es apart)) rest.1)
 driven jmax s u refusal h _ _ n l has (Call at e es mine call passes d) =
     let legal = legal_after jmax h e es l in
     let goes : GoesOn jmax h e u at (next at e.reply) = job_goes_on jmax h e u at ((prefixes_legal jmax (h ++ e ∷ []) es).0 legal) (subst (λ t. Has (state h) t u.0 at) (sym mine) has) call in
     let rest = driven jmax s u refusal (h ++ e ∷ []) es (next at e.reply) (n + 1) legal (subst (λ t. Has (state (h ++ e ∷ [])) t u.0 (next at e.reply)) mine goes.has) d in
-    (ended_after h e es s rest.0, subst (λ cs. Rest u refusal at (map (λ d. d.1) cs)) (sym (calls_mine s n e es mine)) (goes.rest refusal passes (own s (n + 1) es) rest.1))
+    (ended_after h e es s rest.0, subst (λ cs. Rest u refusal at (map (λ d. d.1) cs)) (sym (call_first s n e es mine)) (goes.rest refusal passes (own s (n + 1) es) rest.1))
 driven jmax s u refusal h _ _ n l has (Stops at st es may d) =
     let rest = driven jmax s u refusal h es (stopped st) n l (stopped_has (state h) s u.0 at st may has) d in
     (rest.0, stopped_job_fails u refusal at (own s n es) may (stop_cuts_job u refusal st (own s n es) rest.1))
@@ -84,7 +74,7 @@ driven jmax s u refusal h _ _ n l has (Refuses r es is d) =
 
 pub driven_job_is_one : DrivenJobIsOne
 driven_job_is_one jmax h more e u l take is none d = record {
-  job = subst (IsJob (h ++ e ∷ more)) (sym (calls_mine s (length h + 1) e more refl))
+  job = subst (IsJob (h ++ e ∷ more)) (sym (call_first s (length h + 1) e more refl))
       (take, subst (λ p. AfterTake (state p) e.reply (own s (length h + 1 + 1) more)) (sym (take-append-add h (e ∷ more) 1)) (begins.job (own s (length h + 1 + 1) more) rest.1));
   none = ended_after h e more s rest.0;
 }

@@ -10,7 +10,7 @@ use Rattle.session_model.specs.History.{IsLegal, HasPlaces}
 use Rattle.session_model.specs.declared.entry.Entry.{Entry}
 use Rattle.session_model.specs.declared.rows.UnitPhase.TheVariants as phase
 use Rattle.session_laws.specs.Holding.{AllOthers, IsKept, OwnSame}
-use Rattle.session_laws.proofs.Keeping.{held_stays, gone_stays_held}
+use Rattle.session_laws.proofs.Declared.{held_stays, gone_stays_held}
 use Rattle.holder_laws.proofs.Calling.{fail_stays}
 use Rattle.holder_laws.proofs.Giving.{GivesNone, others_seat_none}
 use Rattle.materialization.specs.Rest.{IsAt, Has, fits}

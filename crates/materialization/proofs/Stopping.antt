@@ -14,9 +14,7 @@ use Rattle.session_model.specs.History.{places}
 use Rattle.session_model.specs.declared.entry.Event.{Event}
 use Rattle.session_model.specs.declared.entry.Event.TheVariants as event
 use Rattle.session_model.specs.declared.entry.Why.{Why}
-use Rattle.session_laws.proofs.Ending.{entries_are}
-use Rattle.session_laws.proofs.Placing.{kept_within}
-use Rattle.session_laws.proofs.Settling.{chosen}
+use Rattle.session_laws.proofs.Declared.{entries_are, kept_within, chosen}
 use Rattle.materialization.specs.Rest.{IsAt, IsCall}
 use Rattle.materialization.specs.Laws.{MayGiveUp, StopCutsJob, StoppedJobFails, RefusedEdgeFails, FullIsCause}
 use Rattle.materialization.specs.declared.stage.Stage.{Stage}

@@ -11,10 +11,8 @@ use Rattle.session_model.specs.State.{state}
 use Rattle.session_model.specs.declared.entry.Entry.{Entry}
 use Rattle.session_model.specs.declared.rows.UnitPhase.TheVariants as phase
 use Rattle.session_model.specs.declared.rows.Verdict.{Verdict}
-use Rattle.session_laws.proofs.Moving.{Moves, Stays, Loses, Claims, Starts, Finishes, Places, Resolves, Waits, Links, Emits, Fails, Goes, Changes, Leaves, Runs, Here, On, UnitsMove, change_moves, settled_run, Doing, Other, doing_of}
-use Rattle.session_laws.proofs.RowStages.{linkable, resolvable}
-use Rattle.closure_laws.proofs.Histories.{kept_by_changes}
-use Rattle.closure_laws.proofs.Working.{is_unbound, never, shapeless}
+use Rattle.session_laws.proofs.Declared.{Moves, Stays, Loses, Claims, Starts, Finishes, Places, Resolves, Waits, Links, Emits, Fails, Goes, Changes, Leaves, Runs, Here, On, UnitsMove, change_moves, settled_run, Doing, Other, doing_of, linkable, resolvable}
+use Rattle.closure_laws.proofs.Declared.{kept_by_changes, is_unbound, never, shapeless}
 
 abbrev pub IsUnbased : UnitRow → Type 0
 IsUnbased x = is_alias x ≡ true → is_unbound x.phase ≡ true → x.base ≡ None

@@ -7,9 +7,8 @@ use Rattle.session_model.specs.Meaning.{Meaning}
 use Rattle.session_model.specs.State.{state}
 use Rattle.session_model.specs.declared.entry.Entry.{Entry}
 use Rattle.session_model.specs.declared.rows.Query.{Query}
-use Rattle.session_laws.proofs.Elements.{appended_below, pushed_cases, pushed_last}
-use Rattle.session_laws.proofs.Ending.{entries_are, query_was_asked}
-use Rattle.execution_session.specs.Fires.{is_lodged}
+use Rattle.session_laws.proofs.Declared.{appended_below, pushed_cases, pushed_last, entries_are, query_was_asked}
+use Rattle.session_steps.specs.Fires.{is_lodged}
 use Rattle.note_laws.specs.Laws.{may_lodge, NoteIsAsked}
 use Rattle.note_laws.specs.Notes.{event_note}
 use Rattle.note_laws.proofs.Unlodged.{Lodges, lodges}

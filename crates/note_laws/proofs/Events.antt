@@ -16,14 +16,14 @@ use Rattle.session_model.specs.declared.entry.Event.{Event}
 use Rattle.session_model.specs.declared.entry.Event.TheVariants as event
 use Rattle.session_model.specs.declared.entry.Reply.{Reply}
 use Rattle.session_model.specs.declared.entry.Reply.TheVariants as reply
-use Rattle.session_laws.proofs.Along.{one_more_legal}
-use Rattle.closure_laws.proofs.Unstirred.{quiet_settles_none}
+use Rattle.session_laws.proofs.Declared.{one_more_legal}
+use Rattle.closure_laws.proofs.Declared.{quiet_settles_none}
 use Rattle.notifiers.specs.declared.notice.Notice.{Notice}
 use Rattle.notifiers.specs.declared.notice.Unheard.{Unheard}
-use Rattle.execution_session.specs.Fires.{AreFires, is_lodged}
-use Rattle.execution_session.specs.Log.{Log}
-use Rattle.execution_session.specs.Performs.{Performs, IsStopped, Takes, Collects}
-use Rattle.execution_session.proofs.Rested.{plain_push}
+use Rattle.session_steps.specs.Fires.{AreFires, is_lodged}
+use Rattle.session_steps.specs.Log.{Log}
+use Rattle.session_steps.specs.Performs.{Performs, IsStopped, Takes, Collects}
+use Rattle.session_steps.proofs.Declared.{plain_push}
 use Rattle.note_laws.specs.Notes.{event_note, AreNoted, AreTold}
 use Rattle.note_laws.specs.Laws.{may_settle, may_lodge, LogIsNoted, EmptyIsNoted, QuietIsNoted, SettlingIsTold, LodgingIsTold, CollectIsNoted, TakeIsNoted}
 use Rattle.note_laws.proofs.Noting.{AreArmed, armed_same, armed_grown, fires_noted, none_fire}

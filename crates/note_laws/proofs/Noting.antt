@@ -14,13 +14,13 @@ use Rattle.session_model.specs.State.{state, IsOpen, IsEnd}
 use Rattle.session_model.specs.declared.entry.Entry.{Entry}
 use Rattle.session_model.specs.declared.rows.Ending.{Ending}
 use Rattle.session_model.specs.declared.rows.Query.{Query}
-use Rattle.session_laws.proofs.Elements.{element_below, appended_below, pushed_cases, pushed_last}
+use Rattle.session_laws.proofs.Declared.{element_below, appended_below, pushed_cases, pushed_last}
 use Rattle.notifiers.specs.declared.notice.Notice.{Notice}
 use Rattle.notifiers.specs.declared.notice.Unheard.{Unheard}
 use Rattle.query_book.specs.Ends.{told_end}
 use Rattle.query_book.specs.Rows.{notices}
 use Rattle.closure_laws.specs.Quiet.{SettlesNow}
-use Rattle.execution_session.specs.Fires.{AreFires, is_one_of, notice_of}
+use Rattle.session_steps.specs.Fires.{AreFires, is_one_of, notice_of}
 use Rattle.note_laws.specs.Notes.{event_note, armed_at, heard, AreNoted, AreTold}
 use Rattle.note_laws.proofs.OneMore.{open_before, settling_was_open, settled_isnt_open, end_before_or_now}
 use Rattle.note_laws.proofs.Unlodged.{Lodges}

@@ -9,9 +9,7 @@ use Rattle.session_model.specs.State.{state, after, SettlesAt, IsOpen, IsEnd}
 use Rattle.session_model.specs.declared.entry.Entry.{Entry}
 use Rattle.session_model.specs.declared.rows.Ending.{Ending}
 use Rattle.session_model.specs.declared.rows.Query.{Query}
-use Rattle.session_laws.proofs.Along.{state_from_push}
-use Rattle.session_laws.proofs.Elements.{same_element}
-use Rattle.session_laws.proofs.Ending.{after_query, query_cases, entries_are}
+use Rattle.session_laws.proofs.Declared.{state_from_push, same_element, after_query, query_cases, entries_are}
 use Rattle.closure_laws.specs.Quiet.{SettlesNow}
 
 -- Ends

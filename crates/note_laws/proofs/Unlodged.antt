@@ -36,13 +36,9 @@ use Rattle.session_model.specs.declared.rows.Job.TheVariants as job
 use Rattle.session_model.specs.declared.rows.Query.{Query}
 use Rattle.session_model.specs.declared.rows.Verdict.{Verdict}
 use Rattle.session_model.specs.declared.rows.Verdict.TheVariants.{Kept, Replaces, Discarded, Clashes}
-use Rattle.session_laws.proofs.Along.{state_from_push}
-use Rattle.session_laws.proofs.Ending.{all_claimed_queries}
-use Rattle.session_laws.proofs.Guards.{call_cases}
-use Rattle.session_laws.proofs.Replies.{AllReplies, replies_map, replies_only, replies_first, replies_or}
-use Rattle.session_laws.proofs.Settling.{chosen, settled_queries}
+use Rattle.session_laws.proofs.Declared.{state_from_push, all_claimed_queries, call_cases, AllReplies, replies_map, replies_only, replies_first, replies_or, chosen, settled_queries}
 use Rattle.closure_laws.specs.Quiet.{stirs}
-use Rattle.execution_session.specs.Fires.{is_lodged}
+use Rattle.session_steps.specs.Fires.{is_lodged}
 use Rattle.note_laws.specs.Laws.{may_settle, may_lodge}
 use Rattle.note_laws.specs.Notes.{event_note}
 

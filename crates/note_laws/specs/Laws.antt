@@ -13,9 +13,9 @@ use Rattle.session_model.specs.declared.entry.Reply.{Reply}
 use Rattle.session_model.specs.declared.rows.Query.{Query}
 use Rattle.notifiers.specs.declared.notice.Notice.{Notice}
 use Rattle.notifiers.specs.declared.notice.Unheard.{Unheard}
-use Rattle.execution_session.specs.Fires.{FiresBy, FiresAsked}
-use Rattle.execution_session.specs.Log.{Log}
-use Rattle.execution_session.specs.Performs.{Performs, Takes, Collects}
+use Rattle.session_steps.specs.Fires.{FiresBy, FiresAsked}
+use Rattle.session_steps.specs.Log.{Log}
+use Rattle.session_steps.specs.Performs.{Performs, Takes, Collects}
 use Rattle.note_laws.specs.Notes.{event_note, AreNoted, AreTold}
 
 -- the events that may settle a query

@@ -1,5 +1,5 @@
 -- The notes of lookups: which query has one, and what is told to it.
-use Rattle.std.specs.Prelude.{◌≡◌, ℕ, ◌↔◌, true, List, [], ◌∷◌, length, slice_get, map, flat_map, Option, None, Some, option_map, option_and_then}
+use Rattle.std.specs.Prelude.{◌≡◌, ℕ, ◌↔◌, true, List, [], ◌∷◌, ◌++◌, length, slice_get, map, flat_map, take, Option, None, Some, option_map, option_and_then}
 use Rattle.std.specs.Option.{option_map_or}
 use Rattle.orc_ids.specs.declared.lookup.Outcome.{Outcome}
 use Rattle.session_model.specs.Meaning.{Meaning}
@@ -14,7 +14,7 @@ use Rattle.notifiers.specs.declared.notice.Notice.{Notice}
 use Rattle.notifiers.specs.declared.notice.Unheard.{Unheard}
 use Rattle.query_book.specs.Ends.{told_end}
 use Rattle.closure_laws.specs.Quiet.{SettlesNow}
-use Rattle.execution_session.specs.Fires.{AreRising, is_one_of}
+use Rattle.session_steps.specs.Fires.{AreRising, is_one_of}
 
 -- the note that an event asks with
 abbrev pub event_note : Event Meaning → Option ℕ
@@ -43,3 +43,8 @@ pub record AreTold {N : Type 0} (h : List (Entry Meaning)) (fires : List (Notice
   pub rising : AreRising 0 numbers
   pub settle : (k : ℕ) → (is_one_of k numbers ≡ true) ↔ SettlesNow h k
   pub told : map (λ f. (f.note, f.outcome)) fires ≡ flat_map (heard h) numbers
+
+-- at each of these calls of the history these notices were told: those of the queries that settle there
+pub data ToldAt {N : Type 0} (h : List (Entry Meaning)) : List (ℕ × Entry Meaning) → List (Notice N) → Type 0 where
+  Nobody : ToldAt h [] []
+  Call : (n : ℕ) (e : Entry Meaning) (cs : List (ℕ × Entry Meaning)) (now later : List (Notice N)) → AreTold (take n h) now → ToldAt h cs later → ToldAt h ((n, e) ∷ cs) (now ++ later)

@@ -8,8 +8,7 @@ use Rattle.std.proofs.lemmas.List.{length-take-le, take-take, take_all}
 use Rattle.session_model.specs.declared.entry.Entry.{Entry}
 use Rattle.session_model.specs.declared.rows.Ending.{Ending}
 use Rattle.session_model.specs.declared.rows.Query.{Query}
-use Rattle.session_laws.proofs.Ending.{after_query, end_stays, entries_are, front_and_rest, query_cases, query_stays}
-use Rattle.session_laws.proofs.Readying.{state_from_joined}
+use Rattle.session_laws.proofs.Declared.{after_query, end_stays, entries_are, front_and_rest, query_cases, query_stays, state_from_joined}
 use Rattle.closure_laws.specs.Quiet.{SettlesNow}
 
 -- a query that was asked before is there before

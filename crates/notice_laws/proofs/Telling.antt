@@ -13,10 +13,9 @@ use Rattle.session_model.specs.declared.rows.Query.{Query}
 use Rattle.query_book.specs.Ends.{told_end}
 use Rattle.notifiers.specs.declared.notice.Notice.{Notice}
 use Rattle.closure_laws.specs.Quiet.{SettlesNow}
-use Rattle.execution_session.specs.Fires.{is_one_of}
+use Rattle.session_steps.specs.Fires.{is_one_of}
 use Rattle.note_laws.specs.Notes.{AreTold, heard}
-use Rattle.session_laws.proofs.Elements.{appended_at, front_some, mapped_parts, same_element}
-use Rattle.session_laws.proofs.Ending.{entries_are}
+use Rattle.session_laws.proofs.Declared.{appended_at, front_some, mapped_parts, same_element, entries_are}
 use Rattle.notice_laws.specs.Notes.{NoteEnded}
 use Rattle.notice_laws.proofs.Prefixes.{ends_there, query_later, settles_there}
 

@@ -1,5 +1,5 @@
 -- What is told at the calls of a seat.
-use Rattle.std.proofs.Common.{arith, ◌≡◌, ℕ, zero, suc, ◌+◌, ◌<◌, Bool, true, false, ◌==◌, ◌⊎◌, inl, inr, List, [], ◌∷◌, ◌++◌, All, length, slice_get, take, Some, refl, sym, subst, ap, ap₂, ◌∙◌}
+use Rattle.std.proofs.Common.{arith, ◌≡◌, ℕ, zero, suc, ◌+◌, ◌<◌, Bool, true, false, ◌==◌, ◌⊎◌, inl, inr, List, [], ◌∷◌, ◌++◌, All, slice_get, take, Some, refl, sym, subst, ap, ap₂, ◌∙◌}
 use Rattle.std.specs.Bool.{if◌then◌else◌}
 use Rattle.std.proofs.lemmas.Bool.{cases_Bool, eq-eqb}
 use Rattle.std.proofs.lemmas.List.Elements.{All-append, All-nil}
@@ -13,17 +13,15 @@ use Rattle.session_model.specs.State.{state}
 use Rattle.session_model.specs.declared.entry.Entry.{Entry}
 use Rattle.notifiers.specs.declared.notice.Notice.{Notice}
 use Rattle.closure_laws.specs.Quiet.{SettlesNow}
-use Rattle.closure_laws.proofs.Unstirred.{quiet_settles_none}
-use Rattle.session_laws.proofs.Ending.{front_legal, query_was_asked}
+use Rattle.closure_laws.proofs.Declared.{quiet_settles_none, row_below}
+use Rattle.session_laws.proofs.Declared.{front_legal, query_was_asked}
 use Rattle.note_laws.specs.Laws.{may_settle}
-use Rattle.note_laws.specs.Notes.{AreTold}
 use Rattle.note_laws.proofs.Unlodged.{unstirred}
-use Rattle.link_worker.specs.Does.{ToldAt, Nobody, Call}
+use Rattle.note_laws.specs.Notes.{AreTold, ToldAt, Nobody, Call}
 use Rattle.notice_laws.specs.Laws.{EndedAreTold, IsAmong, TellsNote, ToldHaveEnded}
 use Rattle.notice_laws.specs.Notes.{NoteEnded}
 use Rattle.notice_laws.proofs.Prefixes.{settles_there}
 use Rattle.notice_laws.proofs.Telling.{IsOne, ended_told, one_after, one_before, told_ended}
-use Rattle.closure_laws.proofs.LevelsStaying.{row_below}
 
 module _ {N : Type 0} where
   all_told : (h : List (Entry Meaning)) (cs : List (ℕ × Entry Meaning)) (told : List (Notice N)) → ToldAt h cs told → All (λ f. NoteEnded h f.note f.outcome) told

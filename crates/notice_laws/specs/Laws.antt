@@ -7,7 +7,7 @@ use Rattle.session_model.specs.Meaning.{Meaning}
 use Rattle.session_model.specs.declared.entry.Entry.{Entry}
 use Rattle.notifiers.specs.declared.notice.Notice.{Notice}
 use Rattle.note_laws.specs.Laws.{may_settle}
-use Rattle.link_worker.specs.Does.{ToldAt}
+use Rattle.note_laws.specs.Notes.{ToldAt}
 use Rattle.notice_laws.specs.Notes.{NoteEnded}
 
 -- all that were told have ended queries

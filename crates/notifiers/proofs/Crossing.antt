@@ -30,7 +30,7 @@ node_send N h s rest =
 hole_send : (N : RattleType) → IsSend N → IsSend (Link.the_hole N)
 hole_send N s = fix_send (Link.the_ring N) (Link.by_members N (λ i. Sends (Link.the_ring N) i) (record { send = λ h all. node_send N (h (Link.the_member N)) s (all (Link.the_member N)) })) (Link.the_member N)
 
-link_send : (N : RattleType) → IsSend N → IsSend (Link.the_row N)
+pub link_send : (N : RattleType) → IsSend N → IsSend (Link.the_row N)
 link_send N s = variants_send (Link.enum N) (tt, ((as_row_send (Notice.the_field N) (notice.the_field_send N s), (heap.Box-send (Link.the_hole N) (hole_send N s), tt)), tt))
 
 -- an object that was armed, with its room

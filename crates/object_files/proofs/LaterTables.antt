@@ -1,13 +1,8 @@
 -- A graph by a table of names is the graph by each later table, which keeps the numbers; and the checks of an object say
 -- the same by every table.
-use Rattle.std.proofs.Common.{◌≡◌, ℕ, zero, suc, ◌+◌, Bool, true, false, cond, List, [], ◌∷◌, length, map, Option, Some, None, refl, sym, ap, ◌∙◌, inl, inr, arith}
-use Rattle.std.specs.Prelude.{Contains, IsTrue, Ok, Err, slice_get, option_map}
+use Rattle.std.proofs.Common.{◌≡◌, ℕ, suc, ◌+◌, cond, List, [], ◌∷◌, length, map, Option, Some, None, refl, sym, ap, ◌∙◌, arith}
+use Rattle.std.specs.Prelude.{Contains, IsTrue, Ok, Err}
 use Rattle.std.specs.Option.{option_map_or}
-use Rattle.std.specs.List.{position_from}
-use Rattle.std.specs.Str.{bytes_eq}
-use Rattle.std.specs.Cmp.Lexicographic.{nat_list_eq_equiv}
-use Rattle.std.proofs.lemmas.Bool.{cases_Bool, both_ways}
-use Rattle.std.proofs.lemmas.Option.{none-some, same_Some}
 use Rattle.orc_ids.specs.declared.ids.NameId.{NameId}
 use Rattle.orc_names.specs.Numbers.{KeepsNumbers}
 use Rattle.elf_read.specs.declared.object.ElfObject.{ElfObject}
@@ -21,41 +16,8 @@ use Rattle.link_graph.specs.Read.{AreNamed}
 use Rattle.link_graph.specs.declared.error.GraphError.{GraphError}
 use Rattle.link_graph.proofs.NameNumbers.{kept}
 use Rattle.link_graph.proofs.Whole.{failed_check-is}
+use Rattle.link_graph.proofs.LaterNames.{either_kept, name_kept}
 use Rattle.object_files.specs.Files.{IsObject}
-
--- ---- the number of a name
-
-first : (x : List ℕ) (old new : List (List ℕ)) → KeepsNumbers (x ∷ old) new → slice_get new 0 ≡ Some x
-first x old new keeps = keeps 0 x refl
-
-rest : (x y : List ℕ) (old new : List (List ℕ)) → KeepsNumbers (x ∷ old) (y ∷ new) → KeepsNumbers old new
-rest x y old new keeps number text there = keeps (suc number) text there
-
--- a text that isn't the first one is among the others
-among_rest : (text x : List ℕ) (names : List (List ℕ)) → bytes_eq text x ≡ false → Contains (x ∷ names) text → Contains names text
-among_rest text x names differs (zero, lt, is) = absurd (both_ways (bytes_eq text x) differs (rw (← is) (nat_list_eq_equiv.refl x)))
-among_rest text x names differs (suc k, lt, is) = (k, omega arith, is)
-
--- the first place of a text that the earlier table has
-place_kept : (old new : List (List ℕ)) (text : List ℕ) (i : ℕ) → KeepsNumbers old new → Contains old text → position_from (bytes_eq text) i old ≡ position_from (bytes_eq text) i new
-place_kept [] new text i keeps c = absurd (omega (arith, c.1))
-place_kept (x ∷ old) [] text i keeps c = absurd (none-some x (first x old [] keeps))
-place_kept (x ∷ old) (y ∷ new) text i keeps c =
-    let same : y ≡ x = same_Some y x (first x old (y ∷ new) keeps) in
-    elim (cases_Bool (bytes_eq text x)) [
-      | inl t ↦ rw (same, t) refl
-      | inr f ↦ rw (same, f) (place_kept old new text (i + 1) (rest x y old new keeps) (among_rest text x old f c))
-    ]
-
-name_kept : (old new : List (List ℕ)) (text : List ℕ) → KeepsNumbers old new → Contains old text → name_number old text ≡ name_number new text
-name_kept old new text keeps c = ap (λ (k : Option ℕ). option_map (λ k. record { 0 = k }) k) (place_kept old new text 0 keeps c)
-
--- a name that is numbered at all
-either_kept : (global : Bool) (a b : Option NameId) → (global ≡ true → a ≡ b) → cond global a None ≡ cond global b None
-either_kept true a b h = h refl
-either_kept false a b h = refl
-
--- ---- a graph
 
 symbol_kept : (old new : List (List ℕ)) (o : ElfObject) (common : ℕ) (s : Symbol) → KeepsNumbers old new → (IsTrue (is_global s) → Contains old s.name) →
     graph_symbol old common (trimmed_symbol (all_cuts o.sections) s) ≡ graph_symbol new common (trimmed_symbol (all_cuts o.sections) s)

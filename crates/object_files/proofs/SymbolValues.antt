@@ -62,7 +62,7 @@ symbols_fit names o common [] h k d lt = absurd (omega arith)
 symbols_fit names o common (s ∷ ss) h zero d lt = place_fits o common s s.place (h 0 s (omega arith))
 symbols_fit names o common (s ∷ ss) h (suc k) d lt = symbols_fit names o (cond (is_common s.place) (common + 1) common) ss (λ i e less. h (suc i) e (omega arith)) k d (omega arith)
 
-made_of : (failed : Option GraphError) (made g : LinkGraph) → option_map_or Err failed (Ok made) ≡ Ok g → made ≡ g
+pub made_of : (failed : Option GraphError) (made g : LinkGraph) → option_map_or Err failed (Ok made) ≡ Ok g → made ≡ g
 made_of None made g h = cc
 made_of (Some e) made g h = absurd cc
 

@@ -19,6 +19,3 @@ mod object;
 pub use distinct::{Distinct, distinct_files};
 pub use error::{LoadError, ObjectWhy};
 pub use load::{TOTAL_LIMIT, load_files};
-
-#[cfg(test)]
-mod tests;

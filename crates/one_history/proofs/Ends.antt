@@ -16,7 +16,7 @@ use Rattle.session_model.specs.declared.entry.Entry.{Entry}
 use Rattle.session_model.specs.declared.entry.Event.TheVariants as event
 use Rattle.session_model.specs.declared.entry.Reply.{Reply}
 use Rattle.session_model.specs.declared.entry.Reply.TheVariants as reply
-use Rattle.session_laws.proofs.Elements.{element_below}
+use Rattle.session_laws.proofs.Declared.{element_below}
 use Rattle.program_names.specs.Programs.{setup_events}
 use Rattle.run_laws.specs.Ended.{Ended, IsRefusedAt, IsRun, client_calls, is_whole}
 use Rattle.run_laws.specs.declared.linked.Linked.{Linked}

@@ -5,7 +5,7 @@ use Rattle.std.specs.Option.{option_map_or}
 use Rattle.orc_ids.specs.declared.ids.GenId.{GenId}
 use Rattle.orc_ids.specs.declared.ids.UnitId.{UnitId}
 use Rattle.orc_ids.specs.declared.place.Shape.{Shape}
-use Rattle.session_model.specs.Answer.{Answers, AnswersCall, AnswersCollect, AnswersFinish, AnswersPlace, AnswersTake, Called, Gone, HasCause, IsFree, Right as AtCall, Wrong, answer_link, called, can_emit, can_link, can_place, can_resolve, is_held, AnswersEmit}
+use Rattle.session_model.specs.Answer.{Answers, AnswersCall, AnswersPlace, HasCause, IsFree, answer_link, called, can_emit, can_link, can_place, can_resolve, is_held, AnswersEmit}
 use Rattle.session_model.specs.Calls.{Lookup, lookup_event, refusal_of}
 use Rattle.session_model.specs.History.{is_full, places}
 use Rattle.session_model.specs.Meaning.{Meaning, Bindings}
@@ -18,13 +18,9 @@ use Rattle.session_model.specs.declared.entry.Finishing.TheVariants.{Bound}
 use Rattle.session_model.specs.declared.entry.Reply.{Reply}
 use Rattle.session_model.specs.declared.entry.Reply.TheVariants as reply
 use Rattle.session_model.specs.declared.entry.Why.TheVariants as why
-use Rattle.session_model.specs.declared.rows.Job.{Job}
-use Rattle.session_model.specs.declared.rows.Job.TheVariants as job
-use Rattle.session_laws.specs.Replies.{is_placed}
-use Rattle.session_laws.proofs.Choosing.{reply_is_determined}
-use Rattle.session_laws.proofs.Ending.{entries_are}
-use Rattle.session_laws.proofs.Guards.{call_cases}
-use Rattle.closure_laws.proofs.Histories.{OneMore}
+use Rattle.model_laws.proofs.Units.{call_one}
+use Rattle.session_laws.proofs.Declared.{reply_is_determined, collect_unplaced, take_unplaced, entries_are, call_cases}
+use Rattle.closure_laws.proofs.Declared.{OneMore}
 use Rattle.one_history.proofs.Staying.{Alive, IsHeldBy}
 
 -- The entry is of the caller whose turn it is after the past, is a right one and has its places; a place is at the lowest base; no unit is given up for
@@ -43,11 +39,6 @@ pub record Right (jmax : ℕ) (who : List (Entry Meaning) → ℕ) (past : List 
 
 -- One reply
 
-call_one : (c : Called) (u : UnitId) (Q : UnitRow → Reply → Type 0) (a b : Reply) → ((x : UnitRow) → Q x a → Q x b → a ≡ b) → AnswersCall c u (λ x. Q x a) a → AnswersCall c u (λ x. Q x b) b → a ≡ b
-call_one Gone u Q a b h x y = x ∙ sym y
-call_one Wrong u Q a b h x y = x ∙ sym y
-call_one (AtCall r) u Q a b h x y = h r x y
-
 abbrev Low : Plain → Shape → Reply → Type 0
 Low m shape r = (base other : ℕ) → r ≡ reply.Placed base → IsFree m.units shape other → base ≤ other
 
@@ -59,19 +50,6 @@ place_one m shape (reply.NoRoom n) (reply.NoRoom j) l k p q = ap reply.NoRoom (p
 place_one m shape (reply.Placed x) _ l k p q = absurd q
 place_one m shape (reply.NoRoom n) _ l k p q = absurd q
 place_one m shape _ b l k p q = absurd p
-
-collect_unplaced : (past : List (Entry Meaning)) (m : Plain) (q : ℕ) (r : Reply) → AnswersCollect past m q r → is_placed r ≡ false
-collect_unplaced past m q (reply.Placed base) a = absurd a
-collect_unplaced past m q _ a = refl
-
-finish_unplaced : (past : List (Entry Meaning)) (m : Plain) (u : ℕ) (r : Reply) → AnswersFinish past m u r → is_placed r ≡ false
-finish_unplaced past m u (reply.Placed base) a = absurd a
-finish_unplaced past m u _ a = refl
-
-take_unplaced : (past : List (Entry Meaning)) (m : Plain) (jobs : List Job) (r : Reply) → AnswersTake past m jobs r → is_placed r ≡ false
-take_unplaced past m [] r a = absurd a
-take_unplaced past m (job.Start u ∷ js) r a = ap is_placed a
-take_unplaced past m (job.Finish u ∷ js) r a = finish_unplaced past m u.0 r a
 
 abbrev LowAt : Plain → Event Meaning → Reply → Type 0
 LowAt m (event.Place u shape) r = Low m shape r

@@ -1,5 +1,5 @@
 -- Two lookups that go on from one past make the same calls.
-use Rattle.std.proofs.Common.{◌≡◌, ℕ, zero, suc, true, false, List, [], ◌∷◌, ◌++◌, slice_get, map, take, inl, inr, refl, sym, ap, ◌∙◌, subst, append_assoc, append-nil, Some}
+use Rattle.std.proofs.Common.{◌≡◌, ℕ, zero, suc, true, false, List, [], ◌∷◌, ◌++◌, slice_get, take, inl, inr, refl, sym, ap, ◌∙◌, subst, append_assoc, append-nil, Some}
 use Rattle.std.specs.Bool.{⊤}
 use Rattle.std.proofs.lemmas.Bool.{both_ways}
 use Rattle.std.proofs.lemmas.List.{map-append}
@@ -15,13 +15,10 @@ use Rattle.session_model.specs.declared.entry.Reply.{Reply}
 use Rattle.session_model.specs.declared.entry.Reply.TheVariants as reply
 use Rattle.session_model.specs.declared.rows.Ending.TheVariants.{Found, Lost}
 use Rattle.session_model.specs.declared.rows.Query.{Query}
-use Rattle.session_laws.proofs.Ending.{open_has_no_end}
+use Rattle.session_laws.proofs.Declared.{open_has_no_end}
+use Rattle.session_laws.specs.Entries.{entries}
 use Rattle.one_history.proofs.Fronts.{Same, left, same_behind, same_far, same_inside, same_turned}
 use Rattle.one_history.proofs.Phases.{Goes, after_take, step_on}
-
--- the entries of calls
-abbrev pub entries : List (ℕ × Entry Meaning) → List (Entry Meaning)
-entries cs = map (λ (c : ℕ × Entry Meaning). c.1) cs
 
 -- the first m calls have their numbers in the history, which goes on from the past with them
 abbrev pub Stands : List (Entry Meaning) → ℕ → List (Entry Meaning) → List (ℕ × Entry Meaning) → Type 0

@@ -12,7 +12,8 @@ use Rattle.session_model.specs.declared.entry.Entry.{Entry}
 use Rattle.session_model.specs.declared.entry.Event.{Event}
 use Rattle.session_model.specs.declared.entry.Event.TheVariants as event
 use Rattle.session_model.specs.declared.entry.Reply.TheVariants as reply
-use Rattle.session_laws.proofs.Elements.{mapped_some}
+use Rattle.session_laws.proofs.Declared.{mapped_some}
+use Rattle.session_laws.specs.Entries.{entries}
 use Rattle.program_names.specs.Programs.{first_dylib, first_tracker, is_done, setup_events}
 use Rattle.run_laws.specs.Ended.{Ended, IsRefusedAt, IsRun, IsSetUpTo, client_calls, is_whole}
 use Rattle.run_laws.specs.Runs.{IsSetUp, lookup_of}
@@ -23,7 +24,7 @@ use Rattle.one_history.specs.Beginnings.{AreOne, EdgesAreTold, EndAlike, IsBegin
 use Rattle.one_history.specs.Laws.{OneHistory, WholeRunsAreOne}
 use Rattle.one_history.proofs.Ends.{ends_alike}
 use Rattle.one_history.proofs.Fronts.{Same, left}
-use Rattle.one_history.proofs.Lookups.{Stands, entries, stands_front}
+use Rattle.one_history.proofs.Lookups.{Stands, stands_front}
 use Rattle.one_history.proofs.Runs.{client_is, edges_are_told, events_count, goes, is_spared, later_is, one_seat, stands_numbered, turn}
 use Rattle.one_history.proofs.Sets.{Client, IsCopy, Sets, clients, ends_found, is_found, sets}
 

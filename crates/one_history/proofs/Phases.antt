@@ -23,7 +23,7 @@ use Rattle.session_model.specs.declared.entry.Reply.{Reply}
 use Rattle.session_model.specs.declared.entry.Reply.TheVariants as reply
 use Rattle.session_model.specs.declared.entry.Why.{Why}
 use Rattle.session_model.specs.declared.entry.Why.TheVariants as why
-use Rattle.session_laws.proofs.Elements.{same_element}
+use Rattle.session_laws.proofs.Declared.{same_element}
 use Rattle.run_laws.proofs.Seats.{not_empty, same_head}
 use Rattle.one_history.proofs.Entries.{Right, Wants, entry_one, full_stops, held_at}
 use Rattle.one_history.proofs.Staying.{IsHeldBy, resolved_held, taken_held}

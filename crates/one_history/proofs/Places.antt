@@ -18,21 +18,19 @@ use Rattle.session_model.specs.declared.entry.Entry.{Entry}
 use Rattle.session_model.specs.declared.entry.Event.TheVariants as event
 use Rattle.session_model.specs.declared.entry.Reply.TheVariants as reply
 use Rattle.session_model.specs.declared.entry.Why.TheVariants as why
-use Rattle.session_laws.proofs.Along.{prefixes_legal}
-use Rattle.session_laws.proofs.Guards.{call_cases}
-use Rattle.session_laws.proofs.Readying.{state_from_joined}
+use Rattle.session_laws.proofs.Declared.{prefixes_legal, call_cases, state_from_joined}
 use Rattle.run_laws.specs.Ended.{Ended, IsRun, client_calls}
 use Rattle.run_laws.specs.Runs.{IsRunBy, IsSetUp, lookup_of}
 use Rattle.run_laws.specs.declared.linked.Linked.{Linked}
 use Rattle.run_laws.proofs.Calm.{IsCall, after_many}
 use Rattle.run_laws.proofs.Costs.{each_front}
-use Rattle.run_laws.proofs.Ready.{IsReady, set_up_ready}
+use Rattle.run_laws.proofs.Ready.{IsReady, set_up_ready, setup_length}
 use Rattle.run_laws.proofs.Seats.{legal_at, same_head, same_tail}
 use Rattle.run_laws.proofs.Short.{run_is_short}
 use Rattle.one_history.specs.Beginnings.{EdgesAreTold}
 use Rattle.one_history.specs.Laws.{OneHistoryWithPlaces}
 use Rattle.one_history.proofs.One.{one_history}
-use Rattle.one_history.proofs.Runs.{First, Stand, Then, not_setting, parts, stand, whole_count}
+use Rattle.one_history.proofs.Runs.{First, Stand, Then, not_setting, parts, stand}
 
 -- calls make no unit
 calls_many : (m : Plain) (es : List (Entry Meaning)) → AllByRecursion IsCall es → m.generators ≡ [] → length (state_from m es).units ≡ length m.units
@@ -120,7 +118,7 @@ module _ (jmax : ℕ) (main entry : NameId) (units : List Meaning) (h : List (En
       by_whole : (run.later ≡ []) ⊎ IsSetUp main units run.setup → ⊥
       by_whole (inl none) = omega (arith, behind (stand jmax main entry units h end run n t there_t), below, at.3, ap length at.2, length-append at.0 (e ∷ at.1), ap length run.parts, length-append run.setup run.later, ap length none, (parts jmax main entry units h end run).short)
       by_whole (inr s) =
-          let count = whole_count main units run.setup s in
+          let count = setup_length main units run.setup s in
           let first = behind (stand jmax main entry units h end run n t there_t) in
           omega (
             arith,

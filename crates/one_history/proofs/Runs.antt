@@ -7,6 +7,7 @@ use Rattle.std.proofs.lemmas.Bool.{both_ways, eq-eqb, le-ltb, lt-ltb}
 use Rattle.std.proofs.lemmas.List.{length-append, length-map}
 use Rattle.std.proofs.lemmas.List.Elements.{All-head, All-tail, All-weaker, recursion_from_All}
 use Rattle.std.proofs.lemmas.Option.{same_Some}
+use Rattle.list_laws.proofs.Each.{each_mapped, each_taken, each_weaker}
 use Rattle.orc_ids.specs.declared.ids.GenId.{GenId}
 use Rattle.orc_ids.specs.declared.ids.NameId.{NameId}
 use Rattle.orc_ids.specs.declared.ids.UnitId.{UnitId}
@@ -22,22 +23,20 @@ use Rattle.session_model.specs.declared.entry.Event.TheVariants as event
 use Rattle.session_model.specs.declared.entry.Finishing.TheVariants.{Bound}
 use Rattle.session_model.specs.declared.entry.Reply.TheVariants as reply
 use Rattle.session_model.specs.declared.entry.Why.TheVariants as why
-use Rattle.session_laws.proofs.Along.{prefixes_legal}
-use Rattle.session_laws.proofs.Elements.{appended_cases, element_below}
-use Rattle.session_laws.proofs.Guards.{call_cases}
-use Rattle.session_laws.proofs.Readying.{legal_rest}
-use Rattle.closure_laws.proofs.Histories.{OneMore}
+use Rattle.session_laws.proofs.Declared.{prefixes_legal, appended_cases, element_below, call_cases, legal_rest, call_first}
+use Rattle.session_laws.specs.Entries.{entries}
+use Rattle.closure_laws.proofs.Declared.{OneMore}
 use Rattle.program_names.specs.Programs.{first_dylib, first_tracker, setup_events}
 use Rattle.run_laws.specs.Ended.{Ended, IsRefusedAt, IsRun, client_calls, is_cut, is_whole}
 use Rattle.run_laws.specs.Runs.{IsSetUp, lookup_of}
 use Rattle.run_laws.specs.declared.linked.Linked.{Linked}
 use Rattle.run_laws.proofs.Calm.{IsCall, IsUnoffered, Unoffered, is_call, is_offer, never_offered}
 use Rattle.run_laws.proofs.Costs.{NumberedCall, each_front, each_joined, looks_cost}
-use Rattle.run_laws.proofs.Ready.{set_up_ready}
-use Rattle.run_laws.proofs.Seats.{call_first, calls_past, legal_at}
+use Rattle.run_laws.proofs.Ready.{set_up_ready, setup_length}
+use Rattle.run_laws.proofs.Seats.{calls_past, legal_at}
 use Rattle.one_history.specs.Beginnings.{EdgesAreTold, IsSpared}
 use Rattle.one_history.proofs.Entries.{Right}
-use Rattle.one_history.proofs.Lookups.{Stands, entries}
+use Rattle.one_history.proofs.Lookups.{Stands}
 use Rattle.one_history.proofs.Phases.{Goes}
 use Rattle.one_history.proofs.Staying.{Alive, IsHeldBy, after_alive, is_removal}
 
@@ -58,19 +57,6 @@ each_at : {X : Type 0} (P : X → Type 0) (xs : List X) (i : ℕ) (x : X) → Al
 each_at P [] i x a e = absurd (cc)
 each_at P (y ∷ ys) zero x a e = subst P (same_Some y x e) a.0
 each_at P (y ∷ ys) (suc i) x a e = each_at P ys i x a.1 e
-
-each_mapped : {X Y : Type 0} (P : Y → Type 0) (f : X → Y) (xs : List X) → AllByRecursion P (map f xs) → AllByRecursion (λ x. P (f x)) xs
-each_mapped P f [] a = tt
-each_mapped P f (x ∷ xs) a = (a.0, each_mapped P f xs a.1)
-
-each_taken : {X : Type 0} (P : X → Type 0) (n : ℕ) (xs : List X) → AllByRecursion P xs → AllByRecursion P (take n xs)
-each_taken P zero xs a = tt
-each_taken P (suc n) [] a = tt
-each_taken P (suc n) (x ∷ xs) a = (a.0, each_taken P n xs a.1)
-
-each_weaker : {X : Type 0} (P Q : X → Type 0) → ((x : X) → P x → Q x) → (xs : List X) → AllByRecursion P xs → AllByRecursion Q xs
-each_weaker P Q f [] a = tt
-each_weaker P Q f (x ∷ xs) a = (f x a.0, each_weaker P Q f xs a.1)
 
 -- The events of a set-up
 
@@ -180,9 +166,6 @@ front_few main units n xs e = omega (arith, length-map xs (λ (e : Entry Meaning
 whole_set : (main : NameId) (units : List Meaning) (xs : List (Entry Meaning)) → IsSetUp main units xs → AllByRecursion IsSetting xs
 whole_set main units xs s = each_mapped (λ v. is_setting v ≡ true) (λ (e : Entry Meaning). e.event) xs (subst (AllByRecursion (λ v. is_setting v ≡ true)) (sym s.events) (events_set main units))
 
-pub whole_count : (main : NameId) (units : List Meaning) (xs : List (Entry Meaning)) → IsSetUp main units xs → length xs ≡ 2 + length units
-whole_count main units xs s = omega (arith, length-map xs (λ (e : Entry Meaning). e.event), ap length s.events, events_count main units)
-
 each_entries : (P : Entry Meaning → Type 0) (cs : List (ℕ × Entry Meaning)) → AllByRecursion (λ (c : ℕ × Entry Meaning). P c.1) cs → AllByRecursion P (entries cs)
 each_entries P [] a = tt
 each_entries P (c ∷ cs) a = (a.0, each_entries P cs a.1)
@@ -201,7 +184,7 @@ module _ (jmax : ℕ) (main entry : NameId) (units : List Meaning) (h : List (En
   calls_later a = subst (AllByRecursion IsCall) later_is (each_entries IsCall (client_calls h) a)
 
   set_up_parts : IsSetUp main units run.setup → AllByRecursion NumberedCall (client_calls h) → Parts units main run.setup run.later
-  set_up_parts s calls = record { set = whole_set main units run.setup s; short = omega (arith, whole_count main units run.setup s); whole = inr s; calls = calls_later calls }
+  set_up_parts s calls = record { set = whole_set main units run.setup s; short = omega (arith, setup_length main units run.setup s); whole = inr s; calls = calls_later calls }
 
   unfinished : AllByRecursion IsSetting run.setup → length run.setup ≤ 2 + length units → run.later ≡ [] → Parts units main run.setup run.later
   unfinished set short none = record { set = set; short = short; whole = inl none; calls = subst (AllByRecursion IsCall) (sym none) tt }
@@ -267,7 +250,7 @@ module _ (jmax : ℕ) (main entry : NameId) (units : List Meaning) (h : List (En
     where
       behind : (k : ℕ) → n ≡ length run.setup + k → slice_get run.later k ≡ Some e → (run.later ≡ []) ⊎ IsSetUp main units run.setup → Stand n e
       behind k is l (inl none) = not_there k e l none
-      behind k is l (inr s) = Then (each_at IsUnoffered run.later k e unoffered l) (each_at (λ (f : Entry Meaning). f.seat.0 ≡ 1) run.later k e (recursion_from_All (λ (f : Entry Meaning). f.seat.0 ≡ 1) run.later one_seat) l) (omega (arith, is, whole_count main units run.setup s))
+      behind k is l (inr s) = Then (each_at IsUnoffered run.later k e unoffered l) (each_at (λ (f : Entry Meaning). f.seat.0 ≡ 1) run.later k e (recursion_from_All (λ (f : Entry Meaning). f.seat.0 ≡ 1) run.later one_seat) l) (omega (arith, is, setup_length main units run.setup s))
 
       split : (slice_get run.setup n ≡ Some e) ⊎ ((k : ℕ) × (n ≡ length run.setup + k) × (slice_get run.later k ≡ Some e)) → Stand n e
       split (inl f) = First (each_at IsSetting run.setup n e parts.set f) (each_at (λ (x : Entry Meaning). x.seat.0 ≡ 0) run.setup n e (recursion_from_All (λ (x : Entry Meaning). x.seat.0 ≡ 0) run.setup run.setup_seat) f) (omega (arith, element_below run.setup n e f, parts.short))

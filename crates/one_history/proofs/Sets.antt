@@ -9,10 +9,11 @@ use Rattle.session_model.specs.declared.entry.Event.{Event}
 use Rattle.session_model.specs.declared.entry.Event.TheVariants as event
 use Rattle.session_model.specs.declared.entry.Reply.{Reply}
 use Rattle.session_model.specs.declared.entry.Reply.TheVariants as reply
+use Rattle.session_laws.specs.Entries.{entries}
 use Rattle.program_names.specs.Programs.{is_done}
 use Rattle.run_laws.specs.Runs.{lookup_of}
 use Rattle.one_history.proofs.Fronts.{Same, left, same_behind, same_far, same_inside}
-use Rattle.one_history.proofs.Lookups.{Stands, entries, goes_behind, goes_front, looks}
+use Rattle.one_history.proofs.Lookups.{Stands, goes_behind, goes_front, looks}
 use Rattle.one_history.proofs.Phases.{Goes, step, step_on}
 
 -- A set-up, as far as m entries: its events, each of which is done; behind one that isn't comes nothing.

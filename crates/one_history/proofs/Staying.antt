@@ -23,12 +23,8 @@ use Rattle.session_model.specs.declared.rows.Job.{Job}
 use Rattle.session_model.specs.declared.rows.Job.TheVariants as job
 use Rattle.session_model.specs.declared.rows.UnitPhase.TheVariants as stage
 use Rattle.session_model.specs.declared.rows.Verdict.{Verdict}
-use Rattle.session_laws.proofs.Along.{state_from_push}
-use Rattle.session_laws.proofs.Elements.{changed_cases, changed_elsewhere, changed_some, mapped_parts, numbered_parts, pushed_cases}
-use Rattle.session_laws.proofs.Replies.{Guard}
-use Rattle.session_laws.proofs.Rising.{finish_linked}
-use Rattle.session_laws.proofs.Settling.{chosen, settling_keeps}
-use Rattle.closure_laws.proofs.Histories.{OneMore}
+use Rattle.session_laws.proofs.Declared.{state_from_push, changed_cases, changed_elsewhere, changed_some, mapped_parts, numbered_parts, pushed_cases, Guard, finish_linked, chosen, settling_keeps}
+use Rattle.closure_laws.proofs.Declared.{OneMore}
 
 -- No unit is gone
 

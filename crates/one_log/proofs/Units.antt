@@ -10,7 +10,7 @@ use Rattle.link_graph.specs.Checks.{graph_of_object}
 use Rattle.link_model.specs.declared.graph.LinkGraph.{LinkGraph}
 use Rattle.session_model.specs.Meaning.{Meaning}
 use Rattle.session_units.specs.Meaning.{graph_meaning}
-use Rattle.closure_laws.proofs.LevelsStaying.{row_below}
+use Rattle.closure_laws.proofs.Declared.{row_below}
 use Rattle.object_files.specs.Files.{AreLoaded, IsObject, Told}
 use Rattle.run_answers.specs.Sessions.{AreOfWords}
 use Rattle.run_answers.proofs.Words.{one_file}

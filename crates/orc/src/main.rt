@@ -101,3 +101,6 @@ fn end_with<L: Sink>(log: &mut L, line: &[u8], answer: Answer) -> ExitCode {
         Err(_) => ExitCode::from(Answer::WriteFault.status()),
     }
 }
+
+#[cfg(test)]
+mod tests;

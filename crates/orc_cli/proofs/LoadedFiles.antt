@@ -4,7 +4,7 @@ use Rattle.std.specs.Prelude.{codes}
 use Rattle.std.specs.List.{All}
 use Rattle.std.proofs.lemmas.List.{length-map}
 use Rattle.std.proofs.lemmas.Option.{slice_get-get_or, slice_get_within}
-use Rattle.closure_laws.proofs.LevelsStaying.{row_below}
+use Rattle.closure_laws.proofs.Declared.{row_below}
 use Rattle.orc_names.specs.Numbers.{IsNumberOf}
 use Rattle.session_model.specs.Meaning.{Meaning}
 use Rattle.session_units.specs.Units.{meaning_of}

@@ -1,9 +1,9 @@
 -- The session of a program that was loaded.
-use Rattle.std.proofs.Common.{◌≡◌, ℕ, List, [], ◌∷◌, length, map, Some, ◌∙◌, arith, None, Result, Ok, Err}
+use Rattle.std.proofs.Common.{◌≡◌, ℕ, List, length, map, Some, ◌∙◌, arith, None, Result, Ok, Err}
 use Rattle.std.specs.Prelude.{slice_get, IfOk}
 use Rattle.std.specs.List.{All}
-use Rattle.std.proofs.lemmas.List.Elements.{All-cons, All-head, All-nil, All-tail}
 use Rattle.std.proofs.lemmas.Option.{slice_get_within}
+use Rattle.list_laws.proofs.Each.{all_unmapped}
 use Rattle.orc_ids.specs.declared.ids.NameId.{NameId}
 use Rattle.orc_names.specs.Numbers.{IsNumberOf, IsTable, KeepsNumbers}
 use Rattle.orc_names.proofs.Places.{number-from_place}
@@ -11,7 +11,7 @@ use Rattle.session_model.specs.Meaning.{Meaning}
 use Rattle.session_model.specs.declared.entry.Entry.{Entry}
 use Rattle.session_units.specs.Units.{meaning_of}
 use Rattle.session_units.specs.declared.unit.ObjectUnit.{ObjectUnit}
-use Rattle.closure_laws.proofs.LevelsStaying.{row_below}
+use Rattle.closure_laws.proofs.Declared.{row_below}
 use Rattle.journal_text.specs.Journal.{AreKnown, text_of_history}
 use Rattle.journal_names.specs.Laws.{HasKnownNames}
 use Rattle.command_line.specs.Words.{Request}
@@ -56,10 +56,6 @@ is_word jmax main entry units h setup later files end same (Ended.InLookup st se
 is_word jmax main entry units h setup later files end same (Ended.NotThere before n c set_up calls looks is) = tt
 is_word jmax main entry units h setup later files end same (Ended.NotReady before n c at i set_up calls looks is) = tt
 is_word jmax main entry units h setup later files end same (Ended.IsReady before m n at address c copy i ranges set_up calls looks is image memory) = tt
-
-all_unmapped : {X Y : Type 0} (P : Y → Type 0) (f : X → Y) (xs : List X) → All P (map f xs) → All (λ x. P (f x)) xs
-all_unmapped P f [] a = All-nil (λ x. P (f x))
-all_unmapped P f (x ∷ xs) a = All-cons (λ x. P (f x)) x xs (All-head P (f x) (map f xs) a) (all_unmapped P f xs (All-tail P (f x) (map f xs) a))
 
 module _ (told : Told) (run : Request) (l : Loaded) (loaded : IsLoaded told run l) where
   abbrev units : List Meaning

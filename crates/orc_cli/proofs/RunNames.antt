@@ -9,6 +9,7 @@ use Rattle.session_model.specs.Calls.{Looks, numbered_calls}
 use Rattle.session_model.specs.Meaning.{Meaning}
 use Rattle.session_model.specs.declared.entry.Entry.{Entry}
 use Rattle.session_model.specs.declared.entry.Event.TheVariants as event
+use Rattle.session_laws.specs.Entries.{entries}
 use Rattle.journal_text.specs.Journal.{AreKnown}
 use Rattle.journal_text.specs.Parts.{IsGiven}
 use Rattle.journal_names.specs.Laws.{HasKnownNames}
@@ -19,7 +20,7 @@ use Rattle.run_laws.specs.Runs.{IsSetUp, lookup_of}
 use Rattle.run_laws.specs.declared.linked.Linked.{Linked}
 use Rattle.run_laws.proofs.Costs.{each_joined}
 use Rattle.run_laws.proofs.Seats.{calls_past}
-use Rattle.spoken_names.specs.Speaking.{Speaks, entries}
+use Rattle.spoken_names.specs.Speaking.{Speaks}
 use Rattle.spoken_names.proofs.Seats.{IsNamed, IsNamedEntry, each_taken, of_events, setup_speaks, spoken_known}
 use Rattle.spoken_names.proofs.Speaking.{front, jobs_speak, looks_speak, then_copies}
 

@@ -20,10 +20,8 @@ use Rattle.session_model.specs.declared.rows.InstRow.{InstRow}
 use Rattle.session_model.specs.declared.rows.Match.TheVariants.{Instance, Offered}
 use Rattle.session_model.specs.declared.rows.Query.{Query}
 use Rattle.session_model.specs.declared.rows.Row.{Row}
-use Rattle.session_laws.proofs.Elements.{mapped_parts, mapped_some}
-use Rattle.session_laws.proofs.Ending.{front_legal}
-use Rattle.closure_laws.proofs.Ends.{bindings_are_ends, bindings_are_matches}
-use Rattle.closure_laws.proofs.Linking.{links_are_lookups}
+use Rattle.session_laws.proofs.Declared.{mapped_parts, mapped_some, front_legal}
+use Rattle.closure_laws.proofs.Declared.{bindings_are_ends, bindings_are_matches, links_are_lookups}
 use Rattle.closure_laws.specs.Bindings.{IsItsEnd}
 use Rattle.closure_laws.specs.Links.{LinkedAt}
 use Rattle.program_names.proofs.Objects.{names_stay}
@@ -35,7 +33,7 @@ use Rattle.program_links.proofs.Quieting.{asked_later, still_there}
 -- What a name matches in the one dylib
 
 -- with these generators, and this row of the name
-abbrev matched_by : List GenRow → ℕ → Option Row → Option InstId
+abbrev pub matched_by : List GenRow → ℕ → Option Row → Option InstId
 matched_by generators name row = instance_of (or_else (or_else (option_map_or (λ (r : Row). only_if true (Instance r.inst)) row None) (option_map Offered (offered_by generators 0 name scope.All))) None)
 
 matched_alone : (name : ℕ) (row : Option Row) → matched_by [] name row ≡ option_map (λ (r : Row). r.inst) row

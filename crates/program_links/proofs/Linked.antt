@@ -31,15 +31,8 @@ use Rattle.session_model.specs.declared.rows.UnitPhase.TheVariants as stage
 use Rattle.session_units.proofs.Lawful.{bound_are}
 use Rattle.session_units.proofs.Sharing.{on_found}
 use Rattle.session_units.specs.Meaning.{instances}
-use Rattle.session_laws.proofs.Elements.{element_below, mapped_some, same_element}
-use Rattle.session_laws.proofs.Facts.{deps_parts, no_dep, test_from, test_parts}
-use Rattle.session_laws.proofs.Losing.{deps_in_groups, numbers_all}
-use Rattle.session_laws.proofs.Paths.{closed_reached}
-use Rattle.session_laws.proofs.Replies.{row_here}
-use Rattle.closure_laws.proofs.Depending.{dependencies_are_kept}
-use Rattle.closure_laws.proofs.Ends.{bound_addresses_are_kept}
-use Rattle.closure_laws.proofs.LevelsStaying.{row_below}
-use Rattle.closure_laws.proofs.Linking.{done_is_bound}
+use Rattle.session_laws.proofs.Declared.{element_below, mapped_some, same_element, deps_parts, no_dep, test_from, test_parts, deps_in_groups, numbers_all, closed_reached, row_here}
+use Rattle.closure_laws.proofs.Declared.{dependencies_are_kept, bound_addresses_are_kept, row_below, done_is_bound}
 use Rattle.closure_laws.specs.Bindings.{IsAt}
 use Rattle.closure_laws.specs.Dependencies.{unit_groups}
 use Rattle.static_links.specs.Links.{IsLinkedProgram, Member, Spot, Spots}

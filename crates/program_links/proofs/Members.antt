@@ -7,7 +7,7 @@ pub use Rattle.list_laws.proofs.Each.{all_at as one_of_all}
 use Rattle.link_model.specs.Image.{at_or}
 use Rattle.link_model.specs.Sound.{Sound}
 use Rattle.link_model.specs.declared.graph.LinkGraph.{LinkGraph}
-use Rattle.session_laws.proofs.Elements.{mapped_some}
+use Rattle.session_laws.proofs.Declared.{mapped_some}
 use Rattle.session_model.specs.Plain.{Plain, UnitRow}
 use Rattle.static_links.specs.Laws.{laid_out}
 use Rattle.closures.specs.Closures.{AreObjects, IsGraphUnit, IsBlockOf, block_at, member_of, members_of}

@@ -13,8 +13,7 @@ use Rattle.link_model.specs.declared.graph.GSym.{GSym}
 use Rattle.link_model.specs.declared.graph.LinkGraph.{LinkGraph}
 use Rattle.block_groups.specs.Groups.{is_own}
 use Rattle.session_model.specs.Lists.{numbered}
-use Rattle.session_laws.proofs.Elements.{numbered_at, numbered_parts}
-use Rattle.session_laws.proofs.Settling.{chosen}
+use Rattle.session_laws.proofs.Declared.{numbered_at, numbered_parts, chosen}
 use Rattle.static_links.specs.Links.{Member, Spot}
 use Rattle.closures.specs.Closures.{nowhere, own_spot}
 use Rattle.program_names.proofs.Building.{definition_is}

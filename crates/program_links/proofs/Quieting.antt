@@ -2,7 +2,6 @@
 use Rattle.std.proofs.Common.{◌≡◌, ℕ, ◌+◌, ◌-◌, ◌<◌, ◌≤◌, true, false, List, [], ◌∷◌, ◌++◌, length, take, drop, slice_get, ◌⊎◌, inl, inr, append_assoc, append-nil, arith, subst, sym, refl, ap, ◌∙◌, Some}
 use Rattle.std.specs.List.{All}
 use Rattle.std.proofs.Math.Seq.{take-append-add}
-use Rattle.std.proofs.lemmas.Bool.{both_ways}
 use Rattle.std.proofs.lemmas.List.{length-append}
 use Rattle.std.proofs.lemmas.List.Elements.{All-nil, All-head, All-tail, All-drop}
 use Rattle.std.proofs.lemmas.Option.{none-some}
@@ -12,17 +11,12 @@ use Rattle.session_model.specs.History.{IsLegal}
 use Rattle.session_model.specs.Meaning.{Meaning}
 use Rattle.session_model.specs.Plain.{Plain, empty}
 use Rattle.session_model.specs.State.{state, after}
-use Rattle.session_model.specs.declared.change.Change.{Change}
 use Rattle.session_model.specs.declared.entry.Entry.{Entry}
 use Rattle.session_model.specs.declared.rows.InstRow.{InstRow}
 use Rattle.session_model.specs.declared.rows.Query.{Query}
-use Rattle.session_laws.proofs.Along.{prefixes_legal, state_from_push}
-use Rattle.session_laws.proofs.Ending.{after_query, query_cases, entries_are, front_and_rest}
-use Rattle.session_laws.proofs.Settling.{settled_rows}
-use Rattle.closure_laws.proofs.Fields.{is_define}
-use Rattle.closure_laws.proofs.Histories.{OneMore, one_more, kept_along}
-use Rattle.closure_laws.proofs.RowMoving.{RowMoves, RowStays, RowYields, RowClaimed, RowResolved, RowEmitted, RowFails, RowGoes, RowRuns, RowHere, RowOn, change_rows, run_same}
-use Rattle.program_names.proofs.Staying.{keeps, keeps_change, keeps_undefined, run_present}
+use Rattle.session_laws.proofs.Declared.{prefixes_legal, state_from_push, after_query, query_cases, entries_are, front_and_rest, settled_rows}
+use Rattle.closure_laws.proofs.Declared.{OneMore, one_more, kept_along, change_rows, run_same}
+use Rattle.program_names.proofs.Staying.{keeps_change, run_present}
 use Rattle.program_names.proofs.Waiting.{ask_comes_first}
 use Rattle.program_names.specs.Laws.{is_ask}
 use Rattle.program_names.specs.Programs.{IsProgram, keeps_names}

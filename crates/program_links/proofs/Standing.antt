@@ -29,12 +29,9 @@ use Rattle.session_model.specs.declared.rows.Phase.{Phase}
 use Rattle.session_model.specs.declared.rows.Phase.TheVariants as phase
 use Rattle.session_model.specs.declared.rows.UnitPhase.{UnitPhase}
 use Rattle.session_model.specs.declared.rows.UnitPhase.TheVariants as stage
-use Rattle.session_laws.proofs.Addresses.{addresses_are_kept}
-use Rattle.session_laws.proofs.Invariant.{legal_is_sound}
-use Rattle.session_laws.proofs.Ranges.{placements_lie_apart}
+use Rattle.session_laws.proofs.Declared.{addresses_are_kept, legal_is_sound, placements_lie_apart}
 use Rattle.session_laws.specs.Sound.{fits, row_stage, until_based}
-use Rattle.closure_laws.proofs.Linking.{some_there}
-use Rattle.closure_laws.proofs.Working.{all_work, is_placed}
+use Rattle.closure_laws.proofs.Declared.{some_there, all_work, is_placed}
 use Rattle.static_links.specs.Links.{Member}
 use Rattle.closures.specs.Closures.{block_at, member_of, members_of, offer_place, own_spot}
 use Rattle.program_names.specs.Laws.{IsObjectUnit, IsOfObjects, IsOfSymbol}

@@ -31,8 +31,7 @@ use Rattle.session_model.specs.declared.rows.UnitPhase.TheVariants as stage
 use Rattle.session_model.specs.declared.rows.Verdict.{Verdict}
 use Rattle.session_model.specs.declared.rows.Verdict.TheVariants.{Kept, Replaces}
 use Rattle.session_units.specs.Meaning.{graph_meaning}
-use Rattle.session_laws.proofs.Defining.{new_rows_phase}
-use Rattle.session_laws.proofs.Elements.{appended_at, appended_cases, element_below, front_some, mapped_parts, mapped_some, numbered_length, numbered_parts, numbered_some, pushed_cases, pushed_last, same_element}
+use Rattle.session_laws.proofs.Declared.{new_rows_phase, appended_at, appended_cases, element_below, front_some, mapped_parts, mapped_some, numbered_length, numbered_parts, numbered_some, pushed_cases, pushed_last, same_element}
 use Rattle.closure_laws.specs.Names.{HasOneRowEach, is_present_as}
 use Rattle.program_names.specs.Laws.{IsUntouched, main_order}
 use Rattle.program_names.specs.Names.{defines, defines_strongly, definition, first_symbol, is_definition, kept_names}

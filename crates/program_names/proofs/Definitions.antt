@@ -15,7 +15,7 @@ use Rattle.link_model.specs.declared.graph.GSym.{GSym}
 use Rattle.link_model.specs.declared.graph.LinkGraph.{LinkGraph}
 use Rattle.session_model.specs.Change.{is_strong}
 use Rattle.session_model.specs.Lists.{or_else}
-use Rattle.session_laws.proofs.Elements.{element_below}
+use Rattle.session_laws.proofs.Declared.{element_below}
 use Rattle.program_names.specs.Names.{defines, defines_strongly, definition, first_symbol}
 
 -- Places

@@ -18,7 +18,7 @@ use Rattle.session_model.specs.declared.entry.Entry.{Entry}
 use Rattle.session_model.specs.declared.rows.Dylib.{Dylib}
 use Rattle.session_model.specs.declared.rows.InstRow.{InstRow}
 use Rattle.session_model.specs.declared.rows.Track.{Track}
-use Rattle.session_laws.proofs.Along.{prefixes_legal}
+use Rattle.session_laws.proofs.Declared.{prefixes_legal}
 use Rattle.program_names.specs.Laws.{IsOfObjects, IsOfSymbol, HasRow, NamesAreDefined, NamesStay, main_order}
 use Rattle.program_names.specs.Names.{definition}
 use Rattle.program_names.specs.Programs.{keeps_names}

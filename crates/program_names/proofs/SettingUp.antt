@@ -31,12 +31,9 @@ use Rattle.session_model.specs.declared.rows.Query.{Query}
 use Rattle.session_model.specs.declared.rows.Verdict.{Verdict}
 use Rattle.session_model.specs.declared.rows.Verdict.TheVariants.{Kept, Replaces, Discarded, Clashes}
 use Rattle.session_units.specs.Meaning.{graph_meaning}
-use Rattle.session_laws.proofs.Along.{prefixes_legal, state_from_push}
-use Rattle.session_laws.proofs.Elements.{element_below, mapped_parts, mapped_some, pushed_cases}
-use Rattle.session_laws.proofs.Replies.{AllReplies, none_given, replies_first, replies_only}
-use Rattle.closure_laws.proofs.Histories.{OneMore, one_more}
-use Rattle.closure_laws.proofs.LevelsStaying.{row_below}
-use Rattle.closure_laws.proofs.NamesOnce.{names_are_once}
+use Rattle.session_laws.proofs.Declared.{prefixes_legal, state_from_push, element_below, mapped_parts, mapped_some, pushed_cases, AllReplies, none_given, replies_first, replies_only}
+use Rattle.session_laws.specs.Entries.{events_of}
+use Rattle.closure_laws.proofs.Declared.{OneMore, one_more, row_below, names_are_once}
 use Rattle.closure_laws.specs.Names.{AllOffersDiffer, HasOneRowEach}
 use Rattle.closure_laws.specs.Names as once
 use Rattle.program_names.specs.Laws.{IsUntouched}
@@ -234,9 +231,6 @@ empty_set_up main = record {
 }
 
 -- Along the setup
-
-abbrev events_of : List (Entry Meaning) → List (Event Meaning)
-events_of es = map (λ (e : Entry Meaning). e.event) es
 
 set_up_along : (jmax : ℕ) (h es : List (Entry Meaning)) (gs rest : List LinkGraph) (units : List Meaning) → IsLegal jmax (h ++ es) → AreThese units rest → events_of es ≡ map (event.Define first_dylib first_tracker) units → All (λ (e : Entry Meaning). is_done e.reply ≡ true) es → IsSetUp gs (state h) →
     IsSetUp (gs ++ rest) (state (h ++ es))

@@ -26,15 +26,9 @@ use Rattle.session_model.specs.declared.entry.Reply.TheVariants as reply
 use Rattle.session_model.specs.declared.rows.Dylib.{Dylib}
 use Rattle.session_model.specs.declared.rows.InstRow.{InstRow}
 use Rattle.session_model.specs.declared.rows.Track.{Track}
-use Rattle.session_laws.proofs.Along.{prefixes_legal, state_from_push}
-use Rattle.session_laws.proofs.Elements.{changed_length}
-use Rattle.session_laws.proofs.Replies.{Guard}
-use Rattle.session_laws.proofs.Settling.{chosen, settled_rows, settling_keeps}
+use Rattle.session_laws.proofs.Declared.{prefixes_legal, state_from_push, changed_length, Guard, chosen, settled_rows, settling_keeps}
 use Rattle.session_laws.specs.Sound.{IsSound}
-use Rattle.closure_laws.proofs.Fields.{HasFields, IsNew, MovesTo, change_fields, is_define, settled_fields}
-use Rattle.closure_laws.proofs.Histories.{OneMore, one_more}
-use Rattle.closure_laws.proofs.RowMoving.{RowMoves, RowStays, RowYields, RowClaimed, RowResolved, RowEmitted, RowFails, RowGoes, RowRuns, RowHere, RowOn, SameRow, change_rows, run_same}
-use Rattle.closure_laws.proofs.RowSources.{row_was}
+use Rattle.closure_laws.proofs.Declared.{HasFields, IsNew, MovesTo, change_fields, is_define, settled_fields, OneMore, one_more, RowMoves, RowStays, RowYields, RowClaimed, RowResolved, RowEmitted, RowFails, RowGoes, RowRuns, RowHere, RowOn, SameRow, change_rows, run_same, row_was}
 use Rattle.program_names.specs.Names.{defines, definition}
 use Rattle.program_names.specs.Programs.{keeps_names}
 use Rattle.program_names.proofs.Building.{IsBuilt, IsBuiltUnit, IsDefinitionRow, IsThere}

@@ -21,8 +21,8 @@ use Rattle.session_model.specs.declared.entry.Reply.{Reply}
 use Rattle.session_model.specs.declared.entry.Reply.TheVariants as reply
 use Rattle.session_model.specs.declared.rows.Job.{Job}
 use Rattle.session_model.specs.declared.rows.UnitPhase.{UnitPhase}
-use Rattle.session_laws.proofs.Along.{prefixes_legal, state_from_push}
-use Rattle.closure_laws.proofs.Histories.{OneMore, one_more}
+use Rattle.session_laws.proofs.Declared.{prefixes_legal, state_from_push}
+use Rattle.closure_laws.proofs.Declared.{OneMore, one_more}
 use Rattle.program_names.specs.Laws.{AskComesFirst, IsUntouched, is_ask}
 use Rattle.program_names.specs.Programs.{keeps_names}
 use Rattle.program_names.proofs.SettingUp.{at_entries, set_up, settled_none, these_units}

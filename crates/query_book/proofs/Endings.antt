@@ -2,7 +2,7 @@
 use Rattle.std.proofs.Common.{◌≡◌, ◌≢◌, ℕ, Option, Some, None, ◌+◌, ◌<◌, ◌≤◌, List, [], ◌∷◌, ◌++◌, length, map, set, zero, suc, refl, ap, sym, ◌∙◌, cond, subst, arith, length-set, length-append, append_assoc}
 use Rattle.std.specs.Prelude.{◌==◌, IfSome, IfNone, slice_get, option_and_then, option_to_list}
 use Rattle.std.specs.Option.{option_map_or}
-use Rattle.std.proofs.lemmas.List.{map-set}
+use Rattle.std.proofs.lemmas.List.{map-set, map-append}
 use Rattle.orc_ids.specs.declared.ids.UnitId.{UnitId}
 use Rattle.orc_ids.specs.declared.lookup.Outcome.{Outcome}
 use Rattle.session_model.specs.Query.{Stand}
@@ -14,7 +14,7 @@ use Rattle.query_book.specs.declared.rows.State.{State}
 use Rattle.query_book.specs.declared.rows.State.TheVariants.{Open, Ended}
 use Rattle.query_book.specs.Stands.{ending}
 use Rattle.query_book.specs.Counts.{count}
-use Rattle.query_book.specs.Rows.{Account, ended_one, fired_one, ended_all, fired_all, unit_of, notices, outcome_of, first_armed, without_first, armed_count}
+use Rattle.query_book.specs.Rows.{Account, with_query, ended_one, fired_one, ended_all, fired_all, unit_of, notices, outcome_of, first_armed, without_first, armed_count}
 use Rattle.query_book.specs.States.{end_of, CanEnd, open_count, HaveRoom, OnlyOpen, NoneBefore, IsSound}
 use Rattle.query_book.proofs.Parts.{get_other, count_same}
 
@@ -169,6 +169,33 @@ sound_push {X} qs qs' states states' armed armed' unarmed due room due' room' q 
       below = none_push unarmed armed o s.within s.below;
       within = let l : length (armed ++ o ∷ []) ≡ length armed + 1 = length-append armed (o ∷ []) in omega (arith, l, s.within);
     })))
+
+pub sound_same : {X : Type 0} (qs qs' : List Query) (states states' : List State) (armed armed' : List (Option X)) (unarmed due room due' room' : ℕ) → IsSound qs states armed unarmed due room → qs' ≡ qs → states' ≡ states → armed' ≡ armed → due' ≡ due → room ≤ room' → IsSound qs' states' armed' unarmed due' room'
+sound_same qs qs' states states' armed armed' unarmed due room due' room' s eq es ea same more =
+    subst (λ l. IsSound l states' armed' unarmed due' room') (sym eq) (subst (λ l. IsSound qs l armed' unarmed due' room') (sym es) (subst (λ l. IsSound qs states l unarmed due' room') (sym ea) (record {
+      states_of = s.states_of;
+      armed_of = s.armed_of;
+      rooms = s.rooms;
+      units = omega (arith, s.units, same, more);
+      only_open = s.only_open;
+      below = s.below;
+      within = s.within;
+    })))
+
+-- the rows as they are seen
+abbrev pub account_of : {N : Type 0} → List Query → List State → List (Option (Unheard N)) → List UnitId → Account N
+account_of qs states armed due = record { queries = qs; ends = map end_of states; armed = armed; due = due }
+
+pub account_same : {N : Type 0} (qs qs' : List Query) (states states' : List State) (armed armed' : List (Option (Unheard N))) (due due' : List UnitId) (a : Account N) → account_of qs states armed due ≡ a → qs' ≡ qs → states' ≡ states → armed' ≡ armed → due' ≡ due → account_of qs' states' armed' due' ≡ a
+account_same qs qs' states states' armed armed' due due' a is eq es ea ed =
+    ap (λ x. account_of x states' armed' due') eq ∙ ap (λ x. account_of qs x armed' due') es ∙ ap (λ x. account_of qs states x due') ea ∙ ap (λ x. account_of qs states armed x) ed ∙ is
+
+pub account_push : {N : Type 0} (qs qs' : List Query) (states states' : List State) (armed armed' : List (Option (Unheard N))) (due due' : List UnitId) (a : Account N) (q : Query) (st : State) (o : Option (Unheard N)) → account_of qs states armed due ≡ a → end_of st ≡ None → qs' ≡ qs ++ q ∷ [] → states' ≡ states ++ st ∷ [] → armed' ≡ armed ++ o ∷ [] → due' ≡ due → account_of qs' states' armed' due' ≡ with_query a q o
+account_push {N} qs qs' states states' armed armed' due due' a q st o is unended eq es ea ed =
+    ap (λ x. account_of x states' armed' due') eq ∙ ap (λ x. account_of (qs ++ q ∷ []) x armed' due') es ∙ ap (λ x. account_of (qs ++ q ∷ []) (states ++ st ∷ []) x due') ea
+    ∙ ap (λ x. account_of (qs ++ q ∷ []) (states ++ st ∷ []) (armed ++ o ∷ []) x) ed
+    ∙ ap (λ (x : List (Option QueryEnd)). let b : Account N = record { queries = qs ++ q ∷ []; ends = x; armed = armed ++ o ∷ []; due = due } in b) (map-append end_of states (st ∷ []) ∙ ap (λ e. map end_of states ++ e ∷ []) unended)
+    ∙ ap (λ (x : Account N). with_query x q o) is
 
 pub none_taken : {X : Type 0} (k : ℕ) (os : List (Option X)) → NoneBefore k os → NoneBefore (suc k) (set os k None)
 none_taken zero [] none = tt

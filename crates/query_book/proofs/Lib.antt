@@ -12,3 +12,7 @@ pub mod Lodging
 pub mod Session
 pub mod Current
 pub mod Crossing
+pub mod Lessening
+pub mod Beginning
+pub mod Filling
+pub mod Growing

@@ -36,7 +36,7 @@ found_within [] k is = absurd cc
 found_within (m ∷ marks) zero is = omega arith
 found_within (m ∷ marks) (suc k) is = let h : k < length marks = found_within marks k is in omega arith
 
-left_within : (marks : List Mark) (k : ℕ) → 0 < left_at marks k → k < length marks
+pub left_within : (marks : List Mark) (k : ℕ) → 0 < left_at marks k → k < length marks
 left_within [] k is = absurd (omega (arith, is))
 left_within (m ∷ marks) zero is = omega arith
 left_within (m ∷ marks) (suc k) is = let h : k < length marks = left_within marks k is in omega arith

@@ -5,7 +5,7 @@ use Rattle.std.specs.Option.{option_map_or}
 use Rattle.query_book.specs.declared.lists.Node.{Node}
 use Rattle.query_book.specs.Counts.{list_at}
 use Rattle.query_book.specs.Lists.{walk, walks, IsChained}
-use Rattle.std.proofs.lemmas.List.{map-set, append-nil, map-append}
+use Rattle.std.proofs.lemmas.List.{map-set, append-nil, map-append, take_all}
 use Rattle.std.proofs.Common.{length-append}
 use Rattle.std.proofs.lemmas.Option.{slice_get_within}
 use Rattle.list_laws.proofs.Lists.{some_below, appended_below, pushed_last, set_there}
@@ -170,21 +170,15 @@ walks_added nodes nodes' firsts lists at query len next chained view is more cou
     ap (λ ns. walks ns (set firsts at (Some len))) more ∙ ap (λ n. walks (nodes ++ record { query = query; next = next } ∷ []) (set firsts at (Some n))) count
     ∙ walks_add nodes firsts at query next chained is ∙ ap (λ ls. set ls at (query ∷ list_at ls at)) view
 
-take_past : {X : Type 0} (k : ℕ) (xs : List X) → length xs ≤ k → take k xs ≡ xs
-take_past zero [] past = refl
-take_past zero (x ∷ xs) past = absurd (omega (arith, past))
-take_past (suc k) [] past = refl
-take_past (suc k) (x ∷ xs) past = ap (λ l. x ∷ l) (take_past k xs (omega (arith, past)))
-
 -- as the code makes more lists
 pub grown_at : (nodes : List Node) (firsts firsts' : List (Option ℕ)) (lists : List (List ℕ)) (at n i : ℕ) → walks nodes firsts ≡ lists → firsts' ≡ take at firsts ++ replicate n None → length firsts ≤ at → list_at (walks nodes firsts') i ≡ list_at lists i
 grown_at nodes firsts firsts' lists at n i view more past =
-    ap (λ fs. list_at (walks nodes fs) i) (more ∙ ap (λ fs. fs ++ replicate n None) (take_past at firsts past))
+    ap (λ fs. list_at (walks nodes fs) i) (more ∙ ap (λ fs. fs ++ replicate n None) (take_all at firsts past))
     ∙ walks_more_at nodes firsts n i ∙ ap (λ ls. list_at ls i) view
 
 pub grown_total : (nodes : List Node) (firsts firsts' : List (Option ℕ)) (lists : List (List ℕ)) (at n k : ℕ) → walks nodes firsts ≡ lists → firsts' ≡ take at firsts ++ replicate n None → length firsts ≤ at → total k (walks nodes firsts') ≡ total k lists
 grown_total nodes firsts firsts' lists at n k view more past =
-    ap (λ fs. total k (walks nodes fs)) (more ∙ ap (λ fs. fs ++ replicate n None) (take_past at firsts past))
+    ap (λ fs. total k (walks nodes fs)) (more ∙ ap (λ fs. fs ++ replicate n None) (take_all at firsts past))
     ∙ walks_more_total nodes firsts n k ∙ ap (λ ls. total k ls) view
 
 pub if_none : {X : Type 0} {P : Type 0} (r : Option X) → P → IfNone r P

@@ -1,5 +1,5 @@
 ghost use Rattle.std.specs.Prelude.{◌≡◌, ◌≢◌, ℕ, ◌+◌, ◌<◌, ◌≤◌, ◌++◌, None, Some, length, slice_get, OnOk, OnErr, IfOk, IfSome, option_and_then, option_to_list, option_map};
-ghost use Rattle.std.specs.Vec.{vec_capacity};
+ghost use Rattle.std.specs.Vec.{vec_len, vec_capacity};
 ghost use Rattle.std.specs.VecDeque.{deque_len, deque_capacity};
 ghost use Rattle.query_book.specs.Counts.{count};
 ghost use Rattle.query_book.specs.Stands.{ending};
@@ -108,6 +108,30 @@ fn fire<N: Notify>(armed: &mut Option<Armed<N>>, outcome: Outcome, fires: &mut F
     }
 }
 
+/// Makes the room for one more query, and for the units of all of them.
+fn make_room<N: Notify>(
+    queries: &mut Vec<Query>,
+    states: &mut Vec<State>,
+    armed: &mut Vec<Option<Armed<N>>>,
+    due: &mut VecDeque<UnitId>,
+) -> Result<(), AllocError>
+    ensures queries { queries.new.items ≡ queries.old.items }
+    ensures states { states.new.items ≡ states.old.items }
+    ensures armed { armed.new.items ≡ armed.old.items }
+    ensures due { due.new.items ≡ due.old.items }
+    ensures len { deque_len due.new ≡ deque_len due.old }
+    ensures more { deque_capacity due.old ≤ deque_capacity due.new }
+    ensures query_room { OnOk result (vec_len queries.new < vec_capacity queries.new) }
+    ensures state_room { OnOk result (vec_len states.new < vec_capacity states.new) }
+    ensures armed_room { OnOk result (vec_len armed.new < vec_capacity armed.new) }
+    ensures due_room { OnOk result (deque_len due.new + vec_len states.new + 1 ≤ deque_capacity due.new) }
+{
+    queries.reserve(1)?;
+    states.reserve(1)?;
+    armed.reserve(1)?;
+    due.reserve(states.len() + 1)
+}
+
 /// Takes out the first notifier, and moves the number below which there is none past it.
 fn take_first<N: Notify>(armed: &mut Vec<Option<Armed<N>>>, unarmed: &mut usize) -> Option<Armed<N>>
     requires below { NoneBefore unarmed.old armed.old.items }
@@ -160,10 +184,12 @@ impl<N: Notify> Rows<N> {
         ensures kept { OnErr result (then.new ≡ then.old) }
     {
         let room = Vec::with_capacity(self.alloc, q.matched.len())?;
-        self.queries.reserve(1)?;
-        self.states.reserve(1)?;
-        self.armed.reserve(1)?;
-        self.due.reserve(self.states.len() + 1)?;
+        make_room(
+            &mut self.queries,
+            &mut self.states,
+            &mut self.armed,
+            &mut self.due,
+        )?;
         self.queries.push_reserved(q);
         self.states.push_reserved(State::Open(room));
         self.armed.push_reserved(then.take());

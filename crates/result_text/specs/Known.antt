@@ -1,8 +1,8 @@
 -- That each name which is written is one of the table.
 use Rattle.std.specs.Prelude.{ℕ, List, All}
 use Rattle.orc_ids.specs.declared.lookup.Wanted.{Wanted}
-use Rattle.link_worker.specs.declared.looking.LookEnd.{LookEnd}
-use Rattle.link_worker.specs.declared.looking.LookEnd.TheVariants as look
+use Rattle.look_ends.specs.declared.look_end.LookEnd.{LookEnd}
+use Rattle.look_ends.specs.declared.look_end.LookEnd.TheVariants as look
 use Rattle.script_laws.specs.declared.line_end.LineEnd.{LineEnd}
 use Rattle.script_laws.specs.declared.line_end.LineEnd.TheVariants.{Looked, Replied}
 use Rattle.journal_text.specs.Parts.{IsGiven}

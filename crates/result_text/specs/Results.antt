@@ -7,8 +7,8 @@ use Rattle.orc_ids.specs.declared.lookup.Stop.TheVariants as stop
 use Rattle.orc_ids.specs.declared.lookup.Wanted.{Wanted}
 use Rattle.exec_run.specs.declared.ran.RunEnd.{RunEnd}
 use Rattle.session_model.specs.Meaning.{Bindings}
-use Rattle.link_worker.specs.declared.looking.LookEnd.{LookEnd}
-use Rattle.link_worker.specs.declared.looking.LookEnd.TheVariants as look
+use Rattle.look_ends.specs.declared.look_end.LookEnd.{LookEnd}
+use Rattle.look_ends.specs.declared.look_end.LookEnd.TheVariants as look
 use Rattle.script_laws.specs.declared.line_end.LineEnd.{LineEnd}
 use Rattle.script_laws.specs.declared.line_end.LineEnd.TheVariants.{Looked, Ran, Replied, Skipped, Stopped, Unfound}
 use Rattle.text_parts.specs.Hexadecimal.{hex, hex_bytes}

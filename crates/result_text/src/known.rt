@@ -2,7 +2,7 @@ ghost use Rattle.std.specs.Prelude.{◌↔◌, All, IsTrue, map};
 ghost use Rattle.result_text.specs.Known.{AreAsked, AreKnownEnds, KnownEnd};
 
 use journal_text::{are_given, is_given, knows_reply};
-use link_worker::LookEnd;
+use look_ends::LookEnd;
 use orc_ids::{Items, Wanted};
 use orc_names::Names;
 use script_laws::LineEnd;

@@ -4,7 +4,7 @@ ghost use Rattle.result_text.specs.Results.{address_text, given_text, look_text}
 
 use crate::stops::put_stop;
 use journal_text::put_named;
-use link_worker::LookEnd;
+use look_ends::LookEnd;
 use orc_ids::{InstId, Stop, Wanted};
 use orc_names::Names;
 use std::alloc::{AllocError, Global};

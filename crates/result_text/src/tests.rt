@@ -2,7 +2,7 @@
 
 use crate::{are_known_ends, text_of_results};
 use exec_run::RunEnd;
-use link_worker::LookEnd;
+use look_ends::LookEnd;
 use orc_ids::{Bytes, DylibId, InstId, Items, NameId, Stop, UnitId, Wanted};
 use orc_names::Names;
 use rv_hart::Cause;

@@ -2,8 +2,8 @@
 
 ghost use Rattle.std.specs.Prelude.{◌≡◌, Some, slice_get};
 ghost use Rattle.session_model.specs.Plain.{UnitRow};
-ghost use Rattle.execution_session.specs.Performs.{state_of};
-ghost use Rattle.execution_session.specs.Taken.{IsUnitOf};
+ghost use Rattle.session_steps.specs.Performs.{state_of};
+ghost use Rattle.session_steps.specs.Taken.{IsUnitOf};
 ghost use Rattle.ring_lab.specs.Ring.{ring_meaning};
 
 use crate::unit::RingUnit;

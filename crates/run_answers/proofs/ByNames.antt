@@ -3,10 +3,11 @@ use Rattle.std.proofs.Common.{◌≡◌, ℕ, suc, ◌+◌, ◌-◌, ◌<◌, �
 use Rattle.std.specs.Prelude.{option_map, if◌then◌else◌}
 use Rattle.std.specs.List.{All}
 use Rattle.std.specs.Option.{option_map_or}
-use Rattle.std.proofs.Math.Seq.{take-append_seam, take-append-add}
+use Rattle.std.proofs.Math.Seq.{take-append_seam}
 use Rattle.std.proofs.lemmas.List.{take-take}
 use Rattle.std.proofs.lemmas.List.Elements.{All-take}
 use Rattle.std.proofs.lemmas.Option.{none-some, same_Some}
+use Rattle.list_laws.proofs.Bools.{bool_same}
 use Rattle.orc_ids.specs.declared.flags.SymFlags.{SymFlags}
 use Rattle.orc_ids.specs.declared.ids.DylibId.{DylibId}
 use Rattle.orc_ids.specs.declared.ids.InstId.{InstId}
@@ -32,13 +33,9 @@ use Rattle.session_model.specs.declared.entry.Entry.{Entry}
 use Rattle.session_model.specs.declared.rows.InstRow.{InstRow}
 use Rattle.session_model.specs.declared.rows.Phase.{Phase}
 use Rattle.session_model.specs.declared.rows.Row.{Row}
-use Rattle.session_laws.proofs.Along.{state_from_push}
-use Rattle.session_laws.proofs.Ending.{front_and_rest, front_legal}
-use Rattle.session_laws.proofs.Readying.{ready_stays_ready}
-use Rattle.session_laws.proofs.Settling.{settled_rows}
+use Rattle.session_laws.proofs.Declared.{state_from_push, front_and_rest, front_legal, ready_stays_ready, settled_rows}
 use Rattle.session_laws.specs.Readiness.{phase_at}
-use Rattle.closure_laws.proofs.Histories.{OneMore, kept_along}
-use Rattle.closure_laws.proofs.RowMoving.{SameRow, change_rows, run_same}
+use Rattle.closure_laws.proofs.Declared.{OneMore, kept_along, SameRow, change_rows, run_same}
 use Rattle.program_names.proofs.Objects.{names_are_defined}
 use Rattle.program_names.specs.Programs.{IsProgram, keeps_names}
 use Rattle.program_links.proofs.Linked.{linked_by_names}
@@ -112,11 +109,6 @@ first_same test k (r ∷ rs) (q ∷ qs) row h e = split (test r) refl (λ f. fir
     split true b rest = ap (λ c. choose c q.flags (first_row test (k + 1) qs)) (test_is ∙ b) ∙ (ap (λ (f : SymFlags). choose true f (first_row test (k + 1) qs)) flags_are ∙ (ap (λ c. choose c r.flags (first_row test (k + 1) rs)) (sym b) ∙ e))
     split false b rest = ap (λ c. choose c q.flags (first_row test (k + 1) qs)) (test_is ∙ b) ∙ rest (ap (λ c. choose c r.flags (first_row test (k + 1) rs)) (sym b) ∙ e)
 
-both_present : (a b : Bool) → (a ≡ true → b ≡ true) → (b ≡ true → a ≡ true) → a ≡ b
-both_present true b f g = sym (f refl)
-both_present false true f g = g refl
-both_present false false f g = refl
-
 -- so the name that has a row after the set-up of a program has it still
 row_stays : (jmax : ℕ) (h : List (Entry Meaning)) → IsLegal jmax h → (graphs : List LinkGraph) (p : IsProgram graphs h) (name : ℕ) (row : Row) → row_of (state p.setup).rows 0 name ≡ Some row → row_of (state h).rows 0 name ≡ Some row
 row_stays jmax h l graphs p name row e = first_same test 0 (state p.setup).rows (state h).rows row each e
@@ -137,7 +129,7 @@ row_stays jmax h l graphs p name row e = first_same test 0 (state p.setup).rows 
         (q.0, q.1, ap (λ b. b && q.0.dylib.0 == 0 && q.0.name.0 == name) (present q.0 q.1 s) ∙ ap₂ (λ (d : DylibId) (n : NameId). r.present && d.0 == 0 && n.0 == name) s.dylib s.name, s.flags)
       where
         present : (q : InstRow) → slice_get (state h).rows i ≡ Some q → SameRow r q → q.present ≡ r.present
-        present q f s = both_present q.present r.present s.present
+        present q f s = bool_same q.present r.present s.present
             (λ b. let still = still_there jmax h l graphs p (length p.setup) (omega arith) i r (ap (λ g. slice_get (state g).rows i) front ∙ t) b in
             ap (λ (x : InstRow). x.present) (same_Some q still.row (sym f ∙ still.there)) ∙ still.present)
 

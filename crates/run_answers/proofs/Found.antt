@@ -1,5 +1,5 @@
 -- Where the client's lookup found the entry, its instance was ready, with the address that was found.
-use Rattle.std.proofs.Common.{◌≡◌, ℕ, ◌+◌, ◌<◌, ◌≤◌, true, false, List, [], ◌∷◌, ◌++◌, length, slice_get, take, ◌⊎◌, inl, inr, refl, sym, ap, ◌∙◌, subst, arith, append_assoc, Option, Some, None, option_map, unwrap_or}
+use Rattle.std.proofs.Common.{◌≡◌, ℕ, ◌+◌, ◌<◌, ◌≤◌, true, false, List, [], ◌∷◌, ◌++◌, length, slice_get, take, ◌⊎◌, inl, inr, refl, sym, ap, ◌∙◌, subst, arith, append_assoc, Option, Some, None, unwrap_or}
 use Rattle.std.specs.Option.{option_map_or}
 use Rattle.std.proofs.lemmas.Bool.{and_parts, both_ways, cases_eq}
 use Rattle.std.proofs.lemmas.List.{length-append, take-append-le}
@@ -10,43 +10,33 @@ use Rattle.orc_ids.specs.declared.ids.NameId.{NameId}
 use Rattle.orc_ids.specs.declared.ids.QueryId.{QueryId}
 use Rattle.orc_ids.specs.declared.lookup.Level.{Level}
 use Rattle.orc_ids.specs.declared.lookup.Level.TheVariants.{Ready}
-use Rattle.orc_ids.specs.declared.lookup.Scope.TheVariants as scope
 use Rattle.session_model.specs.Answer.{Answers, AnswersCollect}
 use Rattle.session_model.specs.Calls.{EndsAsk, Looks, Works, lookup_event, numbered_calls}
-use Rattle.session_model.specs.Calls.{Asks, Again, Collects, Job as AJob}
-use Rattle.session_model.specs.Change.{change_of, changed, instance_of, matched}
+use Rattle.session_model.specs.Calls.{Asks, Again}
+use Rattle.session_model.specs.Change.{matched}
 use Rattle.session_model.specs.History.{IsLegal}
-use Rattle.session_model.specs.Lists.{only_if, or_else}
-use Rattle.session_model.specs.Match.{offered_by, row_of}
+use Rattle.session_model.specs.Match.{row_of}
 use Rattle.session_model.specs.Meaning.{Meaning, Bindings}
-use Rattle.session_model.specs.Plain.{Plain, GenRow, address_at, empty, is_emitted, phase_address}
+use Rattle.session_model.specs.Plain.{Plain, address_at, is_emitted, phase_address}
 use Rattle.session_model.specs.Query.{addresses, all_at}
 use Rattle.session_model.specs.Reach.{IsReady, is_ready}
 use Rattle.session_model.specs.State.{IsEnd, after, state}
-use Rattle.session_model.specs.declared.change.Change.{Change}
-use Rattle.session_model.specs.declared.change.Change.TheVariants.{Ask}
 use Rattle.session_model.specs.declared.entry.Entry.{Entry}
 use Rattle.session_model.specs.declared.entry.Event.TheVariants as event
 use Rattle.session_model.specs.declared.entry.Reply.TheVariants as reply
 use Rattle.session_model.specs.declared.rows.Ending.TheVariants.{Found}
 use Rattle.session_model.specs.declared.rows.InstRow.{InstRow}
-use Rattle.session_model.specs.declared.rows.Match.TheVariants.{Instance, Offered}
 use Rattle.session_model.specs.declared.rows.Phase.{Phase}
 use Rattle.session_model.specs.declared.rows.Phase.TheVariants as phase
 use Rattle.session_model.specs.declared.rows.Query.{Query}
 use Rattle.session_model.specs.declared.rows.Row.{Row}
-use Rattle.session_laws.proofs.Along.{state_from_push}
-use Rattle.session_laws.proofs.Elements.{pushed_last, same_element}
-use Rattle.session_laws.proofs.Ending.{all_claimed_queries, entries_are, query_stays}
-use Rattle.session_laws.proofs.Facts.{ready_emitted, test_parts}
-use Rattle.session_laws.proofs.Paths.{ready_tested}
-use Rattle.session_laws.proofs.Readying.{state_from_joined}
-use Rattle.session_laws.proofs.Settling.{settled_queries}
-use Rattle.closure_laws.proofs.Ends.{FoundAt, found_parts}
+use Rattle.session_laws.proofs.Declared.{same_element, entries_are, ready_emitted, test_parts, ready_tested, call_first, call_skipped}
+use Rattle.closure_laws.proofs.Declared.{FoundAt, found_parts}
+use Rattle.program_links.proofs.Binding.{matched_by}
 use Rattle.run_laws.specs.Runs.{IsRunBy, lookup_of}
 use Rattle.run_laws.proofs.Asking.{AnswersLookup, Nowhere, Somewhere, lookup_answers}
 use Rattle.run_laws.proofs.Ends.{Asked, ClientBegins, EndsCollected, asks, calls_later, client_begins, set_up_of, still_asked, works_end}
-use Rattle.run_laws.proofs.Seats.{call_first, call_skipped, legal_at, never_empty, same_head, same_last, same_tail}
+use Rattle.run_laws.proofs.Seats.{legal_at, never_empty, same_head, same_last, same_tail}
 
 -- The place of a call in the history
 
@@ -100,10 +90,6 @@ ready_address rows i ready = found (test_parts (λ (r : InstRow). is_emitted r.p
 
     found : (r : InstRow) × (slice_get rows i ≡ Some r) × (is_emitted r.phase ≡ true) → address_at rows i ≡ Some (unwrap_or (address_at rows i) 0)
     found p = subst (λ o. option_map_or (λ (r : InstRow). phase_address r.phase) o None ≡ Some (unwrap_or (option_map_or (λ (r : InstRow). phase_address r.phase) o None) 0)) (sym p.1) (at_phase p.0.phase p.2)
-
--- the match of a name in the one dylib, with these generators and this row of the name
-abbrev matched_by : List GenRow → ℕ → Option Row → Option InstId
-matched_by generators name row = instance_of (or_else (or_else (option_map_or (λ (r : Row). only_if true (Instance r.inst)) row None) (option_map Offered (offered_by generators 0 name scope.All))) None)
 
 matched_row : (name : ℕ) (o : Option Row) (i : InstId) → matched_by [] name o ≡ Some i → (row : Row) × (o ≡ Some row) × (row.inst ≡ i)
 matched_row name None i e = absurd (cc)

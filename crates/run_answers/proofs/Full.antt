@@ -1,33 +1,28 @@
 -- A journal with as many places as one can have is never full after a run.
 use Rattle.std.proofs.Common.{◌≡◌, ◌≤◌, ◌<◌, ℕ, ◌+◌, ◌*◌, inl, inr, List, [], ◌∷◌, length, map, All, Option, Some, None, refl, sym, ◌∙◌, ap, subst, arith, append-nil}
-use Rattle.std.specs.Bool.{if◌then◌else◌}
 use Rattle.std.specs.Prelude.{◌==◌, slice_get, take, is_some}
 use Rattle.std.specs.Option.{option_map_or}
-use Rattle.std.proofs.lemmas.List.{length-append, length-map, length-take-le}
+use Rattle.std.proofs.lemmas.List.{length-append, length-take-le}
 use Rattle.std.proofs.lemmas.List.Sums.{count_by-le-length}
 use Rattle.std.proofs.lemmas.List.Elements.{All-weaker, All-nil}
-use Rattle.orc_ids.specs.declared.ids.InstId.{InstId}
 use Rattle.orc_ids.specs.declared.ids.NameId.{NameId}
 use Rattle.orc_ids.specs.declared.limits.TheConstants.{ENTRY_LIMIT}
 use Rattle.orc_ids.specs.declared.lookup.Stop.{Stop}
 use Rattle.orc_ids.specs.declared.lookup.Stop.TheVariants as stop
-use Rattle.session_model.specs.Change.{all_claimed, change_of, changed, claimed, claimed_for, defined, done_unit, failed_unit, finishing_unit, let_go_unit, linked_unit, listed_unit, moved_generator, moved_unit, gone_tracker, new_unit, placed_unit, removed_unit, resolved_row, resolved_unit, settled, spent, started_unit, waiting_unit, without_replaced}
+use Rattle.session_model.specs.Change.{all_claimed, change_of, changed, defined, done_unit, failed_unit, finishing_unit, let_go_unit, moved_generator, moved_unit, gone_tracker, new_unit, placed_unit, removed_unit, resolved_row, resolved_unit, spent, started_unit, waiting_unit, without_replaced}
 use Rattle.session_model.specs.Lists.{changed_at, numbered}
 use Rattle.session_model.specs.declared.rows.Verdict.{Verdict}
 use Rattle.session_model.specs.Meaning.{Meaning}
-use Rattle.session_model.specs.Plain.{Plain, GenRow, UnitRow, empty, is_unsearched, kept}
+use Rattle.session_model.specs.Plain.{Plain, GenRow, UnitRow, empty, kept}
 use Rattle.session_model.specs.State.{after, state, state_from}
 use Rattle.session_model.specs.declared.change.Change.{Change}
 use Rattle.session_model.specs.declared.change.Change.TheVariants.{Nothing, MakeDylib, MakeTracker, SetOrder, Attach, Define, Generate, Spend, Ask, Start, Finish, Place, Resolve, Link, Emit, Fail, Move, Remove, LetGo}
 use Rattle.session_model.specs.declared.entry.Entry.{Entry}
 use Rattle.session_model.specs.declared.entry.Event.TheVariants as event
-use Rattle.session_model.specs.declared.rows.InstRow.{InstRow}
-use Rattle.session_laws.proofs.Elements.{changed_length, mapped_length, numbered_length}
-use Rattle.session_laws.proofs.Settling.{chosen, settling_keeps}
+use Rattle.session_laws.proofs.Declared.{changed_length, mapped_length, numbered_length, chosen}
 use Rattle.exec_run.specs.declared.ran.RunEnd.{RunEnd}
 use Rattle.exec_run.specs.declared.ran.RunEnd.TheVariants.{Exited as HasExited, Trap as HasTrapped, OutOfFuel as IsOutOfFuel, OutputFull as IsFull}
 use Rattle.command_line.specs.Words.{Request}
-use Rattle.program_names.specs.Programs.{first_dylib, first_tracker}
 use Rattle.run_laws.specs.Ended.{Ended, IsCauseIn, IsCrowded, IsRun, client_calls}
 use Rattle.run_laws.specs.Runs.{IsRunBy, IsSetUp}
 use Rattle.run_laws.specs.declared.linked.Linked.{Linked}
@@ -41,6 +36,7 @@ use Rattle.answers.specs.declared.answer.Answer.TheVariants.{JournalFull}
 use Rattle.run_answers.proofs.Clauses.{lost_as, session}
 use Rattle.run_answers.proofs.Words.{plain_units}
 use Rattle.run_laws.proofs.Calm.{claims_many, settled_many}
+use Rattle.run_laws.proofs.Ready.{setup_length}
 
 -- There are at most as many units as entries
 
@@ -111,13 +107,6 @@ run_by jmax workers main entry units h end r set_up plain = record {
   plain_units = plain;
   workers_do = r.workers_do;
 }
-
--- how many entries a set-up has
-setup_length : (main : NameId) (units : List Meaning) (setup : List (Entry Meaning)) → IsSetUp main units setup → length setup ≡ 2 + length units
-setup_length main units setup s =
-    let whole = ap length s.events in
-    let defines = length-map units (event.Define first_dylib first_tracker) in
-    omega (arith, length-map setup (λ (e : Entry Meaning). e.event), whole, defines)
 
 -- a run that was stopped for want of places has few entries, and was crowded
 record WasFull (jmax count len : ℕ) (h : List (Entry Meaning)) : Type 0 where

@@ -1,6 +1,5 @@
 -- The calls of a run change no name, and use no generator, since none is offered.
-use Rattle.std.proofs.Common.{◌≡◌, ℕ, zero, suc, ◌+◌, ◌<◌, Bool, true, false, List, [], ◌∷◌, ◌++◌, length, map, take, inl, inr, refl, sym, ap, subst, arith, append_assoc, Option, Some, None}
-use Rattle.std.specs.Bool.{MatchBool}
+use Rattle.std.proofs.Common.{◌≡◌, ℕ, zero, suc, ◌+◌, ◌<◌, true, false, List, [], ◌∷◌, ◌++◌, length, take, inl, inr, refl, sym, ap, subst, arith, append_assoc, Option, Some, None}
 use Rattle.std.specs.List.{All, AllByRecursion}
 use Rattle.std.specs.Prelude.{ℤ}
 use Rattle.std.proofs.lemmas.Bool.{both_ways}
@@ -25,7 +24,8 @@ use Rattle.session_model.specs.declared.entry.Reply.{Reply}
 use Rattle.session_model.specs.declared.entry.Reply.TheVariants as reply
 use Rattle.session_model.specs.declared.entry.Why.{Why}
 use Rattle.session_model.specs.declared.entry.Why.TheVariants as why
-use Rattle.session_laws.proofs.Readying.{legal_rest}
+use Rattle.session_laws.proofs.Declared.{legal_rest}
+use Rattle.session_laws.specs.Entries.{entries}
 use Rattle.program_names.specs.Programs.{keeps_names}
 use Rattle.run_laws.specs.Runs.{AreJobs, IsRunBy, NoJob, OneMore as AnotherJob, lookup_of}
 use Rattle.run_laws.proofs.Calm.{IsCall, IsUnoffered, Unoffered, is_call, is_offer, never_offered}
@@ -143,9 +143,6 @@ after_take_quiet m (reply.Finish u (finishing.Lost i)) es f = fail_quiet u (why.
 after_take_quiet m _ es f = absurd f
 
 -- Calls with their numbers
-
-abbrev entries : List (ℕ × Entry Meaning) → List (Entry Meaning)
-entries cs = map (λ (c : ℕ × Entry Meaning). c.1) cs
 
 abbrev QuietCalls : List (ℕ × Entry Meaning) → Type 0
 QuietCalls cs = Quiet (entries cs)

@@ -4,8 +4,9 @@ use Rattle.std.specs.Prelude.{slice_get, if◌then◌else◌}
 use Rattle.std.specs.List.{All}
 use Rattle.std.specs.Str.{bytes_eq}
 use Rattle.std.proofs.lemmas.Bool.{both_ways}
-use Rattle.std.proofs.lemmas.Option.{none-some, same_Some, slice_get-get_or, slice_get_within}
+use Rattle.std.proofs.lemmas.Option.{none-some, same_Some, slice_get_within}
 use Rattle.std.proofs.lemmas.Slice.Eq.{bytes_eq-Decides}
+use Rattle.list_laws.proofs.Each.{all_from}
 use Rattle.orc_ids.specs.declared.ids.UnitName.{UnitName}
 use Rattle.orc_ids.specs.declared.ids.UnitName.TheVariants.{Object}
 use Rattle.link_model.specs.Sound.{Sound, OffersDiffer}
@@ -15,7 +16,7 @@ use Rattle.link_model.specs.declared.graph.GSym.{GSym}
 use Rattle.link_model.specs.declared.graph.LinkGraph.{LinkGraph}
 use Rattle.session_model.specs.Meaning.{Meaning}
 use Rattle.session_units.specs.Meaning.{graph_meaning}
-use Rattle.closure_laws.proofs.LevelsStaying.{row_below}
+use Rattle.closure_laws.proofs.Declared.{row_below}
 use Rattle.program_names.specs.Programs.{AreUnits}
 use Rattle.program_links.specs.Programs as links
 use Rattle.program_links.proofs.Members.{one_of_all}
@@ -78,11 +79,8 @@ one_file words word j k a b = one_place [] words j k b.0 (a.2 ∙ ap Some (same_
 
 -- What holds of all files holds of all words
 
-from_places : {X : Type 0} (P : X → Type 0) (xs : List X) → ((k : ℕ) (x : X) → slice_get xs k ≡ Some x → P x) → All P xs
-from_places P xs h = λ k d l. h k _ (slice_get-get_or xs k d l)
-
 pub of_all_words : {X : Type 0} (P : X → Type 0) (words : List (List ℕ)) (of_files of_words : List X) → AreOfWords words of_files of_words → All P of_files → All P of_words
-of_all_words P words of_files of_words are all = from_places P of_words (λ k x e. let f = are.each k x e in one_of_all P of_files f.0 x all f.2)
+of_all_words P words of_files of_words are all = all_from P of_words (λ k x e. let f = are.each k x e in one_of_all P of_files f.0 x all f.2)
 
 -- The units
 
@@ -94,7 +92,7 @@ module _ (told : Told) (words names : List (List ℕ)) (file_units units : List 
       ap (λ (v : Meaning). v.source) (loaded.are k u g.0 e g.1)
 
   pub plain_units : All (λ (u : Meaning). u.source ≡ None) units
-  plain_units = of_all_words (λ (u : Meaning). u.source ≡ None) words file_units units of_words (from_places (λ (u : Meaning). u.source ≡ None) file_units plain_file)
+  plain_units = of_all_words (λ (u : Meaning). u.source ≡ None) words file_units units of_words (all_from (λ (u : Meaning). u.source ≡ None) file_units plain_file)
 
   unit_is : (graphs : List LinkGraph) → AreOfWords words loaded.graphs graphs → (k : ℕ) (unit : Meaning) (g : LinkGraph) → slice_get units k ≡ Some unit → slice_get graphs k ≡ Some g → (name : UnitName) × (unit ≡ graph_meaning name g)
   unit_is graphs are k unit g e f =
@@ -112,12 +110,12 @@ module _ (told : Told) (words names : List (List ℕ)) (file_units units : List 
   }
 
   pub have_addresses : (graphs : List LinkGraph) → AreOfWords words loaded.graphs graphs → All links.HasAddresses graphs
-  have_addresses graphs are = of_all_words links.HasAddresses words loaded.graphs graphs are (from_places links.HasAddresses loaded.graphs graph_addresses)
+  have_addresses graphs are = of_all_words links.HasAddresses words loaded.graphs graphs are (all_from links.HasAddresses loaded.graphs graph_addresses)
     where
       address : (p : GPlace) → files.IsAddress p → links.IsAddress p
       address (place.Abs a) h = h
       address _ h = tt
 
       graph_addresses : (k : ℕ) (g : LinkGraph) → slice_get loaded.graphs k ≡ Some g → links.HasAddresses g
-      graph_addresses k g e = from_places (λ (s : GSym). links.IsAddress s.place) g.symbols
+      graph_addresses k g e = all_from (λ (s : GSym). links.IsAddress s.place) g.symbols
           (λ j s t. address s.place (one_of_all (λ (x : GSym). files.IsAddress x.place) g.symbols j s (one_of_all files.HasAddresses loaded.graphs k g loaded.addresses e) t))

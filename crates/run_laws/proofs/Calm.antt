@@ -37,11 +37,8 @@ use Rattle.session_model.specs.declared.entry.Why.{Why}
 use Rattle.session_model.specs.declared.rows.InstRow.{InstRow}
 use Rattle.session_model.specs.declared.rows.Match.{Match}
 use Rattle.session_model.specs.declared.rows.Match.TheVariants.{Instance, Offered}
-use Rattle.session_laws.proofs.Elements.{changed_length, mapped_length}
-use Rattle.session_laws.proofs.Guards.{call_cases}
-use Rattle.session_laws.proofs.Replies.{AllReplies, replies_else, replies_first, replies_only, replies_or}
-use Rattle.session_laws.proofs.Settling.{chosen, settling_keeps}
-use Rattle.closure_laws.proofs.Homing.{claims_frame, same_frame, settled_frame}
+use Rattle.session_laws.proofs.Declared.{changed_length, mapped_length, call_cases, AllReplies, replies_else, replies_first, replies_only, replies_or, chosen, settling_keeps}
+use Rattle.closure_laws.proofs.Declared.{claims_frame, same_frame, settled_frame}
 use Rattle.run_laws.proofs.Asking.{is_offered, unoffered}
 
 -- the events of jobs and lookups, and copies of the memory

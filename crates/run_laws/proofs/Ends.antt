@@ -24,18 +24,13 @@ use Rattle.session_model.specs.declared.entry.Reply.{Reply}
 use Rattle.session_model.specs.declared.entry.Reply.TheVariants as reply
 use Rattle.session_model.specs.declared.rows.Ending.TheVariants.{Found}
 use Rattle.session_model.specs.declared.rows.Query.{Query}
-use Rattle.session_laws.proofs.Along.{state_from_push, prefixes_legal}
-use Rattle.session_laws.proofs.Elements.{pushed_last, same_element}
-use Rattle.session_laws.proofs.Ending.{all_claimed_queries, query_stays}
-use Rattle.session_laws.proofs.Readying.{state_from_joined}
-use Rattle.session_laws.proofs.Settling.{settled_queries}
-use Rattle.closure_laws.proofs.Ends.{found_parts}
-use Rattle.closure_laws.proofs.Histories.{OneMore}
+use Rattle.session_laws.proofs.Declared.{state_from_push, prefixes_legal, pushed_last, same_element, all_claimed_queries, query_stays, state_from_joined, settled_queries, call_first}
+use Rattle.closure_laws.proofs.Declared.{found_parts, OneMore}
 use Rattle.run_laws.specs.Laws.{EndsLookup, LookupEndsSo}
 use Rattle.run_laws.specs.Runs.{IsRunBy, lookup_of}
 use Rattle.run_laws.proofs.Asking.{AnswersLookup, Nowhere, Somewhere, lookup_answers}
 use Rattle.run_laws.proofs.Ready.{IsReady, set_up_ready}
-use Rattle.run_laws.proofs.Seats.{StandsIn, call_first, call_stands, calls_past, jobs_begin, legal_at, never_empty, not_empty, same_head, same_last, same_tail}
+use Rattle.run_laws.proofs.Seats.{StandsIn, call_stands, calls_past, jobs_begin, legal_at, never_empty, not_empty, same_head, same_last, same_tail}
 
 -- The first call after a set-up
 

@@ -25,13 +25,7 @@ use Rattle.session_model.specs.declared.entry.Reply.TheVariants as reply
 use Rattle.session_model.specs.declared.rows.Job.{Job}
 use Rattle.session_model.specs.declared.rows.Job.TheVariants as job
 use Rattle.session_model.specs.declared.rows.Query.{Query}
-use Rattle.session_laws.proofs.Defining.{waiting_parts}
-use Rattle.session_laws.proofs.Elements.{changed_elsewhere, changed_some, same_element}
-use Rattle.session_laws.proofs.Guards.{guard_of}
-use Rattle.session_laws.proofs.Invariant.{sound_after}
-use Rattle.session_laws.proofs.Replies.{Guard}
-use Rattle.session_laws.proofs.Rising.{Rises, after_rises, finish_linked, start_listed}
-use Rattle.session_laws.proofs.Settling.{settling_keeps}
+use Rattle.session_laws.proofs.Declared.{waiting_parts, changed_elsewhere, changed_some, same_element, guard_of, sound_after, Guard, Rises, after_rises, finish_linked, start_listed, settling_keeps}
 use Rattle.session_laws.specs.Sound.{IsSound}
 use Rattle.session_laws.specs.Work.{rank}
 use Rattle.run_laws.proofs.Calm.{IsCall, after_many}

@@ -18,9 +18,8 @@ use Rattle.session_model.specs.declared.entry.Entry.{Entry}
 use Rattle.session_model.specs.declared.entry.Event.TheVariants as event
 use Rattle.session_model.specs.declared.entry.Reply.{Reply}
 use Rattle.session_model.specs.declared.entry.Reply.TheVariants as reply
-use Rattle.std.proofs.lemmas.List.{length-append}
-use Rattle.session_laws.proofs.Elements.{numbered_length}
-use Rattle.session_laws.proofs.Unfailing.{only_failures_fail}
+use Rattle.std.proofs.lemmas.List.{length-append, length-map}
+use Rattle.session_laws.proofs.Declared.{numbered_length, only_failures_fail}
 use Rattle.session_laws.specs.Failures.{IsFailure}
 use Rattle.program_names.specs.Programs.{first_dylib, first_tracker, is_done}
 use Rattle.run_laws.specs.Runs.{IsSetUp}
@@ -134,3 +133,10 @@ set_up_ready jmax main units (a ∷ b ∷ ds) l s = subst (λ n. IsReady n (stat
 
     second : b.event ≡ event.Tracker first_dylib
     second = same_head b.event (event.Tracker first_dylib) (map (λ (f : Entry Meaning). f.event) ds) (map (event.Define first_dylib first_tracker) units) others
+
+-- how many entries a set-up has
+pub setup_length : (main : NameId) (units : List Meaning) (setup : List (Entry Meaning)) → IsSetUp main units setup → length setup ≡ 2 + length units
+setup_length main units setup s =
+    let whole = ap length s.events in
+    let defines = length-map units (event.Define first_dylib first_tracker) in
+    omega (arith, length-map setup (λ (e : Entry Meaning). e.event), whole, defines)

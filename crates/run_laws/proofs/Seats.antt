@@ -1,15 +1,14 @@
 -- The calls of each seat in a history.
 use Rattle.std.proofs.Common.{◌≡◌, ℕ, ◌+◌, ◌<◌, List, [], ◌∷◌, ◌++◌, length, All, ◌⊎◌, inl, inr, refl, sym, ap, ◌∙◌, arith, append_assoc, subst}
-use Rattle.std.specs.Bool.{if◌then◌else◌}
-use Rattle.std.proofs.lemmas.Bool.{cases_eq, eq-eqb, ne_eqb}
+use Rattle.std.proofs.lemmas.Bool.{cases_eq}
 use Rattle.std.proofs.lemmas.List.Elements.{All-head, All-tail}
 use Rattle.session_model.specs.Calls.{IsJob, numbered_calls}
 use Rattle.session_model.specs.Meaning.{Meaning}
 use Rattle.session_model.specs.History.{IsLegal}
 use Rattle.session_model.specs.declared.entry.Entry.{Entry}
 use Rattle.session_model.specs.declared.entry.Event.TheVariants as event
-use Rattle.session_laws.proofs.Along.{prefixes_legal}
-use Rattle.closure_laws.proofs.Histories.{OneMore, one_more}
+use Rattle.session_laws.proofs.Declared.{prefixes_legal, call_first, call_skipped}
+use Rattle.closure_laws.proofs.Declared.{OneMore, one_more}
 use Rattle.run_laws.specs.Runs.{AreJobs, NoJob, OneMore as AnotherJob}
 
 -- Lists
@@ -36,12 +35,6 @@ same_last (a ∷ rest) [] x y e = never_empty rest x [] (same_tail a y (rest ++ 
 same_last (a ∷ rest) (b ∷ bs) x y e = same_last rest bs x y (same_tail a b (rest ++ x ∷ []) (bs ++ y ∷ []) e)
 
 -- The calls of one seat
-
-pub call_skipped : (s n : ℕ) (e : Entry Meaning) (es : List (Entry Meaning)) → (e.seat.0 ≡ s → ⊥) → numbered_calls s n (e ∷ es) ≡ numbered_calls s (n + 1) es
-call_skipped s n e es apart = ap (λ b. if b then (n, e) ∷ numbered_calls s (n + 1) es else numbered_calls s (n + 1) es) (ne_eqb e.seat.0 s apart)
-
-pub call_first : (s n : ℕ) (e : Entry Meaning) (es : List (Entry Meaning)) → e.seat.0 ≡ s → numbered_calls s n (e ∷ es) ≡ (n, e) ∷ numbered_calls s (n + 1) es
-call_first s n e es is = ap (λ b. if b then (n, e) ∷ numbered_calls s (n + 1) es else numbered_calls s (n + 1) es) (eq-eqb e.seat.0 s is)
 
 -- entries of seat 0 are no calls of another seat
 pub calls_past : (s n : ℕ) (xs ys : List (Entry Meaning)) → All (λ (e : Entry Meaning). e.seat.0 ≡ 0) xs → 0 < s → numbered_calls s n (xs ++ ys) ≡ numbered_calls s (n + length xs) ys

@@ -11,9 +11,7 @@ use Rattle.session_model.specs.Plain.{empty}
 use Rattle.session_model.specs.State.{state}
 use Rattle.session_model.specs.declared.entry.Entry.{Entry}
 use Rattle.session_model.specs.declared.entry.Event.TheVariants as event
-use Rattle.session_laws.proofs.Along.{prefixes_legal}
-use Rattle.session_laws.proofs.Invariant.{legal_is_sound}
-use Rattle.session_laws.proofs.Readying.{legal_rest}
+use Rattle.session_laws.proofs.Declared.{prefixes_legal, legal_is_sound, legal_rest}
 use Rattle.run_laws.specs.Laws.{RunIsShort}
 use Rattle.run_laws.specs.Runs.{ClientCalls, IsRunBy, lookup_of}
 use Rattle.run_laws.proofs.Calm.{IsCall, IsUnoffered, is_call, never_offered}

@@ -6,8 +6,8 @@ use Rattle.std.proofs.lemmas.List.Elements.{All-head, All-tail}
 use Rattle.session_model.specs.Calls.{numbered_calls}
 use Rattle.session_model.specs.Meaning.{Meaning}
 use Rattle.session_model.specs.declared.entry.Entry.{Entry}
+use Rattle.session_laws.proofs.Declared.{call_first, call_skipped}
 use Rattle.run_laws.proofs.Falling.{total}
-use Rattle.run_laws.proofs.Seats.{call_first, call_skipped}
 
 -- over the seats below one
 abbrev pub over_seats : (ℕ → ℕ) → ℕ → ℕ

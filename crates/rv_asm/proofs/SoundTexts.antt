@@ -6,7 +6,6 @@ use Rattle.std.proofs.lemmas.List.{get_or_default, length_push}
 use Rattle.rv_insn.specs.declared.insn.Insn.{Insn}
 use Rattle.elf_read.specs.Sections.{is_small_power}
 use Rattle.asm_lines.specs.declared.statement.AsmWhy.{AsmWhy}
-use Rattle.asm_lines.specs.declared.statement.AsmWhy.TheVariants as why
 use Rattle.asm_lines.specs.declared.statement.Fixup.{Fixup}
 use Rattle.asm_lines.specs.declared.statement.Item.{Item}
 use Rattle.asm_lines.specs.declared.statement.Item.TheVariants as item

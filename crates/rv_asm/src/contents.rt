@@ -11,6 +11,7 @@ use asm_state::{Code, Making, SymbolBook, is_bss};
 use orc_ids::Bytes;
 use orc_words::put_le;
 use rv_insn::encode;
+use shared_bytes::SharedBytes;
 use std::alloc::{AllocError, Global};
 
 /// Puts the word of an instruction at its place.
@@ -43,14 +44,14 @@ fn encoded(
     symbols: &SymbolBook,
     section: u32,
     made: &Making,
-) -> Result<Bytes, AllocError>
+) -> Result<SharedBytes, AllocError>
     requires { first_far_in symbols.now section made.now.code ≡ None }
     ensures exact { IfOk result (λ bytes. want.IsContents symbols.now section made.now bytes) }
     ensures sized { is_bss made.now.kind ≡ false → IfOk result (λ bytes. length bytes ≡ made.now.size) }
 {
     let mut bytes = made.bytes().to_vec(alloc)?;
     put_words(symbols, section, made.code(), bytes.as_mut_slice());
-    Ok(Bytes::from_vec(bytes))
+    SharedBytes::from_bytes(alloc, Bytes::from_vec(bytes))
 }
 
 /// The bytes of a section in the file.
@@ -59,13 +60,13 @@ pub(crate) fn contents(
     symbols: &SymbolBook,
     section: u32,
     made: &Making,
-) -> Result<Bytes, AllocError>
+) -> Result<SharedBytes, AllocError>
     requires { first_far_in symbols.now section made.now.code ≡ None }
     ensures exact { IfOk result (λ bytes. want.Holds symbols.now section made.now bytes) }
     ensures sized { IfOk result (λ bytes. length bytes ≡ (if is_bss made.now.kind then 0 else made.now.size)) }
 {
     if is_bss(made.kind()) {
-        return Ok(Bytes::new(alloc));
+        return Ok(SharedBytes::empty());
     }
     encoded(alloc, symbols, section, made)
 }

@@ -10,7 +10,8 @@ use crate::relocs::relocs_of;
 use asm_lines::SectionKind;
 use asm_state::{Making, SymbolBook};
 use asm_text::Assembler;
-use elf_read::{Name, Section, Sections};
+use elf_read::{Section, Sections};
+use shared_bytes::SharedBytes;
 use std::alloc::{AllocError, Global};
 
 const SHT_PROGBITS: u32 = 1;
@@ -57,7 +58,7 @@ fn section_of(
     ensures typed { IfOk result (λ s. Typed (1 + length order.now) s) }
 {
     Ok(Section {
-        name: Name::copy_of(alloc, name)?,
+        name: SharedBytes::copy_of(alloc, name)?,
         kind: section_type(made.kind()),
         flags: flags_of(made.kind()),
         align: made.align(),

@@ -4,7 +4,8 @@ ghost use Rattle.rv_asm.specs.Symbols as want;
 
 use crate::order::{SymbolOrder, is_local_mark, marks_of};
 use asm_state::{Definition, Marks, SymbolBook};
-use elf_read::{Name, SymPlace, Symbol, Symbols};
+use elf_read::{SymPlace, Symbol, Symbols};
+use shared_bytes::SharedBytes;
 use std::alloc::{AllocError, Global};
 
 const STB_LOCAL: u8 = 0;
@@ -86,7 +87,7 @@ fn entry_of(alloc: Global, name: &[u8], marks: &Marks) -> Result<Symbol, AllocEr
     ensures { IfOk result (λ s. s ≡ want.entry_of name.now marks.now) }
 {
     Ok(Symbol {
-        name: Name::copy_of(alloc, name)?,
+        name: SharedBytes::copy_of(alloc, name)?,
         bind: bind_of(marks),
         kind: kind_of(marks.definition),
         vis: vis_of(marks),
@@ -113,7 +114,7 @@ fn zero_symbol() -> Symbol
     ensures { result ≡ symbol_zero }
 {
     Symbol {
-        name: Name::empty(),
+        name: SharedBytes::empty(),
         bind: 0,
         kind: 0,
         vis: 0,

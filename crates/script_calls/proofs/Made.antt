@@ -26,19 +26,16 @@ use Rattle.session_model.specs.declared.entry.Reply.{Reply}
 use Rattle.session_model.specs.declared.entry.Reply.TheVariants as reply
 use Rattle.session_model.specs.declared.rows.Dylib.{Dylib}
 use Rattle.session_model.specs.declared.rows.InstRow.{InstRow}
-use Rattle.session_laws.proofs.Losing.{all_appended}
-use Rattle.session_laws.proofs.Settling.{chosen, settling_keeps}
+use Rattle.session_laws.proofs.Declared.{all_appended, chosen, settling_keeps}
+use Rattle.session_laws.specs.Entries.{events_of}
 use Rattle.script_calls.specs.Dylibs.{DylibsAreMade, DifferentNames, dylib_names}
 
 abbrev names : List Dylib → List ℕ
 names ds = map (λ (d : Dylib). d.name) ds
 
-abbrev events : List (Entry Meaning) → List (Event Meaning)
-events h = map (λ (e : Entry Meaning). e.event) h
-
 -- Names
 
-names_append : (es fs : List (Event Meaning)) → dylib_names (es ++ fs) ≡ dylib_names es ++ dylib_names fs
+pub names_append : (es fs : List (Event Meaning)) → dylib_names (es ++ fs) ≡ dylib_names es ++ dylib_names fs
 names_append [] fs = refl
 names_append (event.Dylib name ∷ es) fs = ap (λ ns. name.0 ∷ ns) (names_append es fs)
 names_append (_ ∷ es) fs = names_append es fs
@@ -161,12 +158,12 @@ after_names m e more =
     let c = change_of m e.seat.0 e.event e.reply in
     ap (λ ns. ns ++ more) (ap names (settled_dylibs (changed c m)) ∙ changed_names c m) ∙ append_assoc (names m.dylibs) (made_names c) more
 
-names_from : (jmax : ℕ) (past : List (Entry Meaning)) (m : Plain) (h : List (Entry Meaning)) → LegalFrom jmax past m h → DifferentNames (names m.dylibs ++ dylib_names (events h)) → length (names m.dylibs ++ dylib_names (events h)) ≤ DYLIB_LIMIT →
-    names (state_from m h).dylibs ≡ names m.dylibs ++ dylib_names (events h)
+names_from : (jmax : ℕ) (past : List (Entry Meaning)) (m : Plain) (h : List (Entry Meaning)) → LegalFrom jmax past m h → DifferentNames (names m.dylibs ++ dylib_names (events_of h)) → length (names m.dylibs ++ dylib_names (events_of h)) ≤ DYLIB_LIMIT →
+    names (state_from m h).dylibs ≡ names m.dylibs ++ dylib_names (events_of h)
 names_from jmax past m [] l differ few = sym (append-nil (names m.dylibs))
 names_from jmax past m (e ∷ es) l differ few =
-    let more = dylib_names (events es) in
-    let is : names (after m e).dylibs ++ more ≡ names m.dylibs ++ dylib_names (e.event ∷ events es) = after_names m e more ∙ step jmax past m e.seat.0 e.event e.reply (events es) l.0 differ few in
+    let more = dylib_names (events_of es) in
+    let is : names (after m e).dylibs ++ more ≡ names m.dylibs ++ dylib_names (e.event ∷ events_of es) = after_names m e more ∙ step jmax past m e.seat.0 e.event e.reply (events_of es) l.0 differ few in
     names_from jmax (past ++ e ∷ []) (after m e) es l.1 (subst DifferentNames (sym is) differ) (subst (λ ns. length ns ≤ DYLIB_LIMIT) (sym is) few) ∙ is
 
 pub dylibs_are_made : DylibsAreMade

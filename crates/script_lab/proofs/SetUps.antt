@@ -12,9 +12,7 @@ use Rattle.script_calls.specs.Dylibs.{DifferentNames, dylib_names}
 use Rattle.script_calls.specs.Plans.{CanSetUp, CanSetUpAll, event_of}
 use Rattle.script_calls.specs.declared.calls.SetUpCall.{SetUpCall}
 use Rattle.script_calls.specs.declared.calls.SetUpCall.TheVariants as set_up
-use Rattle.session_model.specs.Meaning.{Meaning}
-use Rattle.session_model.specs.declared.entry.Event.{Event}
-use Rattle.session_model.specs.declared.entry.Event.TheVariants as event
+use Rattle.script_calls.proofs.Made.{names_append}
 use Rattle.script_lab.specs.SettingUp.{CanAdd, IsSetUp, names_of}
 use Rattle.script_lab.specs.Units.{lab_meaning}
 use Rattle.script_lab.specs.declared.unit.LabUnit.{LabUnit}
@@ -29,11 +27,6 @@ added {X} (z ∷ zs) x y (suc k) at = behind (added zs x y k at)
     behind : ((k < length zs) × (slice_get zs k ≡ Some y)) ⊎ ((k ≡ length zs) × (x ≡ y)) → ((suc k < length (z ∷ zs)) × (slice_get zs k ≡ Some y)) ⊎ ((suc k ≡ length (z ∷ zs)) × (x ≡ y))
     behind (inl p) = let below = p.0 in inl ((omega (arith, below)), p.1)
     behind (inr p) = inr (ap suc p.0, p.1)
-
-names_append : (es fs : List (Event Meaning)) → dylib_names (es ++ fs) ≡ dylib_names es ++ dylib_names fs
-names_append [] fs = refl
-names_append (event.Dylib name ∷ es) fs = ap (λ ns. name.0 ∷ ns) (names_append es fs)
-names_append (_ ∷ es) fs = names_append es fs
 
 names_more : (calls : List (SetUpCall LabUnit)) (call : SetUpCall LabUnit) → names_of (calls ++ call ∷ []) ≡ names_of calls ++ names_of (call ∷ [])
 names_more calls call = ap dylib_names (map-append (event_of lab_meaning) calls (call ∷ [])) ∙ names_append (map (event_of lab_meaning) calls) (event_of lab_meaning call ∷ [])

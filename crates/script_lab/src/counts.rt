@@ -3,7 +3,7 @@ ghost use Rattle.std.specs.Prelude.{◌<◌};
 
 use crate::replay::LabEntry;
 use exec_run::RunEnd;
-use link_worker::LookEnd;
+use look_ends::LookEnd;
 use script_laws::LineEnd;
 use session_model::{Event, Reply, Why};
 use std::io::{self, Print};

@@ -8,8 +8,9 @@ use crate::replay::LabEntry;
 use crate::runs::runs_so;
 use crate::unit::LabUnit;
 use exec_run::RunEnd;
-use link_worker::LookEnd;
+use look_ends::LookEnd;
 use orc_ids::{NameId, Stop};
+use same_replies::same_reply;
 use script_laws::LineEnd;
 use session_model::{Event, Reply};
 use std::alloc::{AllocError, Global};
@@ -37,7 +38,7 @@ impl<'a> Judged<'a> {
     /// A line of one call was answered so.
     fn was_answered(&mut self, line: &Asked, reply: &Reply) -> bool {
         match self.calls.next() {
-            Some(call) => is_asked(&call.entry.event, line) && call.entry.reply.is_same(reply),
+            Some(call) => is_asked(&call.entry.event, line) && same_reply(&call.entry.reply, reply),
             None => false,
         }
     }

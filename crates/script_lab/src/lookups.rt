@@ -4,7 +4,7 @@ use crate::asked::Sought;
 use crate::call_list::{SeatCalls, is_of_job};
 use crate::replay::LabEntry;
 use crate::unit::LabUnit;
-use link_worker::LookEnd;
+use look_ends::LookEnd;
 use orc_ids::{GenId, InstId, QueryId};
 use session_model::{Event, Reply};
 

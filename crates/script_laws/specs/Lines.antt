@@ -1,5 +1,5 @@
 -- The lines of a script's clients: which calls each makes, and how it ends.
-use Rattle.std.specs.Prelude.{◌≡◌, ℕ, ⊤, List, [], ◌∷◌, ◌++◌, All, take, Option, Some, None}
+use Rattle.std.specs.Prelude.{◌≡◌, ℕ, ⊤, List, [], ◌∷◌, ◌++◌, take, Option, Some, None}
 use Rattle.orc_ids.specs.declared.lookup.Stop.{Stop}
 use Rattle.code_memory.specs.Mapped.{byte_at}
 use Rattle.code_memory.specs.declared.image.Segment.{Segment}
@@ -12,9 +12,8 @@ use Rattle.session_model.specs.declared.entry.Entry.{Entry}
 use Rattle.session_model.specs.declared.entry.Event.{Event}
 use Rattle.session_model.specs.declared.entry.Event.TheVariants as event
 use Rattle.session_model.specs.declared.entry.Reply.{Reply}
-use Rattle.link_worker.specs.Looks.{EndsAs}
-use Rattle.link_worker.specs.declared.looking.LookEnd.{LookEnd}
-use Rattle.link_worker.specs.declared.looking.LookEnd.TheVariants as look
+use Rattle.look_ends.specs.Ends.{EndsAs}
+use Rattle.look_ends.specs.declared.look_end.LookEnd.TheVariants as look
 use Rattle.script_calls.specs.Lines.{Line, One, LookUp, Run}
 use Rattle.given_names.specs.Given.{Given, address_of, given_names}
 use Rattle.run_laws.specs.Ended.{AreMemory}

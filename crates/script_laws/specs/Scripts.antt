@@ -1,5 +1,5 @@
 -- The history of a script's session: seat 0 sets up, the clients have the seats from 1 on, and workers those behind them.
-use Rattle.std.specs.Prelude.{◌≡◌, ◌⊎◌, ℕ, ◌+◌, ◌<◌, ◌≤◌, List, [], ◌∷◌, ◌++◌, length, map, take, slice_get, All, Option, Some, None}
+use Rattle.std.specs.Prelude.{◌≡◌, ℕ, ◌+◌, ◌<◌, ◌≤◌, List, [], ◌++◌, length, map, take, slice_get, All, Option, Some, None}
 use Rattle.orc_ids.specs.declared.lookup.Stop.{Stop}
 use Rattle.session_model.specs.Calls.{numbered_calls}
 use Rattle.session_model.specs.History.{HasPlaces, IsLegal}

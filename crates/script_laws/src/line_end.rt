@@ -1,5 +1,5 @@
 use exec_run::RunEnd;
-use link_worker::LookEnd;
+use look_ends::LookEnd;
 use orc_ids::{Bytes, Stop};
 use session_model::Reply;
 

@@ -12,7 +12,6 @@ use Rattle.script_plan.specs.declared.unit_counts.UnitCounts.{UnitCounts}
 use Rattle.script_plan.proofs.Calls.{CanHappen, AllCanHappen, CanDo}
 use Rattle.script_plan.proofs.Dylibs.{named, events_before, line_at}
 use Rattle.session_model.specs.Meaning.{Meaning}
-use Rattle.session_model.specs.declared.entry.Event.{Event}
 use Rattle.session_script.specs.declared.script.AliasLine.{AliasLine}
 use Rattle.session_script.specs.declared.script.ClientLine.{ClientLine}
 use Rattle.session_script.specs.declared.script.ClientLine.TheVariants as client

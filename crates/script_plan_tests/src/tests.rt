@@ -3,7 +3,7 @@ ghost use Rattle.std.specs.Prelude.{◌≡◌, None, All, length, IfOk};
 use orc_ids::{NameId, Outcome, UnitName};
 use orc_io::Notify;
 use orc_names::NameHasher;
-use script_calls::{ClientCall, SetUpCall};
+use script_calls::{ClientCall, Lookup, Plan, SetUpCall};
 use script_plan::{Planned, plan_of};
 use session_model::UnitKind;
 use session_script::read_script;
@@ -71,69 +71,114 @@ fn file_unit(alloc: Global, file: u32) -> Result<ObjectUnit, AllocError> {
 }
 
 /// Stand-ins for the units of two files.
-fn two_units(alloc: Global) -> Result<Vec<ObjectUnit>, AllocError>
-    ensures { IfOk result (λ units. length units.items ≡ 2) }
-{
+fn two_units(alloc: Global) -> Result<Vec<ObjectUnit>, AllocError> {
     Ok(vec![in alloc; file_unit(alloc, 0)?, file_unit(alloc, 1)?]?)
 }
 
-/// The calls of a set-up, a line each.
-fn set_up_text(alloc: Global, calls: &[SetUpCall<ObjectUnit>]) -> Result<String, AllocError> {
-    let mut text = String::new(alloc);
-    for call in calls {
-        match call {
-            SetUpCall::Dylib(name) => writeln!(text, "dylib n{}", name.0)?,
-            SetUpCall::Order(d, order) => writeln!(text, "order d{} {}", d.0, order.len())?,
-            SetUpCall::Tracker(d) => writeln!(text, "tracker d{}", d.0)?,
-            SetUpCall::Define(d, t, unit) => {
-                writeln!(text, "define d{} t{} {:?}", d.0, t.0, unit.name())?;
-            }
-            SetUpCall::Attach(d, t, unit) => {
-                writeln!(text, "attach d{} t{} {:?}", d.0, t.0, unit.name())?;
-            }
+/// Writes a call of a set-up in a line.
+fn write_set_up<U: UnitKind>(text: &mut String, call: &SetUpCall<U>) -> Result<(), AllocError> {
+    match call {
+        SetUpCall::Dylib(name) => writeln!(text, "dylib n{}", name.0)?,
+        SetUpCall::Order(d, order) => writeln!(text, "order d{} {}", d.0, order.len())?,
+        SetUpCall::Tracker(d) => writeln!(text, "tracker d{}", d.0)?,
+        SetUpCall::Define(d, t, unit) => {
+            writeln!(text, "define d{} t{} {:?}", d.0, t.0, unit.name())?;
+        }
+        SetUpCall::Attach(d, t, unit) => {
+            writeln!(text, "attach d{} t{} {:?}", d.0, t.0, unit.name())?;
         }
     }
+    Ok(())
+}
+
+/// Writes a lookup in a line, with the number of its note and the note, if it has one.
+fn write_lookup(
+    text: &mut String,
+    names: &Lookup,
+    note: &Option<(u32, Tagged)>,
+) -> Result<(), AllocError> {
+    let wanted = names.wanted.len();
+    match note {
+        Some((note, what)) => {
+            writeln!(text, "{:?} {wanted} {note}: {}", names.level, what.tag)?;
+        }
+        None => writeln!(text, "{:?} {wanted}", names.level)?,
+    }
+    Ok(())
+}
+
+/// Writes a call of a client in a line.
+fn write_call<U: UnitKind>(
+    text: &mut String,
+    call: &ClientCall<U, Tagged>,
+) -> Result<(), AllocError> {
+    match call {
+        ClientCall::Define(d, t, unit) => {
+            writeln!(text, "define d{} t{} {:?}", d.0, t.0, unit.name())?;
+        }
+        ClientCall::LookUp(names, note) => write_lookup(text, names, note)?,
+        ClientCall::Move(t, to) => writeln!(text, "move t{} t{}", t.0, to.0)?,
+        ClientCall::Remove(t) => writeln!(text, "remove t{}", t.0)?,
+        ClientCall::Run(name, fuel, args) => {
+            writeln!(text, "run n{} {fuel} {:?}", name.0, args.as_slice())?;
+        }
+    }
+    Ok(())
+}
+
+/// Writes a client's calls, below a line of their own.
+fn write_client<U: UnitKind>(
+    text: &mut String,
+    calls: &[ClientCall<U, Tagged>],
+) -> Result<(), AllocError> {
+    writeln!(text, "client")?;
+    for call in calls {
+        write_call(text, call)?;
+    }
+    Ok(())
+}
+
+/// Writes a plan and the notes that it doesn't use, a line each.
+fn write_plan<U: UnitKind>(
+    text: &mut String,
+    plan: &Plan<U, Tagged>,
+    unused: &[Tagged],
+) -> Result<(), AllocError> {
+    for call in &plan.set_up {
+        write_set_up(text, call)?;
+    }
+    for calls in &plan.clients {
+        write_client(text, calls.as_slice())?;
+    }
+    for note in unused {
+        writeln!(text, "unused {}", note.tag)?;
+    }
+    Ok(())
+}
+
+/// The lines of a plan and of the notes that it doesn't use.
+fn lines_of(alloc: Global, planned: Planned<Tagged>) -> Result<String, Fail> {
+    let mut text = String::new(alloc);
+    write_plan(&mut text, &planned.plan, planned.unused.as_slice())?;
     Ok(text)
 }
 
-/// The calls of a client, a line each.
-fn client_text(
-    alloc: Global,
-    calls: &[ClientCall<ObjectUnit, Tagged>],
-) -> Result<String, AllocError> {
-    let mut text = String::new(alloc);
-    for call in calls {
-        match call {
-            ClientCall::Define(d, t, unit) => {
-                writeln!(text, "define d{} t{} {:?}", d.0, t.0, unit.name())?;
-            }
-            ClientCall::LookUp(names, None) => {
-                writeln!(text, "{:?} {}", names.level, names.wanted.len())?;
-            }
-            ClientCall::LookUp(names, Some((note, what))) => {
-                let wanted = names.wanted.len();
-                writeln!(text, "{:?} {wanted} {note}: {}", names.level, what.tag)?;
-            }
-            ClientCall::Move(t, to) => writeln!(text, "move t{} t{}", t.0, to.0)?,
-            ClientCall::Remove(t) => writeln!(text, "remove t{}", t.0)?,
-            ClientCall::Run(name, fuel, args) => {
-                writeln!(text, "run n{} {fuel} {:?}", name.0, args.as_slice())?;
-            }
-        }
+/// The lines of a script's plan, with these units for its files and three notes.
+fn planned(alloc: Global, script: &str, units: &[ObjectUnit]) -> Result<String, Fail> {
+    let script = read_script(alloc, script.as_bytes(), 3, NameHasher::Fixed)?;
+    if units.len() != script.files.len() {
+        return Err(Fail::from("other files"));
     }
-    Ok(text)
+    let planned = plan_of(alloc, &script, units, three_notes(alloc)?)?;
+    lines_of(alloc, planned)
 }
 
 #[test]
 fn a_line_of_each_kind_has_its_call(rt: HostRuntime) -> Result<(), Fail> {
-    let alloc = rt.alloc();
-    let script = read_script(alloc, SCRIPT.as_bytes(), 3, NameHasher::Fixed)?;
-    let units = two_units(alloc)?;
-    assert_eq!(rt; units.len(), script.files.len());
-    let Planned { plan, unused } = plan_of(alloc, &script, units.as_slice(), three_notes(alloc)?)?;
-    let text = set_up_text(alloc, plan.set_up.as_slice())?;
+    let units = two_units(rt.alloc())?;
+    let lines = planned(rt.alloc(), SCRIPT, units.as_slice())?;
     assert_eq!(rt;
-        text.as_str(),
+        lines.as_str(),
         "dylib n0
 dylib n1
 order d0 1
@@ -145,20 +190,18 @@ attach d1 t1 Object(1)
 define d0 t0 Alias(0)
 define d1 t1 Absolute(1)
 define d1 t1 Alias(1)
+client
+Ready 1
+Resolved 2 0: 100
+move t0 t1
+client
+define d1 t1 Object(1)
+Ready 1 1: 101
+run n4 1000 [7, 8]
+remove t1
+unused 102
 "
     );
-    let [first, second] = plan.clients.as_slice() else {
-        return Err(Fail::from("other clients"));
-    };
-    let text = client_text(alloc, first.as_slice())?;
-    assert_eq!(rt; text.as_str(), "Ready 1\nResolved 2 0: 100\nmove t0 t1\n");
-    let text = client_text(alloc, second.as_slice())?;
-    assert_eq!(rt;
-        text.as_str(),
-        "define d1 t1 Object(1)\nReady 1 1: 101\nrun n4 1000 [7, 8]\nremove t1\n"
-    );
-    assert_eq!(rt; unused.len(), 1);
-    assert_eq!(rt; unused[0].tag, 102);
     Ok(())
 }
 
@@ -174,15 +217,17 @@ fn absolute_script(alloc: Global, symbols: u32) -> Result<String, AllocError> {
 
 #[test]
 fn a_line_may_have_more_symbols_than_an_object(rt: HostRuntime) -> Result<(), Fail> {
-    let alloc = rt.alloc();
-    let text = absolute_script(alloc, 65_537)?;
-    let script = read_script(alloc, text.as_bytes(), 3, NameHasher::Fixed)?;
-    assert_eq!(rt; script.files.len(), 0);
-    let Planned { plan, unused: _ } = plan_of(alloc, &script, &[], three_notes(alloc)?)?;
-    let text = set_up_text(alloc, plan.set_up.as_slice())?;
+    let script = absolute_script(rt.alloc(), 65_537)?;
+    let lines = planned(rt.alloc(), script.as_str(), &[])?;
     assert_eq!(rt;
-        text.as_str(),
-        "dylib n0\ntracker d0\ndefine d0 t0 Absolute(0)\n"
+        lines.as_str(),
+        "dylib n0
+tracker d0
+define d0 t0 Absolute(0)
+unused 100
+unused 101
+unused 102
+"
     );
     Ok(())
 }

@@ -11,10 +11,10 @@ use Rattle.session_model.specs.History.{IsLegal}
 use Rattle.session_model.specs.Meaning.{Meaning}
 use Rattle.session_model.specs.State.{state}
 use Rattle.session_model.specs.declared.entry.Entry.{Entry}
-use Rattle.session_laws.proofs.Ending.{front_legal}
-use Rattle.link_worker.specs.Looks.{EndsAs}
-use Rattle.link_worker.specs.declared.looking.LookEnd.{LookEnd}
-use Rattle.link_worker.specs.declared.looking.LookEnd.TheVariants as look
+use Rattle.session_laws.proofs.Declared.{front_legal}
+use Rattle.look_ends.specs.Ends.{EndsAs}
+use Rattle.look_ends.specs.declared.look_end.LookEnd.{LookEnd}
+use Rattle.look_ends.specs.declared.look_end.LookEnd.TheVariants as look
 use Rattle.given_names.specs.Given.{Given, address_of}
 use Rattle.session_promises.specs.Lookups.{AreCallsOf}
 use Rattle.session_promises.proofs.Failures.{failure_hits_those, nothing_else_fails}

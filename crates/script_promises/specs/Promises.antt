@@ -18,7 +18,7 @@ use Rattle.session_model.specs.State.{state}
 use Rattle.session_model.specs.declared.entry.Entry.{Entry}
 use Rattle.session_model.specs.declared.entry.Event.TheVariants as event
 use Rattle.session_laws.specs.Failures.{IsFailure}
-use Rattle.link_worker.specs.declared.looking.LookEnd.TheVariants as look
+use Rattle.look_ends.specs.declared.look_end.LookEnd.TheVariants as look
 use Rattle.given_names.specs.Given.{Given, address_of}
 use Rattle.run_laws.specs.Ended.{AreMemory}
 use Rattle.session_promises.specs.Failures.{roots_of}

@@ -5,7 +5,7 @@ use Rattle.std.proofs.lemmas.List.Elements.{All-append, All-cons, All-nil}
 use Rattle.std.proofs.lemmas.Option.{none-some, slice_get_within}
 use Rattle.orc_ids.specs.declared.lookup.Outcome.{Outcome}
 use Rattle.session_model.specs.Meaning.{Meaning}
-use Rattle.session_laws.proofs.Elements.{appended_cases, pushed_cases}
+use Rattle.session_laws.proofs.Declared.{appended_cases, pushed_cases}
 use Rattle.crew.proofs.Worked.{all_from}
 use Rattle.script_session.specs.Members.{AllSkipped, AreAdded, AreMembers, IsClientOf, WasSkipped}
 use Rattle.script_calls.specs.declared.calls.ClientCall.{ClientCall}

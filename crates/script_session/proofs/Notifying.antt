@@ -3,7 +3,7 @@ use Rattle.std.proofs.Common.{◌≡◌, ℕ, suc, ◌+◌, ◌⊎◌, inl, inr,
 use Rattle.std.proofs.lemmas.List.{append_assoc, length_push}
 use Rattle.std.proofs.lemmas.List.Elements.{All-append, All-nil}
 use Rattle.std.proofs.lemmas.Option.{none-some}
-use Rattle.session_laws.proofs.Elements.{pushed_cases}
+use Rattle.session_laws.proofs.Declared.{pushed_cases}
 use Rattle.notifiers.specs.declared.notice.Notice.{Notice}
 use Rattle.script_session.specs.Members.{told_of, unlodged_in, unlodged_of}
 use Rattle.script_session.specs.declared.members.Member.{Member}

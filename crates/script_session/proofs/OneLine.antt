@@ -6,12 +6,10 @@ use Rattle.std.proofs.lemmas.List.Elements.{All-cons, All-nil}
 use Rattle.orc_ids.specs.declared.ids.DylibId.{DylibId}
 use Rattle.orc_ids.specs.declared.ids.NameId.{NameId}
 use Rattle.orc_ids.specs.declared.ids.TrackId.{TrackId}
-use Rattle.orc_ids.specs.declared.ids.UnitId.{UnitId}
 use Rattle.orc_ids.specs.declared.lookup.Outcome.{Outcome}
 use Rattle.orc_ids.specs.declared.lookup.Stop.{Stop}
 use Rattle.orc_ids.specs.declared.lookup.Stop.TheVariants as stop
 use Rattle.orc_ids.specs.declared.lookup.Wanted.{Wanted}
-use Rattle.orc_ids.specs.declared.place.Shape.{Shape}
 use Rattle.code_memory.specs.Mapped.{byte_at}
 use Rattle.code_memory.specs.declared.image.Segment.{Segment}
 use Rattle.exec_run.specs.Run.{RunsTo}
@@ -26,8 +24,8 @@ use Rattle.session_model.specs.declared.entry.Event.{Event}
 use Rattle.session_model.specs.declared.entry.Event.TheVariants as event
 use Rattle.session_model.specs.declared.entry.Reply.{Reply}
 use Rattle.session_model.specs.declared.entry.Reply.TheVariants as reply
-use Rattle.execution_session.specs.Handed.{IsLowest, IsMemory}
-use Rattle.execution_session.specs.Performs.{Performs, state_of}
+use Rattle.session_steps.specs.Handed.{IsMemory}
+use Rattle.session_steps.specs.Performs.{Performs, state_of}
 use Rattle.notifiers.specs.Notices.{AreHeard, Told}
 use Rattle.notifiers.specs.declared.notice.Notice.{Notice}
 use Rattle.notifiers.specs.declared.notice.Unheard.{Unheard}
@@ -40,14 +38,15 @@ use Rattle.seat_calls.specs.Did.{Did, Nothing, Promise}
 use Rattle.seat_calls.proofs.Doing.{less_is_done, nothing_is_done}
 use Rattle.link_worker.specs.Does.{Call, Does, Nobody, PlacesLowest, ToldAt}
 use Rattle.link_worker.specs.Jobs.{IsCause, SpareAll}
-use Rattle.link_worker.specs.Looks.{EndsAs, HasLooked, left_of}
+use Rattle.look_ends.specs.Ends.{EndsAs}
+use Rattle.link_worker.specs.Looks.{HasLooked, left_of}
 use Rattle.link_worker.specs.Works.{IsFree, WasStopped}
-use Rattle.link_worker.specs.declared.looking.LookEnd.{LookEnd}
-use Rattle.link_worker.specs.declared.looking.LookEnd.TheVariants as look
+use Rattle.look_ends.specs.declared.look_end.LookEnd.{LookEnd}
+use Rattle.look_ends.specs.declared.look_end.LookEnd.TheVariants as look
 use Rattle.link_worker.proofs.Collecting.{one_lacks}
 use Rattle.link_worker.proofs.Freeing.{free_stays}
 use Rattle.link_worker.proofs.Stepping.{no_notices}
-use Rattle.link_worker.proofs.Telling.{does_less, does_none, does_one, is_placing, places_nothing, told_by, told_none}
+use Rattle.link_worker.proofs.Telling.{does_less, does_none, does_one, is_placing, places_nothing, told_by, told_none, IsCalledLowest}
 use Rattle.link_worker.proofs.Turning.{TurnOf, legal_after, no_call, one_call, seen_is}
 use Rattle.link_worker.proofs.Working.{stopped_now}
 use Rattle.seat_work.specs.Copies.{CopiesAt, IsStoppedAt, OneCopy}
@@ -59,10 +58,6 @@ use Rattle.script_laws.specs.declared.line_end.LineEnd.{LineEnd}
 use Rattle.script_laws.specs.declared.line_end.LineEnd.TheVariants.{Looked, Ran, Replied, Stopped, Unfound}
 use Rattle.script_session.specs.Clients.{Begins, HasDone, Makes}
 use Rattle.script_session.specs.Lines.{AreSame, line_end, lookup_end}
-
--- what a call placed is at the lowest base
-abbrev Lowest : List (Entry Meaning) → ℕ × Entry Meaning → Type 0
-Lowest h c = (u : UnitId) (shape : Shape) → c.1.event ≡ event.Place u shape → IsLowest (state (take (c.0 - 1) h)) shape c.1.reply
 
 -- some call of an event
 abbrev some_entry : Event Meaning → Reply → Entry Meaning
@@ -145,7 +140,7 @@ module _ {U N : Type 0} (means : U → Meaning) (heard : N → Option Outcome) (
           (λ h cs k. subst (λ l. P h l × ToldAt {N = N} h l [] × PlacesLowest h l) (sym k.2) (
             each h k.0 k.1 k.3 k.4,
             Call k.0 k.1 [] [] [] (record { numbers = []; rising = tt; settle = λ q. (λ one. absurd (both_ways false refl one), λ now. absurd (k.5 q now)); told = refl }) Nobody,
-            All-cons (Lowest h) (k.0, k.1) [] (places_nothing (state (take (k.0 - 1) h)) k.1.event k.1.reply (subst (λ f. is_placing f ≡ false) (sym k.3) refl)) (All-nil (Lowest h)),
+            All-cons (IsCalledLowest h) (k.0, k.1) [] (places_nothing (state (take (k.0 - 1) h)) k.1.event k.1.reply (subst (λ f. is_placing f ≡ false) (sym k.3) refl)) (All-nil (IsCalledLowest h)),
           ))
           copied;
     }

@@ -14,8 +14,8 @@ use Rattle.session_model.specs.State.{plain_entry, plain_event, plain_history}
 use Rattle.session_model.specs.declared.entry.Entry.{Entry}
 use Rattle.session_model.specs.declared.entry.Event.{Event}
 use Rattle.session_model.specs.declared.entry.Reply.{Reply}
-use Rattle.execution_session.specs.Performs.{Performs, state_of}
-use Rattle.session_laws.proofs.Elements.{appended_at}
+use Rattle.session_steps.specs.Performs.{Performs, state_of}
+use Rattle.session_laws.proofs.Declared.{appended_at}
 use Rattle.turn_lock.specs.declared.view.View.{View}
 use Rattle.shared_session.specs.Does.{Keeps, seat}
 use Rattle.link_worker.proofs.Telling.{is_placing}

@@ -8,7 +8,6 @@ use Rattle.session_model.specs.Meaning.{Meaning}
 use Rattle.session_model.specs.State.{plain_history}
 use Rattle.session_model.specs.declared.entry.Entry.{Entry}
 use Rattle.session_model.specs.declared.entry.Event.{Event}
-use Rattle.session_laws.proofs.Elements.{mapped_some}
 use Rattle.notifiers.specs.Notices.{AreHeard}
 use Rattle.notifiers.specs.declared.notice.Notice.{Notice}
 use Rattle.turn_lock.specs.Told.{Shows}
@@ -16,7 +15,6 @@ use Rattle.turn_lock.specs.Views.{first_view}
 use Rattle.turn_lock.specs.declared.view.View.{View}
 use Rattle.shared_session.specs.Home.{IsLawful, IsPosted, seat_of}
 use Rattle.link_worker.specs.Does.{ToldAt}
-use Rattle.crew.proofs.Worked.{all_at, all_from}
 use Rattle.seat_work.specs.First.{IsFirst}
 use Rattle.script_calls.specs.Plans.{event_of, line_of}
 use Rattle.script_calls.specs.declared.calls.ClientCall.{ClientCall}
@@ -33,10 +31,6 @@ use Rattle.script_session.proofs.Setting.{still_calls}
 -- seat 0 begins
 pub at_first : {U : Type 0} (means : U → Meaning) (jmax seats : ℕ) → IsAt means jmax [] (first_view (seats, 0))
 at_first means jmax seats = (record { number = refl; from = refl; to = refl; ended = refl; own = All-nil (λ e. e.seat.0 ≡ 0); mine = refl; lawful = record { legal = tt; places = tt } }, refl)
-
--- what each has, by what a list of them has
-pub all_mapped : {X Y : Type 0} (P : Y → Type 0) (f : X → Y) (xs : List X) → All P (map f xs) → All (λ x. P (f x)) xs
-all_mapped P f xs all = all_from (λ x. P (f x)) xs (λ k x at. all_at P (map f xs) k (f x) all (mapped_some f xs k x at))
 
 module _ {U N : Type 0} (means : U → Meaning) where
   pub all_lines : {X : Type 0} (items : X → List (ClientCall U N)) (xs : List X) → map (map (line_of means)) (map items xs) ≡ map (λ x. map (line_of means) (items x)) xs

@@ -18,7 +18,8 @@ ghost use Rattle.script_calls.specs.Plans.{CanCall, IsUnheard, line_of, lookup_o
 use exec_run::{Ran, run};
 use execution_session::Told;
 use given_names::GivenNames;
-use link_worker::{LinkedUnit, LookEnd, Looked, lookup};
+use link_worker::{LinkedUnit, Looked, lookup};
+use look_ends::LookEnd;
 use notifiers::{Armed, FiredList};
 use orc_ids::{NameId, Stop};
 use orc_io::{Gate, Notify};

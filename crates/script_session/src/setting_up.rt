@@ -3,7 +3,7 @@ ghost use Rattle.std.specs.Prelude.{◌≡◌, ◌++◌, List, [], ◌∷◌, ma
 ghost use Rattle.session_model.specs.Meaning.{Meaning};
 ghost use Rattle.session_model.specs.declared.entry.Event.{Event};
 ghost use Rattle.session_model.specs.declared.entry.Reply.{Reply};
-ghost use Rattle.execution_session.specs.Performs.{state_of};
+ghost use Rattle.session_steps.specs.Performs.{state_of};
 ghost use Rattle.turn_lock.specs.Handles.{view, turn_id, IsReady};
 ghost use Rattle.script_calls.specs.Plans.{CanSetUpAll, event_of};
 ghost use Rattle.script_session.specs.SetUps.{HasSetUp, IsAllowed, IsAt, IsStoppedIn};

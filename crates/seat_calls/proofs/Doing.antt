@@ -1,6 +1,6 @@
 -- How what a seat did is put together.
 use Rattle.std.proofs.Common.{◌≡◌, ℕ, ◌+◌, List, [], ◌∷◌, ◌++◌, length, take, append-nil, refl, sym, ap, subst, ◌∙◌, arith}
-use Rattle.std.proofs.lemmas.List.{append_assoc, append_cancel_left, length-append, map-append}
+use Rattle.std.proofs.lemmas.List.{append_assoc, length-append, map-append}
 use Rattle.session_model.specs.Meaning.{Meaning}
 use Rattle.session_model.specs.Calls.{numbered_calls}
 use Rattle.session_model.specs.State.{plain_entry, plain_history}
@@ -8,10 +8,10 @@ use Rattle.session_model.specs.declared.entry.Entry.{Entry}
 use Rattle.turn_lock.specs.declared.view.View.{View}
 use Rattle.turn_lock.specs.Lists.{StartsWith, entries_of}
 use Rattle.turn_lock.specs.Told.{Shows}
-use Rattle.turn_lock.specs.Passes.{Passed, Turned}
+use Rattle.turn_lock.specs.Passes.{Passed}
 use Rattle.turn_lock.proofs.Entries.{none_since}
 use Rattle.shared_session.specs.Home.{IsLawful, IsPosted, seat_of}
-use Rattle.seat_calls.specs.Did.{Promise, Nothing, Then, Single, Did, calls_in, TurnIsACall, TurnIsNoCall}
+use Rattle.seat_calls.specs.Did.{Promise, Nothing, Then, Did, calls_in, TurnIsACall, TurnIsNoCall}
 use Rattle.seat_calls.proofs.Numbers.{numbered_append, numbered_none, numbered_one, plain_starts, starts_again, taken_start}
 
 -- a seat that does nothing has made no call

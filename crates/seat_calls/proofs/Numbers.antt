@@ -1,6 +1,6 @@
 -- The numbered calls of a seat, in a list of entries that grows at its end.
-use Rattle.std.proofs.Common.{◌≡◌, ℕ, ◌+◌, Bool, true, false, cond, eqb, eq-eqb, List, [], ◌∷◌, ◌++◌, length, take, refl, sym, ap, ap₂, subst, ◌∙◌, arith}
-use Rattle.std.proofs.lemmas.List.{map-append, append_assoc, length-append, take-append-le}
+use Rattle.std.proofs.Common.{◌≡◌, ℕ, ◌+◌, Bool, true, false, cond, eqb, eq-eqb, List, [], ◌∷◌, ◌++◌, length, take, refl, ap, ◌∙◌, arith}
+use Rattle.std.proofs.lemmas.List.{map-append, append_assoc}
 use Rattle.std.proofs.Math.Seq.{take-append_seam}
 use Rattle.session_model.specs.Meaning.{Meaning}
 use Rattle.session_model.specs.Calls.{numbered_calls}

@@ -7,26 +7,17 @@ use Rattle.session_model.specs.Calls.{numbered_calls}
 use Rattle.session_model.specs.Meaning.{Meaning}
 use Rattle.session_model.specs.State.{plain_entry, plain_history}
 use Rattle.session_model.specs.declared.entry.Entry.{Entry}
+use Rattle.session_laws.proofs.Declared.{call_first, call_skipped}
 use Rattle.turn_lock.specs.declared.view.View.{View}
 use Rattle.turn_lock.specs.Lists.{entries_of}
 use Rattle.turn_lock.proofs.Entries.{none_since}
 use Rattle.shared_session.specs.Home.{seat_of}
 use Rattle.seat_calls.specs.Did.{Did, Promise, calls_in}
 use Rattle.seat_calls.proofs.Numbers.{numbered_append, numbered_none, plain_starts}
-use Rattle.run_laws.proofs.Seats.{call_first, call_skipped}
 use Rattle.crew.specs.Crew.{IsKept}
 
 pub some_is : {X : Type 0} (y x : X) → ◌≡◌ {A = Option X} (Some y) (Some x) → y ≡ x
 some_is y x e = cc
-
--- an element of a list of which all are so
-pub all_at : {X : Type 0} (P : X → Type 0) (xs : List X) (k : ℕ) (x : X) → All P xs → slice_get xs k ≡ Some x → P x
-all_at P [] k x all e = absurd (none_some x e)
-  where
-    none_some : {X : Type 0} (x : X) → ◌≡◌ {A = Option X} None (Some x) → ⊥
-    none_some x e = cc
-all_at P (y ∷ ys) zero x all e = subst P (some_is y x e) (All-head P y ys all)
-all_at P (y ∷ ys) (suc k) x all e = all_at P ys k x (All-tail P y ys all) e
 
 -- an entry is a call of its seat, with its number
 pub call_at : (s n k : ℕ) (h : List (Entry Meaning)) (e : Entry Meaning) → slice_get h k ≡ Some e → e.seat.0 ≡ s → (j : ℕ) × (slice_get (numbered_calls s n h) j ≡ Some (n + k, e))

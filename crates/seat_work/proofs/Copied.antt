@@ -18,12 +18,11 @@ use Rattle.session_model.specs.declared.entry.Reply.{Reply}
 use Rattle.session_model.specs.declared.entry.Reply.TheVariants as reply
 use Rattle.session_model.specs.declared.rows.UnitPhase.{UnitPhase}
 use Rattle.session_model.specs.declared.rows.UnitPhase.TheVariants as stage
-use Rattle.session_laws.proofs.Along.{state_from_push}
-use Rattle.session_laws.proofs.Settling.{settling_keeps}
+use Rattle.session_laws.proofs.Declared.{state_from_push, settling_keeps}
 use Rattle.closure_laws.specs.Quiet.{SettlesNow}
-use Rattle.closure_laws.proofs.Unstirred.{quiet_settles_none}
-use Rattle.execution_session.specs.Handed.{IsCopied, IsMemory}
-use Rattle.execution_session.specs.Performs.{Performs}
+use Rattle.closure_laws.proofs.Declared.{quiet_settles_none}
+use Rattle.session_steps.specs.Handed.{IsCopied, IsMemory}
+use Rattle.session_steps.specs.Performs.{Performs}
 use Rattle.shared_session.specs.Does.{seat}
 use Rattle.turn_lock.specs.declared.view.View.{View}
 use Rattle.seat_calls.specs.Did.{Single}

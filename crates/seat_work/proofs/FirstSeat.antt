@@ -13,7 +13,7 @@ use Rattle.session_model.specs.State.{plain_event, plain_history}
 use Rattle.session_model.specs.declared.entry.Entry.{Entry}
 use Rattle.session_model.specs.declared.entry.Event.{Event}
 use Rattle.session_model.specs.declared.entry.Reply.{Reply}
-use Rattle.execution_session.specs.Performs.{Performs, state_of}
+use Rattle.session_steps.specs.Performs.{Performs, state_of}
 use Rattle.turn_lock.specs.declared.view.View.{View}
 use Rattle.turn_lock.specs.Lists.{entries_of}
 use Rattle.turn_lock.specs.Passes.{Passed}

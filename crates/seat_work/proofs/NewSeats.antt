@@ -2,6 +2,7 @@
 use Rattle.std.proofs.Common.{◌≡◌, ℕ, ◌<◌, List, [], sym, subst, arith, All}
 use Rattle.std.proofs.lemmas.List.Elements.{All-map}
 use Rattle.std.proofs.lemmas.Option.{none-some}
+use Rattle.list_laws.proofs.Each.{all_at}
 use Rattle.session_model.specs.History.{IsLegal}
 use Rattle.session_model.specs.Meaning.{Meaning}
 use Rattle.session_model.specs.State.{plain_entry, plain_history, state}
@@ -13,7 +14,6 @@ use Rattle.turn_lock.specs.declared.view.View.{View}
 use Rattle.link_worker.specs.Works.{IsFree}
 use Rattle.crew.specs.Crew.{MayBegin}
 use Rattle.seat_work.specs.First.{IsFirst}
-use Rattle.seat_work.proofs.Calls.{all_at}
 
 module _ {U : Type 0} (means : U → Meaning) where
   -- of a list of entries, as they are seen

@@ -3,6 +3,7 @@ use Rattle.std.proofs.Common.{◌≡◌, ℕ, zero, suc, ◌+◌, ◌-◌, ◌<�
 use Rattle.std.proofs.lemmas.Bool.{both_ways, cases_lt}
 use Rattle.std.proofs.lemmas.List.{length-append, length-map, map-append}
 use Rattle.std.proofs.lemmas.List.Elements.{All-nil, filter-append}
+use Rattle.list_laws.proofs.Each.{all_at}
 use Rattle.orc_ids.specs.declared.ids.UnitId.{UnitId}
 use Rattle.orc_ids.specs.declared.lookup.Stop.{Stop}
 use Rattle.orc_ids.specs.declared.lookup.Stop.TheVariants as stop
@@ -14,7 +15,7 @@ use Rattle.session_model.specs.State.{plain_entry, plain_history, state}
 use Rattle.session_model.specs.declared.entry.Entry.{Entry}
 use Rattle.session_model.specs.declared.entry.Event.TheVariants as event
 use Rattle.session_model.specs.declared.entry.Reply.TheVariants as reply
-use Rattle.execution_session.specs.Handed.{IsLowest}
+use Rattle.session_steps.specs.Handed.{IsLowest}
 use Rattle.turn_lock.specs.declared.view.View.{View}
 use Rattle.turn_lock.specs.Lists.{StartsWith, entries_of}
 use Rattle.turn_lock.specs.Told.{Shows}
@@ -25,12 +26,12 @@ use Rattle.seat_calls.proofs.Numbers.{numbered_none, plain_starts, taken_start}
 use Rattle.link_worker.specs.Does.{PlacesLowest}
 use Rattle.link_worker.specs.Jobs.{IsCause}
 use Rattle.link_worker.specs.Works.{Jobs, None', OneMore}
-use Rattle.link_worker.proofs.Telling.{is_placing}
+use Rattle.link_worker.proofs.Telling.{is_placing, lowest_none}
 use Rattle.run_laws.specs.Ended.{IsCauseIn, IsCrowded, PlacesAreLowest}
 use Rattle.run_laws.specs.Runs.{AreJobs, NoJob, OneMore as AnotherJob}
 use Rattle.crew.specs.Crew.{Says}
 use Rattle.seat_work.specs.First.{IsFirst}
-use Rattle.seat_work.proofs.Calls.{all_at, call_at, later_seats, none_beyond, none_of_other}
+use Rattle.seat_work.proofs.Calls.{call_at, later_seats, none_beyond, none_of_other}
 use Rattle.seat_work.proofs.FirstSeat.{rest_below, saw_all}
 use Rattle.seat_work.proofs.NewSeats.{plain_all}
 
@@ -42,9 +43,6 @@ are_jobs h cs (OneMore before job jobs one) = AnotherJob before job (are_jobs h 
 -- none of the entries places a unit
 abbrev pub PlacesNothing : List (Entry Meaning) → Type 0
 PlacesNothing es = (k : ℕ) (e : Entry Meaning) → slice_get es k ≡ Some e → is_placing e.event ≡ false
-
-pub none_lowest : (h : List (Entry Meaning)) → PlacesLowest h []
-none_lowest h = All-nil (λ (d : ℕ × Entry Meaning). (u : UnitId) (shape : Shape) → d.1.event ≡ event.Place u shape → IsLowest (state (take (d.0 - 1) h)) shape d.1.reply)
 
 -- by the calls of each seat behind the first
 lowest_places : (h setup later : List (Entry Meaning)) → h ≡ setup ++ later → PlacesNothing setup → All (λ (e : Entry Meaning). 0 < e.seat.0) later → ((s : ℕ) → 0 < s → PlacesLowest h (numbered_calls s 1 h)) → PlacesAreLowest h
@@ -96,7 +94,7 @@ module _ {U : Type 0} (means : U → Meaning) (jmax : ℕ) where
         setup_seat = plain_all means (λ n. n ≡ 0) v.seen f.own;
         later_seats = All-nil (λ (e : Entry Meaning). (0 < e.seat.0) × (e.seat.0 < seats));
         beyond = λ n far. none n (omega (arith, some, far));
-        lowest = lowest_places (plain_history means log) (plain_history means v.seen) [] plain still (All-nil (λ (e : Entry Meaning). 0 < e.seat.0)) (λ n more. subst (PlacesLowest (plain_history means log)) (sym (none n more)) (none_lowest (plain_history means log)));
+        lowest = lowest_places (plain_history means log) (plain_history means v.seen) [] plain still (All-nil (λ (e : Entry Meaning). 0 < e.seat.0)) (λ n more. subst (PlacesLowest (plain_history means log)) (sym (none n more)) (lowest_none (plain_history means log)));
       }
 
   -- what is behind what the first seat had seen before the others worked
@@ -132,7 +130,7 @@ module _ {U : Type 0} (means : U → Meaning) (jmax : ℕ) where
           where
             by_size : (n < seats) ⊎ (seats ≤ n) → PlacesLowest (plain_history means log) (numbered_calls n 1 (plain_history means log))
             by_size (inl few) = each n more few
-            by_size (inr far) = subst (PlacesLowest (plain_history means log)) (sym (none_of_others n far)) (none_lowest (plain_history means log))
+            by_size (inr far) = subst (PlacesLowest (plain_history means log)) (sym (none_of_others n far)) (lowest_none (plain_history means log))
 
 module _ {U : Type 0} (means : U → Meaning) (jmax : ℕ) where
   -- a stop's cause, in a history that begins with where it was

@@ -7,7 +7,7 @@ use Rattle.session_model.specs.State.{state}
 use Rattle.session_model.specs.declared.entry.Entry.{Entry}
 use Rattle.session_model.specs.declared.entry.Event.TheVariants as event
 use Rattle.closure_laws.specs.Quiet.{SettlesNow}
-use Rattle.execution_session.specs.Handed.{IsMemory}
+use Rattle.session_steps.specs.Handed.{IsMemory}
 use Rattle.turn_lock.specs.declared.view.View.{View}
 use Rattle.seat_calls.specs.Did.{Did, Nothing, Promise}
 use Rattle.link_worker.specs.Works.{WasStopped}

@@ -1,5 +1,5 @@
 -- One reply of a collect is right.
-use Rattle.std.proofs.Common.{◌≡◌, ◌↔◌, ℕ, ◌<◌, ◌≤◌, false, List, length, slice_get, Some, IsTrue, subst, sym, refl, ap, ◌∙◌, arith}
+use Rattle.std.proofs.Common.{◌≡◌, ◌↔◌, ℕ, ◌<◌, false, List, length, slice_get, Some, IsTrue, subst, sym, refl, arith}
 use Rattle.std.proofs.lemmas.Bool.{false≢true}
 use Rattle.orc_ids.specs.declared.ids.QueryId.{QueryId}
 use Rattle.session_model.specs.Answer.{AnswersCollect}
@@ -12,9 +12,7 @@ use Rattle.session_model.specs.declared.entry.Reply.{Reply}
 use Rattle.session_model.specs.declared.entry.Reply.TheVariants as reply
 use Rattle.session_model.specs.declared.rows.Ending.TheVariants.{Found, Lost}
 use Rattle.session_model.specs.declared.rows.Query.{Query}
-use Rattle.session_laws.proofs.Choosing.{reply_is_determined, collect_unplaced}
-use Rattle.session_laws.proofs.Elements.{element_below}
-use Rattle.session_laws.proofs.Ending.{open_has_no_end}
+use Rattle.session_laws.proofs.Declared.{reply_is_determined, collect_unplaced, element_below, open_has_no_end}
 use Rattle.session_past.specs.Taking.{IsCollected}
 
 -- an answer other than Open is the reply of an entry

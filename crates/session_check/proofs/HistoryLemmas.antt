@@ -1,5 +1,5 @@
 -- A history goes wrong at one place at most, and its fronts grow by one entry.
-use Rattle.std.proofs.Common.{◌≡◌, ◌↔◌, ℕ, suc, ◌+◌, ◌^◌, ◌<◌, ◌≤◌, List, [], ◌∷◌, ◌++◌, take, length, map, slice_get, Option, Some, None, ◌⊎◌, inl, inr, subst, sym, refl, ap, ◌∙◌, arith}
+use Rattle.std.proofs.Common.{◌≡◌, ◌↔◌, ℕ, ◌+◌, ◌^◌, ◌<◌, ◌≤◌, List, [], ◌∷◌, ◌++◌, take, length, slice_get, Option, Some, None, ◌⊎◌, inl, inr, subst, sym, ap, ◌∙◌, arith}
 use Rattle.std.specs.Prelude.{Bool, false, IsTrue}
 use Rattle.std.proofs.lemmas.Bool.{both_ways, cases_lt}
 use Rattle.std.proofs.lemmas.List.{take-take, take-map, take_all}
@@ -10,9 +10,7 @@ use Rattle.session_model.specs.Answer.{Answers}
 use Rattle.session_model.specs.Plain.{Plain, empty}
 use Rattle.session_model.specs.State.{after, plain_entry, plain_event, plain_history, state}
 use Rattle.session_model.specs.declared.entry.Entry.{Entry}
-use Rattle.session_laws.proofs.Along.{one_more_legal, state_from_push}
-use Rattle.session_laws.proofs.Elements.{mapped_length}
-use Rattle.session_laws.proofs.Ending.{entries_are, front_legal}
+use Rattle.session_laws.proofs.Declared.{one_more_legal, state_from_push, mapped_length, entries_are, front_legal}
 use Rattle.session_check.specs.Replay.{LedTo}
 use Rattle.session_check.specs.Wrong.{GoesWrongAt}
 use Rattle.session_past.specs.Ends.{AreEnds}

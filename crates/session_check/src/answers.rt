@@ -9,6 +9,7 @@ use crate::sample::Sample;
 use orc_ids::{
     DylibId, GenId, Level, ORDER_LIMIT, OrderItem, QueryId, TrackId, WANTED_LIMIT, Wanted,
 };
+use same_replies::same_reply;
 use session_model::{Entry, Event, Reply, UnitKind};
 use session_past::{Settled, reply_collect, reply_of_job};
 use session_plain::{
@@ -25,7 +26,7 @@ fn set_order_is_right<U: UnitKind>(
 ) -> bool
     ensures { IsTrue result ↔ (length order.now ≤ ORDER_LIMIT) × (reply.now ≡ answer_set_order (meant U.meaning s.now) d order.now) }
 {
-    order.len() <= ORDER_LIMIT && reply.is_same(&reply_set_order(s, d, order))
+    order.len() <= ORDER_LIMIT && same_reply(reply, &reply_set_order(s, d, order))
 }
 
 fn attach_is_right<U: UnitKind>(
@@ -38,7 +39,7 @@ fn attach_is_right<U: UnitKind>(
     requires { IsSmall s.now }
     ensures { IsTrue result ↔ HasSource (meant U.meaning s.now) (U.meaning unit.now) × (reply.now ≡ answer_attach (meant U.meaning s.now) d t) }
 {
-    source_known(s, unit) && reply.is_same(&reply_attach(s, d, t))
+    source_known(s, unit) && same_reply(reply, &reply_attach(s, d, t))
 }
 
 fn define_is_right<U: UnitKind>(
@@ -53,7 +54,7 @@ fn define_is_right<U: UnitKind>(
     ensures { IfOk result (λ right. IsTrue right ↔ HasSource (meant U.meaning s.now) (U.meaning unit.now) × (reply.now ≡ answer_define (meant U.meaning s.now) d t (U.meaning unit.now))) }
 {
     let known = reply_define(alloc, s, d, t, unit)?;
-    Ok(source_known(s, unit) && reply.is_same(&known))
+    Ok(source_known(s, unit) && same_reply(reply, &known))
 }
 
 fn generate_is_right<U: UnitKind>(
@@ -65,7 +66,7 @@ fn generate_is_right<U: UnitKind>(
     requires { IsSmall s.now }
     ensures { IfOk result (λ right. IsTrue right ↔ (reply.now ≡ answer_generate (meant U.meaning s.now) g)) }
 {
-    Ok(reply.is_same(&reply_generate(alloc, s, g)?))
+    Ok(same_reply(reply, &reply_generate(alloc, s, g)?))
 }
 
 fn ask_is_right<U: UnitKind>(
@@ -81,7 +82,7 @@ fn ask_is_right<U: UnitKind>(
 {
     let known = reply_ask(alloc, s, order, wanted, level)?;
     let fits = order.len() <= ORDER_LIMIT && wanted.len() <= WANTED_LIMIT;
-    Ok(fits && reply.is_same(&known))
+    Ok(fits && same_reply(reply, &known))
 }
 
 fn is_open(reply: &Reply) -> bool
@@ -106,7 +107,7 @@ fn collect_is_right<U: UnitKind>(
     if is_open(&known) {
         return Ok(false);
     }
-    Ok(reply.is_same(&known))
+    Ok(same_reply(reply, &known))
 }
 
 /// Whether the oldest job is handed out so.
@@ -121,7 +122,7 @@ fn take_is_right<U: UnitKind>(
     ensures { IfOk result (λ right. IsTrue right ↔ AnswersTake (plain_history U.meaning past.now) (meant U.meaning s.now) (meant U.meaning s.now).jobs reply.now) }
 {
     match reply_of_job(alloc, s, ends)? {
-        Some(known) => Ok(reply.is_same(&known)),
+        Some(known) => Ok(same_reply(reply, &known)),
         None => Ok(false),
     }
 }
@@ -143,7 +144,7 @@ pub fn is_right<U: Sample>(
     let seat = e.seat;
     let reply = &e.reply;
     match &e.event {
-        Event::Dylib(name) => Ok(reply.is_same(&reply_dylib(s, *name))),
+        Event::Dylib(name) => Ok(same_reply(reply, &reply_dylib(s, *name))),
         Event::SetOrder(d, order) => Ok(set_order_is_right(s, *d, order.as_slice(), reply)),
         Event::Attach(d, t, unit) => Ok(attach_is_right(s, *d, *t, unit, reply)),
         Event::Define(d, t, unit) => define_is_right(alloc, s, *d, *t, unit, reply),
@@ -162,10 +163,10 @@ pub fn is_right<U: Sample>(
         Event::Resolve(u) => Ok(resolve_is_right(s, seat, *u, reply)),
         Event::Emit(u, groups) => emit_is_right(alloc, s, seat, *u, groups.as_slice(), reply),
         Event::Fail(u, why) => Ok(fail_is_right(jmax, past, s, ends, seat, *u, *why, reply)),
-        Event::Tracker(d) => Ok(reply.is_same(&reply_tracker(s, *d))),
-        Event::MoveTracker(t, to) => Ok(reply.is_same(&reply_move(s, *t, *to))),
-        Event::Remove(t) => Ok(reply.is_same(&reply_remove(s, *t))),
-        Event::Image => Ok(reply.is_same(&Reply::Image)),
+        Event::Tracker(d) => Ok(same_reply(reply, &reply_tracker(s, *d))),
+        Event::MoveTracker(t, to) => Ok(same_reply(reply, &reply_move(s, *t, *to))),
+        Event::Remove(t) => Ok(same_reply(reply, &reply_remove(s, *t))),
+        Event::Image => Ok(same_reply(reply, &Reply::Image)),
         Event::Link(u) => link_is_right(alloc, s, seat, *u, reply),
     }
 }

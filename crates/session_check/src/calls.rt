@@ -8,6 +8,7 @@ ghost use Rattle.session_plain.specs.Meant.{meant, unit_row, IsSmall, LiveFit};
 
 use crate::sample::Sample;
 use orc_ids::{Group, InstId, Place, SeatNo, Shape, UnitId};
+use same_replies::same_reply;
 use session_model::{Entry, InstRow, Reply, UnitKind, Why};
 use session_past::{Settled, has_cause};
 use session_plain::{
@@ -30,7 +31,7 @@ fn unit_placed<U: UnitKind>(
     ensures { IfOk result (λ right. IsTrue right ↔ AnswersCall (called_at seat.0 can_place (unit_row U.meaning x.now)) u (λ y. (unit_shape y ≡ Some shape) × AnswersPlace (meant U.meaning s.now) shape reply.now) reply.now) }
 {
     match turn_away(x, seat, u, place_is_next(x)) {
-        Some(known) => Ok(reply.is_same(&known)),
+        Some(known) => Ok(same_reply(reply, &known)),
         None => may_be_placed(alloc, s, x, shape, reply),
     }
 }
@@ -49,7 +50,7 @@ pub fn place_is_right<U: UnitKind>(
 {
     match unit_there(s, u) {
         Some(x) => unit_placed(alloc, s, x, seat, u, shape, reply),
-        None => Ok(reply.is_same(&Reply::WrongPhase(u))),
+        None => Ok(same_reply(reply, &Reply::WrongPhase(u))),
     }
 }
 
@@ -63,7 +64,7 @@ pub fn resolve_is_right<U: UnitKind>(
     requires { LiveFit U.meaning s.now.units.items }
     ensures { IsTrue result ↔ AnswersCall (called (meant U.meaning s.now) seat.0 u can_resolve) u (λ x. reply.now ≡ Reply.Resolved) reply.now }
 {
-    reply.is_same(&reply_resolve(s, seat, u))
+    same_reply(reply, &reply_resolve(s, seat, u))
 }
 
 /// Whether the unit's externals are looked up so.
@@ -78,7 +79,7 @@ pub fn link_is_right<U: UnitKind>(
     requires live { LiveFit U.meaning s.now.units.items }
     ensures { IfOk result (λ right. IsTrue right ↔ AnswersCall (called (meant U.meaning s.now) seat.0 u can_link) u (λ x. reply.now ≡ answer_link (meant U.meaning s.now) u.0 x) reply.now) }
 {
-    Ok(reply.is_same(&reply_link(alloc, s, seat, u)?))
+    Ok(same_reply(reply, &reply_link(alloc, s, seat, u)?))
 }
 
 fn keep_own(own: &mut Vec<InstId>, k: usize, kept: bool) -> Result<(), AllocError>
@@ -147,7 +148,7 @@ fn is_emitted<U: Sample>(
 {
     let own = own_groups(alloc, s, x, u, groups)?;
     let known = reply_by_deps(&s.rows, groups);
-    Ok(own && unit_refusal(x).is_none() && reply.is_same(&known))
+    Ok(own && unit_refusal(x).is_none() && same_reply(reply, &known))
 }
 
 fn unit_emitted<U: Sample>(
@@ -164,7 +165,7 @@ fn unit_emitted<U: Sample>(
     ensures { IfOk result (λ right. IsTrue right ↔ AnswersCall (called_at seat.0 can_emit (unit_row U.meaning x.now)) u (λ y. AnswersEmit (meant U.meaning s.now) u.0 groups.now y reply.now) reply.now) }
 {
     match turn_away(x, seat, u, emit_is_next(x)) {
-        Some(known) => Ok(reply.is_same(&known)),
+        Some(known) => Ok(same_reply(reply, &known)),
         None => is_emitted(alloc, s, x, u, groups, reply),
     }
 }
@@ -184,7 +185,7 @@ pub fn emit_is_right<U: Sample>(
 {
     match unit_there(s, u) {
         Some(x) => unit_emitted(alloc, s, x, seat, u, groups, reply),
-        None => Ok(reply.is_same(&Reply::WrongPhase(u))),
+        None => Ok(same_reply(reply, &Reply::WrongPhase(u))),
     }
 }
 
@@ -204,10 +205,10 @@ fn unit_failed<U: Sample>(
     ensures { IsTrue result ↔ AnswersCall (called_at seat.0 (λ y. true) (unit_row U.meaning x.now)) u (λ y. HasCause jmax (plain_history U.meaning past.now) (meant U.meaning s.now) u.0 y why × (reply.now ≡ Reply.Failed)) reply.now }
 {
     match turn_away(x, seat, u, true) {
-        Some(known) => reply.is_same(&known),
+        Some(known) => same_reply(reply, &known),
         None => {
             has_cause(jmax, past, s, ends, u, x, unit_refusal(x), why)
-                && reply.is_same(&Reply::Failed)
+                && same_reply(reply, &Reply::Failed)
         }
     }
 }
@@ -229,6 +230,6 @@ pub fn fail_is_right<U: Sample>(
 {
     match unit_there(s, u) {
         Some(x) => unit_failed(jmax, past, s, ends, x, seat, u, why, reply),
-        None => reply.is_same(&Reply::WrongPhase(u)),
+        None => same_reply(reply, &Reply::WrongPhase(u)),
     }
 }

@@ -1,15 +1,16 @@
 -- Who was told in the session of a script: just those whose queries ended.
 use Rattle.std.proofs.Common.{arith, ◌≡◌, ℕ, zero, suc, ◌+◌, ◌<◌, ◌≤◌, ◌⊎◌, inl, inr, false, List, [], ◌∷◌, All, length, map, slice_get, take, Option, Some, refl, subst, ap, ◌∙◌}
 use Rattle.std.proofs.lemmas.Bool.{both_ways}
-use Rattle.std.proofs.lemmas.List.Elements.{All-cons, All-head, All-nil, All-tail}
-use Rattle.std.proofs.lemmas.Option.{none-some, same_Some}
+use Rattle.std.proofs.lemmas.Option.{none-some}
+use Rattle.list_laws.proofs.Each.{all_at, all_from}
+use Rattle.list_laws.proofs.Lists.{some_below}
 use Rattle.orc_ids.specs.declared.lookup.Outcome.{Outcome}
 use Rattle.orc_ids.specs.declared.lookup.Stop.{Stop}
 use Rattle.session_model.specs.Calls.{numbered_calls}
 use Rattle.session_model.specs.Meaning.{Meaning}
 use Rattle.session_model.specs.declared.entry.Entry.{Entry}
 use Rattle.session_model.specs.declared.entry.Event.{Event}
-use Rattle.session_laws.proofs.Elements.{appended_cases, mapped_length, mapped_parts, mapped_some}
+use Rattle.session_laws.proofs.Declared.{appended_cases, mapped_length, mapped_parts, mapped_some}
 use Rattle.notifiers.specs.declared.notice.Notice.{Notice}
 use Rattle.note_laws.specs.Laws.{may_settle}
 use Rattle.link_worker.specs.Does.{ToldAt}
@@ -26,20 +27,6 @@ use Rattle.script_session.specs.declared.session.Notified.{Notified}
 use Rattle.session_command.proofs.Placing.{AllWereTold, WereTold}
 
 -- Lists
-
-pub all_from : {X : Type 0} (P : X → Type 0) (xs : List X) → ((k : ℕ) (x : X) → slice_get xs k ≡ Some x → P x) → All P xs
-all_from P [] f = All-nil P
-all_from P (x ∷ xs) f = All-cons P x xs (f 0 x refl) (all_from P xs (λ k y there. f (suc k) y there))
-
-all_there : {X : Type 0} (P : X → Type 0) (xs : List X) → All P xs → (k : ℕ) (x : X) → slice_get xs k ≡ Some x → P x
-all_there P [] all k x there = absurd (none-some x there)
-all_there P (y ∷ ys) all zero x there = subst P (same_Some y x there) (All-head P y ys all)
-all_there P (y ∷ ys) all (suc k) x there = all_there P ys (All-tail P y ys all) k x there
-
-pub some_below : {X : Type 0} (xs : List X) (k : ℕ) → k < length xs → (x : X) × (slice_get xs k ≡ Some x)
-some_below [] k lt = absurd (omega (arith, lt))
-some_below (x ∷ xs) zero lt = (x, refl)
-some_below (x ∷ xs) (suc k) lt = some_below xs k (omega (arith, lt))
 
 taken_some : {X : Type 0} (n : ℕ) (xs : List X) (k : ℕ) (x : X) → slice_get (take n xs) k ≡ Some x → slice_get xs k ≡ Some x
 taken_some zero xs k x there = absurd (none-some x there)
@@ -96,4 +83,4 @@ module _ {U N : Type 0} (means : U → Meaning) (heard : N → Option Outcome) (
 
       by : (slice_get run.setup t.number ≡ Some t.entry) ⊎ ((k : ℕ) × (t.number ≡ length run.setup + k) × (slice_get run.later k ≡ Some t.entry)) → (i : ℕ) × (fired : List (Notice N)) × (slice_get Told i ≡ Some fired) × IsAmong note outcome fired
       by (inl there) = absurd (both_ways (may_settle t.entry.event) (went_quiet means jmax plan ends h run.setup run.later stopped run.went t.number t.entry there) t.may)
-      by (inr later) = by_seat note outcome t (all_there (λ (x : Entry Meaning). (0 < x.seat.0) × (x.seat.0 ≤ length (script_of means plan).clients + workers)) run.later run.later_seats later.0 t.entry later.2) t.entry.seat.0 refl
+      by (inr later) = by_seat note outcome t (all_at (λ (x : Entry Meaning). (0 < x.seat.0) × (x.seat.0 ≤ length (script_of means plan).clients + workers)) run.later later.0 t.entry run.later_seats later.2) t.entry.seat.0 refl

@@ -4,8 +4,10 @@ use Rattle.std.specs.List.{enumerate_from}
 use Rattle.std.proofs.Math.Nat.{min-le_left}
 use Rattle.std.proofs.lemmas.List.{length-append}
 use Rattle.std.proofs.lemmas.List.FromFn.{length-enumerate_from}
+use Rattle.list_laws.proofs.Each.{all_from}
+use Rattle.list_laws.proofs.Lists.{some_below}
 use Rattle.session_model.specs.Meaning.{Meaning}
-use Rattle.session_laws.proofs.Elements.{element_below, mapped_length, mapped_some}
+use Rattle.session_laws.proofs.Declared.{element_below, mapped_length, mapped_some}
 use Rattle.object_files.specs.Files.{Told}
 use Rattle.session_script.specs.WellFormed.{IsWellFormed}
 use Rattle.session_script.specs.declared.limits.TheConstants.{CLIENT_LIMIT}
@@ -18,7 +20,6 @@ use Rattle.script_plan.specs.Notes.{AreHandedOut, watches}
 use Rattle.session_answers.specs.Texts.{counted}
 use Rattle.session_command.specs.Loading.{IsLoaded}
 use Rattle.session_command.specs.declared.command.Loaded.{Loaded}
-use Rattle.session_command.proofs.AllTold.{all_from, some_below}
 
 module _ (left : Option (List ℕ)) (notes : ℕ) (told : Told) (loaded : Loaded) (is : IsLoaded left (counted notes) told loaded) where
   -- the script is for all notes that there are

@@ -5,6 +5,8 @@ use Rattle.std.specs.Option.{option_to_list}
 use Rattle.std.proofs.lemmas.List.{length-set}
 use Rattle.std.proofs.lemmas.List.Elements.{All-head, All-tail}
 use Rattle.std.proofs.lemmas.Option.{none-some, same_Some, slice_get_within}
+use Rattle.list_laws.proofs.Each.{all_at}
+use Rattle.list_laws.proofs.Lists.{set_there}
 use Rattle.orc_ids.specs.declared.lookup.Outcome.{Outcome}
 use Rattle.session_model.specs.Meaning.{Meaning}
 use Rattle.session_model.specs.declared.entry.Entry.{Entry}
@@ -29,16 +31,6 @@ set_cases (z ∷ zs) (suc i) (suc k) y x there = further (set_cases zs i k y x t
     further : ((k ≡ i) × (x ≡ y)) ⊎ (slice_get zs k ≡ Some x) → ((suc k ≡ suc i) × (x ≡ y)) ⊎ (slice_get zs k ≡ Some x)
     further (inl p) = inl (ap suc p.0, p.1)
     further (inr t) = inr t
-
-set_there : {X : Type 0} (xs : List X) (k : ℕ) (y : X) → k < length xs → slice_get (set xs k y) k ≡ Some y
-set_there [] k y lt = absurd (omega (arith, lt))
-set_there (x ∷ xs) zero y lt = refl
-set_there (x ∷ xs) (suc k) y lt = set_there xs k y (omega (arith, lt))
-
-all_there : {X : Type 0} (P : X → Type 0) (xs : List X) → All P xs → (k : ℕ) (x : X) → slice_get xs k ≡ Some x → P x
-all_there P [] all k x there = absurd (none-some x there)
-all_there P (y ∷ ys) all zero x there = subst P (same_Some y x there) (All-head P y ys all)
-all_there P (y ∷ ys) all (suc k) x there = all_there P ys (All-tail P y ys all) k x there
 
 -- of places those that are taken; where all are, they are the places
 few_taken : {X : Type 0} (places : List (Option X)) → length (flat_map option_to_list places) ≤ length places
@@ -111,8 +103,8 @@ module _ {N : Type 0} where
     WereTold told = All (λ f. NoteEnded h f.note f.outcome) told × AreHeard heard told
 
     none_so : (places : Places N) → NoneHasHeard heard places → AreSo places
-    none_so places none k (Fired what) there = absurd (all_there (λ o. IfSome o (HasHeardNothing heard)) places none k (Some (Fired what)) there)
-    none_so places none k (Unfired what) there = all_there (λ o. IfSome o (HasHeardNothing heard)) places none k (Some (Unfired what)) there
+    none_so places none k (Fired what) there = absurd (all_at (λ o. IfSome o (HasHeardNothing heard)) places k (Some (Fired what)) none there)
+    none_so places none k (Unfired what) there = all_at (λ o. IfSome o (HasHeardNothing heard)) places k (Some (Unfired what)) none there
 
     one_so : (places : Places N) (f : Notice N) → AreSo places → NoteEnded h f.note f.outcome → heard f.what ≡ Some f.outcome → AreSo (set places f.note (Some (Fired f.what)))
     one_so places f so ended heard_it k noted there = by (set_cases places f.note k (Some (Fired f.what)) (Some noted) there)

@@ -1,32 +1,34 @@
-pub mod Addresses
-pub mod Along
-pub mod Answering
-pub mod Changes
-pub mod Following
-pub mod Choosing
-pub mod Defining
-pub mod Elements
-pub mod Ending
-pub mod Facts
-pub mod Failing
-pub mod Greeting
-pub mod Guards
-pub mod Invariant
-pub mod Keeping
-pub mod Living
-pub mod Losing
-pub mod Meeting
-pub mod Moving
-pub mod Origins
-pub mod Owing
-pub mod Paths
-pub mod Placing
-pub mod Ranges
-pub mod Readying
-pub mod Replies
-pub mod RowStages
-pub mod Resting
-pub mod Rising
-pub mod Settling
-pub mod Steps
-pub mod Unfailing
+mod Addresses
+mod Along
+mod Answering
+mod Changes
+mod Following
+mod Choosing
+mod Defining
+mod Elements
+mod Ending
+mod Facts
+mod Failing
+mod Greeting
+mod Guards
+mod Invariant
+mod Keeping
+mod Living
+mod Losing
+mod Meeting
+mod Moving
+mod NumberedCalls
+mod Origins
+mod Owing
+mod Paths
+mod Placing
+mod Ranges
+mod Readying
+mod Replies
+mod RowStages
+mod Resting
+mod Rising
+mod Settling
+mod Steps
+mod Unfailing
+pub mod Declared

@@ -1,4 +1,5 @@
 pub mod Chains
+pub mod Entries
 pub mod Failures
 pub mod Hello
 pub mod Histories

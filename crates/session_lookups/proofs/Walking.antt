@@ -1,12 +1,11 @@
 -- A chain of aliases, step by step.
-use Rattle.std.proofs.Common.{◌≡◌, ℕ, zero, suc, ◌+◌, ◌-◌, ◌<◌, ◌≤◌, ◌∙◌, Bool, true, false, ◌&&◌, ◌||◌, arith, ap, refl, sym, subst, List, [], ◌∷◌, length, filter_map, slice_get, Option, Some, None, IfSome, is_some, option_map, option_and_then, option_to_list}
+use Rattle.std.proofs.Common.{◌≡◌, ℕ, zero, suc, ◌+◌, ◌-◌, ◌<◌, ◌≤◌, ◌∙◌, Bool, true, false, ◌&&◌, ◌||◌, arith, ap, refl, sym, subst, List, [], ◌∷◌, length, filter_map, slice_get, Option, Some, None, is_some, option_map, option_and_then, option_to_list}
 use Rattle.std.specs.Bool.{if◌then◌else◌}
 use Rattle.std.specs.List.{list_any}
 use Rattle.std.specs.Option.{option_map_or}
-use Rattle.std.proofs.lemmas.Bool.{both_ways, and_parts}
+use Rattle.std.proofs.lemmas.Bool.{and_parts}
 use Rattle.std.proofs.lemmas.List.{length-map}
 use Rattle.std.proofs.lemmas.Option.{none-some, same_Some, option_and_then_some}
-use Rattle.orc_ids.specs.declared.ids.DylibId.{DylibId}
 use Rattle.orc_ids.specs.declared.ids.InstId.{InstId}
 use Rattle.orc_ids.specs.declared.ids.QueryId.{QueryId}
 use Rattle.graph_walks.specs.Walks.{within}
@@ -17,12 +16,13 @@ use Rattle.session_model.specs.Answer.{alias_cycle}
 use Rattle.session_model.specs.Chain.{chain_next, comes_to_unit, is_of_unit, linked_to, matched_instances}
 use Rattle.session_model.specs.Change.{link_matches}
 use Rattle.session_model.specs.Lists.{first_some, only_if, or_else}
-use Rattle.session_model.specs.Meaning.{Meaning, IsAlias, IsLawful}
+use Rattle.session_model.specs.Meaning.{Meaning, IsLawful}
 use Rattle.session_model.specs.Plain.{Plain, UnitRow, is_alias, is_waiting}
 use Rattle.session_model.specs.declared.entry.Reply.{Reply}
 use Rattle.session_model.specs.declared.entry.Reply.TheVariants.{AliasCycle}
 use Rattle.session_model.specs.declared.rows.InstRow.{InstRow}
 use Rattle.session_model.specs.declared.rows.Query.{Query}
+use Rattle.closure_laws.proofs.Declared.{lawful_alias}
 use Rattle.session_parts.specs.Parts.{kept_of}
 use Rattle.session_parts.specs.Units.{tracker_at}
 use Rattle.session_parts.specs.declared.parts.Parts.{Parts}
@@ -30,13 +30,6 @@ use Rattle.session_parts.proofs.Ties.{session_unit}
 use Rattle.session_lookups.specs.Chains.{target_of, awaited, unit_at, AreLinked, IsNext, IsOneAlias}
 
 -- One external
-
-lawful_alias : (u : Meaning) → IsLawful u → is_some u.source ≡ true → IsAlias u
-lawful_alias u lawful = by_source u.source lawful.alias
-  where
-    by_source : (o : Option DylibId) → IfSome o (λ d. IsAlias u) → is_some o ≡ true → IsAlias u
-    by_source None h e = absurd (both_ways false refl e)
-    by_source (Some d) h e = h
 
 pub one_external : (x : UnitRow) → IsLawful x.meaning → is_alias x ≡ true → IsOneAlias x
 one_external x lawful alias = record { alias = alias; one = ap length ((lawful_alias x.meaning lawful alias).externals x.live) }

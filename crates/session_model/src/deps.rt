@@ -7,7 +7,7 @@ use std::sync::Arc;
 
 /// What an instance depends on, by the numbers of instances. The members of a group share one list.
 /// Contracts see the list.
-#[derive(Debug, Drop)]
+#[derive(Drop)]
 pub struct DepList {
     deps: Option<Arc<InstList, Global>>,
 }

@@ -15,7 +15,6 @@
 mod change;
 mod deps;
 mod entry;
-mod equal;
 mod rows;
 mod traits;
 

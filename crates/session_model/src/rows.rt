@@ -4,7 +4,7 @@ use orc_ids::{DylibId, GenId, InstId, Items, Level, NameId, SymFlags, UnitId};
 
 /// How far an instance has come (ORC: `SymbolState`). Whether it is ready isn't stored: that
 /// follows from the recorded dependencies.
-#[derive(Debug, Drop)]
+#[derive(Drop)]
 pub enum Phase {
     /// No lookup has asked for it.
     Unsearched,
@@ -19,7 +19,7 @@ pub enum Phase {
 }
 
 /// One instance: an accepted definition of a name (ORC: `SymbolTableEntry`).
-#[derive(Debug, Drop)]
+#[derive(Drop)]
 pub struct InstRow {
     pub dylib: DylibId,
     pub name: NameId,
@@ -76,7 +76,7 @@ pub enum UnitPhase {
 }
 
 /// A dylib, and where its units' externals are looked up (ORC: `JITDylib` and its link order).
-#[derive(Debug, Drop)]
+#[derive(Drop)]
 pub struct Dylib {
     pub name: u32,
     pub order: Order,
@@ -93,7 +93,7 @@ pub struct Track {
 pub type Matched = Items<Option<InstId>>;
 
 /// A query (ORC: `AsynchronousSymbolQuery`).
-#[derive(Debug, Drop)]
+#[derive(Drop)]
 pub struct Query {
     /// The number of its entry.
     pub asked: u64,
@@ -133,7 +133,7 @@ pub enum Verdict {
 }
 
 /// How a query ends: each matched instance with its address, or the first one that is lost.
-#[derive(Debug, Drop)]
+#[derive(Drop)]
 pub enum Ending {
     Found(Matches),
     Lost(InstId),

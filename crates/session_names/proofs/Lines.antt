@@ -3,7 +3,8 @@ use Rattle.std.proofs.Common.{ℕ, List, [], ◌∷◌, ◌++◌, Option, Some, 
 use Rattle.std.specs.Bool.{⊤}
 use Rattle.std.specs.List.{AllByRecursion}
 use Rattle.exec_run.specs.declared.ran.RunEnd.{RunEnd}
-use Rattle.session_laws.proofs.Losing.{all_appended}
+use Rattle.session_laws.proofs.Declared.{all_appended}
+use Rattle.session_laws.specs.Entries.{entries}
 use Rattle.session_model.specs.Calls.{Lookup}
 use Rattle.session_model.specs.Meaning.{Meaning}
 use Rattle.session_model.specs.declared.entry.Entry.{Entry}
@@ -11,16 +12,16 @@ use Rattle.session_model.specs.declared.entry.Event.{Event}
 use Rattle.session_model.specs.declared.entry.Reply.{Reply}
 use Rattle.session_model.specs.declared.entry.Reply.TheVariants as reply
 use Rattle.journal_text.specs.Replies.{KnownReply}
-use Rattle.link_worker.specs.Looks.{EndsAs, LastIs}
-use Rattle.link_worker.specs.declared.looking.LookEnd.{LookEnd}
-use Rattle.link_worker.specs.declared.looking.LookEnd.TheVariants as look
+use Rattle.look_ends.specs.Ends.{EndsAs, LastIs}
+use Rattle.look_ends.specs.declared.look_end.LookEnd.{LookEnd}
+use Rattle.look_ends.specs.declared.look_end.LookEnd.TheVariants as look
 use Rattle.given_names.specs.Given.{Given, address_of}
 use Rattle.script_calls.specs.Lines.{Line, One, LookUp, Run}
 use Rattle.script_laws.specs.Lines.{AreLines, AreSkipped, AtEnd, CallsOf, CopiesAndRuns, Goes, IsCopy, IsLine, OneCall, Stops, given_by}
 use Rattle.script_laws.specs.declared.line_end.LineEnd.{LineEnd}
 use Rattle.script_laws.specs.declared.line_end.LineEnd.TheVariants.{Looked, Ran, Replied, Skipped, Unfound}
 use Rattle.result_text.specs.Known.{KnownEnd, KnownLook}
-use Rattle.spoken_names.specs.Speaking.{Speaks, entries}
+use Rattle.spoken_names.specs.Speaking.{Speaks}
 use Rattle.spoken_names.proofs.Seats.{IsNamed}
 use Rattle.spoken_names.proofs.Speaking.{copies_speak, front, joined, looks_speak, none, plain_says}
 use Rattle.session_names.proofs.Asked.{IsNamedLine}

@@ -8,8 +8,9 @@ use Rattle.std.proofs.lemmas.List.Elements.{All-from_recursion, All-map, All-wea
 use Rattle.std.proofs.lemmas.Option.{get_or_from_slice_get, slice_get-get_or, slice_get_within}
 use Rattle.orc_ids.specs.declared.lookup.Stop.{Stop}
 use Rattle.orc_names.specs.Numbers.{KeepsNumbers}
-use Rattle.closure_laws.proofs.LevelsStaying.{row_below}
-use Rattle.session_laws.proofs.Elements.{mapped_parts}
+use Rattle.closure_laws.proofs.Declared.{row_below}
+use Rattle.session_laws.proofs.Declared.{mapped_parts}
+use Rattle.session_laws.specs.Entries.{entries}
 use Rattle.session_model.specs.Calls.{numbered_calls}
 use Rattle.session_model.specs.Meaning.{Meaning}
 use Rattle.session_model.specs.declared.entry.Entry.{Entry}
@@ -30,7 +31,7 @@ use Rattle.session_answers.specs.Texts.{IsSession, wanted_by, wanted_by_all}
 use Rattle.script_names.specs.Said.{KnownCall, KnownSetup, SaysItsNames}
 use Rattle.script_names.proofs.SaidSoFar.{call_stays, setup_stays}
 use Rattle.script_names.proofs.ScriptsSaid.{says_its_names}
-use Rattle.spoken_names.specs.Speaking.{Speaks, entries}
+use Rattle.spoken_names.specs.Speaking.{Speaks}
 use Rattle.spoken_names.proofs.LoadedUnits.{loaded_known}
 use Rattle.spoken_names.proofs.Seats.{IsNamed, IsNamedEntry, each_taken, of_events, setup_speaks, spoken_known}
 use Rattle.spoken_names.proofs.Speaking.{jobs_speak}

@@ -10,8 +10,7 @@ use Rattle.session_model.specs.Change.{all_claimed, lodged, linked, waiting_unit
 use Rattle.session_model.specs.declared.rows.Query.{Query}
 use Rattle.session_model.specs.declared.rows.UnitPhase.TheVariants as stage
 use Rattle.session_laws.specs.Sound.{IsSound, AllMatched}
-use Rattle.session_laws.proofs.Elements.{pushed_last}
-use Rattle.session_laws.proofs.Invariant.{claims_leave}
+use Rattle.session_laws.proofs.Declared.{pushed_last, claims_leave}
 use Rattle.session_parts.specs.declared.parts.Parts.{Parts}
 use Rattle.session_parts.specs.Parts.{AreParts}
 

@@ -6,9 +6,7 @@ use Rattle.session_model.specs.Meaning.{Meaning}
 use Rattle.session_model.specs.Plain.{Plain, present_at}
 use Rattle.session_model.specs.Change.{claimed, claimed_row, claimed_for, all_claimed}
 use Rattle.session_laws.specs.Sound.{IsSound, AllMatched}
-use Rattle.session_laws.proofs.Defining.{claim_keeps, claim_sound}
-use Rattle.session_laws.proofs.Elements.{mapped_length, mapped_some}
-use Rattle.session_laws.proofs.Facts.{test_parts, test_from}
+use Rattle.session_laws.proofs.Declared.{claim_keeps, claim_sound, mapped_length, mapped_some, test_parts, test_from}
 use Rattle.session_model.specs.declared.rows.InstRow.{InstRow}
 use Rattle.instance_graph.specs.Graph.{Graph, Tells}
 use Rattle.session_parts.specs.declared.parts.Parts.{Parts}

@@ -15,8 +15,7 @@ use Rattle.session_model.specs.Change.{settled, settled_from, settled_one, finis
 use Rattle.session_model.specs.declared.rows.Query.{Query}
 use Rattle.session_model.specs.declared.rows.UnitPhase.TheVariants as stage
 use Rattle.session_laws.specs.Sound.{IsSound}
-use Rattle.session_laws.proofs.Defining.{waiting_parts}
-use Rattle.session_laws.proofs.Owing.{NoMetWaits, one_rows}
+use Rattle.session_laws.proofs.Declared.{waiting_parts, NoMetWaits, one_rows}
 use Rattle.query_book.specs.declared.ends.QueryEnd.{QueryEnd}
 use Rattle.session_parts.specs.Dues.{dues, waits_at, linked_due, all_linked, WaitsOpen, WaitsOwn}
 use Rattle.session_parts.specs.Ends.{noted, noted_end}

@@ -10,11 +10,9 @@ use Rattle.session_model.specs.Query.{is_met, ending}
 use Rattle.session_model.specs.State.{after, state, IsOpen, IsEnd}
 use Rattle.session_model.specs.declared.entry.Entry.{Entry}
 use Rattle.session_model.specs.declared.rows.Query.{Query}
-use Rattle.session_laws.proofs.Along.{state_from_push}
+use Rattle.session_laws.proofs.Declared.{state_from_push, pushed_cases, same_element, element_below, none_past, entries_are, after_query, end_stays, query_was_asked, NewQuery}
 use Rattle.std.proofs.lemmas.Option.{none-some}
 use Rattle.list_laws.proofs.Lists.{some_below}
-use Rattle.session_laws.proofs.Elements.{pushed_cases, same_element, element_below, none_past}
-use Rattle.session_laws.proofs.Ending.{entries_are, after_query, end_stays, query_was_asked, NewQuery}
 use Rattle.query_book.specs.declared.ends.QueryEnd.{QueryEnd}
 use Rattle.session_parts.specs.Ends.{noted, noted_end, kept_end, IsKept, AreEnds}
 

@@ -18,7 +18,7 @@ use Rattle.session_model.specs.declared.rows.InstRow.{InstRow}
 use Rattle.session_model.specs.declared.rows.Track.{Track}
 use Rattle.session_model.specs.declared.rows.Verdict.{Verdict}
 use Rattle.session_laws.specs.Sound.{IsSound}
-use Rattle.session_laws.proofs.Elements.{element_below, numbered_at, numbered_length}
+use Rattle.session_laws.proofs.Declared.{element_below, numbered_at, numbered_length}
 use Rattle.instances.specs.Table.{is_among, replaced_row}
 use Rattle.jit_dylib.specs.Laws.{HasOneRowInEach, IsShelfOf, ShelfDefines, ShelfJudges}
 use Rattle.jit_dylib.specs.Rows as table

@@ -9,7 +9,7 @@ use Rattle.orc_ids.specs.declared.ids.InstId.{InstId}
 use Rattle.orc_ids.specs.declared.ids.NameId.{NameId}
 use Rattle.session_model.specs.Lists.{numbered}
 use Rattle.session_model.specs.declared.rows.InstRow.{InstRow}
-use Rattle.session_laws.proofs.Elements.{numbered_at, numbered_length}
+use Rattle.session_laws.proofs.Declared.{numbered_at, numbered_length}
 use Rattle.instances.specs.Table.{fresh_rows, replaced_row, AreChanged}
 
 -- the rows with those gone

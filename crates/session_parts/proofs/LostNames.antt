@@ -14,9 +14,7 @@ use Rattle.session_model.specs.Plain.{Plain, row_test}
 use Rattle.session_model.specs.Change.{verdicts}
 use Rattle.session_model.specs.declared.rows.InstRow.{InstRow}
 use Rattle.session_laws.specs.Sound.{IsSound}
-use Rattle.session_laws.proofs.Elements.{changed_there, changed_elsewhere, element_below, numbered_at}
-use Rattle.session_laws.proofs.Facts.{test_is}
-use Rattle.session_laws.proofs.Living.{numbered_same, replaced_here}
+use Rattle.session_laws.proofs.Declared.{changed_there, changed_elsewhere, element_below, numbered_at, test_is, numbered_same, replaced_here}
 use Rattle.instances.specs.Table.{is_among}
 use Rattle.jit_dylib.specs.Rows.{replaced_instances}
 use Rattle.mat_unit.specs.Changes.{without_name}

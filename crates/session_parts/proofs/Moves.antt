@@ -13,7 +13,7 @@ use Rattle.session_model.specs.Plain.{Plain, has_tracker, tracker_dylib}
 use Rattle.session_model.specs.Change.{changed, moved, moved_unit, moved_generator, gone_tracker}
 use Rattle.session_model.specs.declared.change.Change.TheVariants.{Attach}
 use Rattle.session_model.specs.declared.rows.Track.{Track}
-use Rattle.session_laws.proofs.Elements.{element_below, mapped_length}
+use Rattle.session_laws.proofs.Declared.{element_below, mapped_length}
 use Rattle.generators.specs.Rows.{Stock}
 use Rattle.tracker.specs.declared.owned.Owned.{Owned}
 use Rattle.tracker.specs.Owners.{Owners, within, owned_by, merged, with_generator, change_at, and_all_of}

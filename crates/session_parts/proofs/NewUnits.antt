@@ -22,8 +22,7 @@ use Rattle.session_model.specs.declared.rows.UnitPhase.TheVariants as stage
 use Rattle.session_model.specs.declared.rows.Verdict.{Verdict}
 use Rattle.session_model.specs.declared.rows.Verdict.TheVariants.{Kept, Replaces, Discarded, Clashes}
 use Rattle.session_laws.specs.Sound.{IsSound}
-use Rattle.session_laws.proofs.Elements.{numbered_at, numbered_length, numbered_parts, numbered_some, appended_below, pushed_cases, pushed_last, element_below, none_past, map_parts}
-use Rattle.session_laws.proofs.Living.{any_flag, live_kept}
+use Rattle.session_laws.proofs.Declared.{numbered_at, numbered_length, numbered_parts, numbered_some, appended_below, pushed_cases, pushed_last, element_below, none_past, map_parts, any_flag, live_kept}
 use Rattle.code_memory.specs.declared.placement.Placement.{Placement}
 use Rattle.instances.specs.Table.{fresh_rows, is_among, replaced_row, AreChanged}
 use Rattle.jit_dylib.specs.Rows.{replaced_instances}

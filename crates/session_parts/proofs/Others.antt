@@ -18,7 +18,7 @@ use Rattle.session_model.specs.Change.{changed, new_dylib, ordered_dylib, spent,
 use Rattle.session_model.specs.declared.change.Change.TheVariants.{MakeDylib, MakeTracker, SetOrder, Attach}
 use Rattle.session_model.specs.declared.rows.InstRow.{InstRow}
 use Rattle.session_model.specs.declared.rows.Track.{Track}
-use Rattle.session_laws.proofs.Elements.{changed_there, changed_elsewhere, changed_length, changed_cases, appended_below, pushed_cases, pushed_last, element_below, none_past, map_parts, mapped_parts}
+use Rattle.session_laws.proofs.Declared.{changed_there, changed_elsewhere, changed_length, changed_cases, appended_below, pushed_cases, pushed_last, none_past, mapped_parts}
 use Rattle.code_memory.specs.declared.placement.Placement.{Placement}
 use Rattle.generators.specs.declared.generator.Generator.{Generator}
 use Rattle.generators.specs.Rows.{gen_row}
@@ -205,7 +205,7 @@ generator_spent means k m g t = record {
 stored_moved : (units : List UnitRow) (p : List Placement) (from to : ℕ) → AreStored units p → AreStored (map (moved_unit from to) units) p
 stored_moved units p from to s = record {
   each = λ u y e. let q = mapped_parts (moved_unit from to) units u y e in let old = s.each u q.0 q.1 in subst (IsStored p u) (sym q.2) (record { range = old.range; based = old.based; placed = old.placed });
-  others = λ u b. s.others u (subst (λ n. n ≤ u) (Rattle.session_laws.proofs.Elements.mapped_length (moved_unit from to) units) b);
+  others = λ u b. s.others u (subst (λ n. n ≤ u) (Rattle.session_laws.proofs.Declared.mapped_length (moved_unit from to) units) b);
 }
 
 pub all_moved : {U : Type 0} (means : U → Meaning) (k : Kept U) (m : Plain) (from to : TrackId) (more : Owned) → IsTied means k m → (from.0 ≡ to.0 → ⊥) → from.0 < length m.trackers → to.0 < length m.trackers → dylib_at m.trackers from.0 ≡ dylib_at m.trackers to.0 → within (slice_get k.owners.tracks from.0) ≡ Some more →

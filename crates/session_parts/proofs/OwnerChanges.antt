@@ -15,7 +15,7 @@ use Rattle.session_model.specs.Meaning.{Meaning}
 use Rattle.session_model.specs.Plain.{UnitRow, GenRow}
 use Rattle.session_model.specs.Change.{gone_tracker, moved_unit, moved_generator}
 use Rattle.session_model.specs.declared.rows.Track.{Track}
-use Rattle.session_laws.proofs.Elements.{changed_length, changed_cases, mapped_at, mapped_length, mapped_parts, none_past, map_parts, appended_below, pushed_last}
+use Rattle.session_laws.proofs.Declared.{changed_length, changed_cases, mapped_at, mapped_length, mapped_parts, none_past, map_parts, appended_below, pushed_last}
 use Rattle.generators.specs.declared.generator.Generator.{Generator}
 use Rattle.generators.specs.Rows.{gen_row}
 use Rattle.mat_unit.specs.declared.unit.Unit.{Unit as OneUnit}

@@ -18,7 +18,7 @@ use Rattle.session_model.specs.Reach.{is_ready}
 use Rattle.session_model.specs.declared.rows.InstRow.{InstRow}
 use Rattle.session_model.specs.declared.rows.Job.{Job}
 use Rattle.session_model.specs.declared.rows.Track.{Track}
-use Rattle.session_laws.proofs.Elements.{element_below, mapped_length}
+use Rattle.session_laws.proofs.Declared.{element_below, mapped_length}
 use Rattle.code_memory.specs.Places.{placement_of}
 use Rattle.code_memory.specs.declared.placement.Placement.{Placement}
 use Rattle.generators.specs.Rows.{Stock}

@@ -16,7 +16,7 @@ use Rattle.session_model.specs.Plain.{UnitRow, GenRow}
 use Rattle.session_model.specs.Change.{removed_unit, removed_generator, gone_tracker}
 use Rattle.session_model.specs.declared.rows.Track.{Track}
 use Rattle.session_model.specs.declared.rows.UnitPhase.TheVariants as stage
-use Rattle.session_laws.proofs.Elements.{changed_length, changed_cases, mapped_at, mapped_length, mapped_parts, map_parts, none_past}
+use Rattle.session_laws.proofs.Declared.{changed_length, changed_cases, mapped_at, mapped_length, mapped_parts, map_parts, none_past}
 use Rattle.code_memory.specs.Places.{placement_of}
 use Rattle.code_memory.specs.declared.placement.Placement.{Placement}
 use Rattle.generators.specs.declared.generator.Generator.{Generator}

@@ -14,8 +14,7 @@ use Rattle.session_model.specs.Plain.{Plain, UnitRow, is_alias, unit_shape}
 use Rattle.session_model.specs.Change.{resolved, resolved_unit, target_address}
 use Rattle.session_model.specs.declared.rows.UnitPhase.TheVariants as stage
 use Rattle.session_laws.specs.Sound.{IsSound, is_early}
-use Rattle.session_laws.proofs.Elements.{changed_length}
-use Rattle.session_laws.proofs.RowStages.{placed_stage}
+use Rattle.session_laws.proofs.Declared.{changed_length, placed_stage}
 use Rattle.instance_graph.specs.Graph.{Graph}
 use Rattle.instances.specs.Rows.{addressed_row}
 use Rattle.mat_unit.specs.Roster.{Roster}

@@ -8,7 +8,7 @@ use Rattle.orc_ids.specs.declared.ids.GenId.{GenId}
 use Rattle.orc_ids.specs.declared.ids.UnitId.{UnitId}
 use Rattle.session_model.specs.Lists.{changed_at}
 use Rattle.session_model.specs.Meaning.{Meaning}
-use Rattle.session_laws.proofs.Elements.{changed_there, changed_elsewhere}
+use Rattle.session_laws.proofs.Declared.{changed_there, changed_elsewhere}
 use Rattle.code_memory.specs.Places.{placement_of, without}
 use Rattle.code_memory.specs.declared.placement.Placement.{Placement}
 use Rattle.code_memory.proofs.Placed.{without_other, without_own}

@@ -23,9 +23,7 @@ use Rattle.session_model.specs.Memory.{unit_image}
 use Rattle.session_model.specs.declared.rows.InstRow.{InstRow}
 use Rattle.session_model.specs.declared.rows.UnitPhase.TheVariants as stage
 use Rattle.session_laws.specs.Sound.{IsSound, row_stage}
-use Rattle.session_laws.proofs.Elements.{element_below}
-use Rattle.session_laws.proofs.Facts.{unsearched_unclaimed}
-use Rattle.session_laws.proofs.RowStages.{unclaimed_row}
+use Rattle.session_laws.proofs.Declared.{element_below, unsearched_unclaimed, unclaimed_row}
 use Rattle.code_memory.specs.Places.{placement_of, with_bytes, without}
 use Rattle.code_memory.specs.declared.placement.Placement.{Placement}
 use Rattle.instance_graph.specs.Graph.{Graph}

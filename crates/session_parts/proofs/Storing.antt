@@ -4,7 +4,7 @@ use Rattle.std.specs.Bool.{if◌then◌else◌}
 use Rattle.session_model.specs.Lists.{changed_at}
 use Rattle.session_model.specs.Plain.{UnitRow, unit_shape, is_alias}
 use Rattle.session_model.specs.Memory.{is_done, unit_image}
-use Rattle.session_laws.proofs.Elements.{element_below, changed_cases, changed_length, same_element}
+use Rattle.session_laws.proofs.Declared.{element_below, changed_cases, changed_length, same_element}
 use Rattle.code_memory.specs.Places.{placement_of}
 use Rattle.code_memory.specs.declared.placement.Placement.{Placement}
 use Rattle.orc_ids.specs.declared.place.Shape.{Shape}

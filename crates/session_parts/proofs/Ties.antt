@@ -16,7 +16,7 @@ use Rattle.session_model.specs.declared.rows.InstRow.{InstRow}
 use Rattle.session_model.specs.declared.rows.Job.{Job}
 use Rattle.session_model.specs.declared.rows.Job.TheVariants as job
 use Rattle.session_model.specs.declared.rows.UnitPhase.TheVariants as stage
-use Rattle.session_laws.proofs.Elements.{map_parts}
+use Rattle.session_laws.proofs.Declared.{map_parts}
 use Rattle.code_memory.specs.Places.{with_range, with_bytes, without}
 use Rattle.code_memory.specs.declared.placement.Placement.{Placement}
 use Rattle.mat_unit.specs.declared.unit.Unit.{Unit as OneUnit}

@@ -9,7 +9,7 @@ use Rattle.orc_ids.specs.declared.ids.DylibId.{DylibId}
 use Rattle.session_model.specs.Meaning.{Meaning}
 use Rattle.session_model.specs.Plain.{UnitRow, GenRow}
 use Rattle.session_model.specs.declared.rows.Track.{Track}
-use Rattle.session_laws.proofs.Elements.{element_below, none_past, pushed_cases, appended_below, pushed_last}
+use Rattle.session_laws.proofs.Declared.{element_below, none_past, pushed_cases, appended_below, pushed_last}
 use Rattle.generators.specs.declared.generator.Generator.{Generator}
 use Rattle.mat_unit.specs.declared.unit.Unit.{Unit as OneUnit}
 use Rattle.mat_unit.specs.Rows.{unit_row}

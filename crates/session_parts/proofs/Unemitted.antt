@@ -4,9 +4,7 @@ use Rattle.std.proofs.lemmas.Bool.{and_parts, eqb-true}
 use Rattle.session_model.specs.Plain.{Plain, UnitRow}
 use Rattle.session_model.specs.declared.rows.UnitPhase.TheVariants as stage
 use Rattle.session_laws.specs.Sound.{IsSound, is_held_phase, fits, row_stage}
-use Rattle.session_laws.proofs.Elements.{same_element}
-use Rattle.session_laws.proofs.Facts.{held_unemitted}
-use Rattle.session_laws.proofs.RowStages.{held_row}
+use Rattle.session_laws.proofs.Declared.{same_element, held_unemitted, held_row}
 use Rattle.instance_graph.specs.Graph.{NoneEmitted}
 
 -- at any phase at which a seat holds it

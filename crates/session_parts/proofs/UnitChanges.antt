@@ -7,7 +7,7 @@ use Rattle.session_model.specs.Lists.{changed_at}
 use Rattle.session_model.specs.Meaning.{Meaning}
 use Rattle.session_model.specs.Plain.{UnitRow, GenRow}
 use Rattle.session_model.specs.declared.rows.Track.{Track}
-use Rattle.session_laws.proofs.Elements.{changed_there, changed_elsewhere, changed_length, changed_cases}
+use Rattle.session_laws.proofs.Declared.{changed_there, changed_elsewhere, changed_length, changed_cases}
 use Rattle.mat_unit.specs.declared.unit.Unit.{Unit as OneUnit}
 use Rattle.mat_unit.specs.Rows.{unit_row}
 use Rattle.tracker.specs.Owners.{Owners}

@@ -10,9 +10,7 @@ use Rattle.session_model.specs.Query.{is_met}
 use Rattle.session_model.specs.Change.{settled, settled_one, finish_listed, waits_for}
 use Rattle.session_model.specs.declared.rows.Query.{Query}
 use Rattle.session_model.specs.declared.rows.UnitPhase.TheVariants as stage
-use Rattle.session_laws.proofs.Defining.{waiting_parts}
-use Rattle.session_laws.proofs.Elements.{changed_cases}
-use Rattle.session_laws.proofs.Settling.{settling_keeps, settled_one_keeps}
+use Rattle.session_laws.proofs.Declared.{waiting_parts, changed_cases, settling_keeps, settled_one_keeps}
 
 -- each unit that waits there waits here for the same query
 abbrev pub WaitsNoMore : List UnitRow → List UnitRow → Type 0

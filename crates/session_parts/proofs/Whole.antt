@@ -20,7 +20,7 @@ use Rattle.session_model.specs.declared.rows.UnitPhase.TheVariants as stage
 use Rattle.session_model.specs.declared.rows.Verdict.{Verdict}
 use Rattle.session_model.specs.Memory.{is_done}
 use Rattle.session_laws.specs.Sound.{IsSound}
-use Rattle.session_laws.proofs.Elements.{changed_cases, changed_there, changed_elsewhere, numbered_at}
+use Rattle.session_laws.proofs.Declared.{numbered_at}
 use Rattle.code_memory.specs.declared.placement.Placement.{Placement}
 use Rattle.generators.specs.declared.generator.Generator.{Generator}
 use Rattle.instances.specs.Rows.{addressed_row}
@@ -30,7 +30,7 @@ use Rattle.mat_unit.specs.declared.unit.Unit.{Unit as OneUnit}
 use Rattle.mat_unit.specs.Changes as one
 use Rattle.tracker.specs.declared.owned.Owned.{Owned}
 use Rattle.tracker.specs.Owners.{within, with_unit, without}
-use Rattle.session_parts.specs.Units.{IsReadied, AreUnits, AreOwners, tracker_at, dylib_at, is_unlinked}
+use Rattle.session_parts.specs.Units.{dylib_at, is_unlinked}
 use Rattle.session_parts.specs.Stored.{IsStored, is_placed}
 use Rattle.session_parts.specs.Defined.{AreLost}
 use Rattle.session_parts.specs.Removed.{AreRemoved, AreFreed, AreSpent}
@@ -67,7 +67,7 @@ unit_defined {U} means k m d t u unit shelf rows lost tied sound b its at dylibs
       (units_lost means k.units lost m.units m.trackers m.rows found ls tied.units);
   jobs = tied.jobs;
   generators = tied.generators;
-  owners = owners_with_unit k.owners m.trackers units m.generators t u (new_unit t.0 (means unit) found) (at ∙ sym (Rattle.session_laws.proofs.Elements.numbered_length (without_replaced m.rows found) 0 m.units)) refl
+  owners = owners_with_unit k.owners m.trackers units m.generators t u (new_unit t.0 (means unit) found) (at ∙ sym (Rattle.session_laws.proofs.Declared.numbered_length (without_replaced m.rows found) 0 m.units)) refl
       (owners_stay k.owners m.trackers m.units units m.generators (lost_trackers m.rows found m.units) tied.owners);
   memory = stored_pushed units k.memory (new_unit t.0 (means unit) found) refl refl (stored_lost m d.0 (means unit).offers k.memory sound tied.memory);
 }

@@ -11,10 +11,7 @@ use Rattle.session_model.specs.Query.{is_met, ending}
 use Rattle.session_model.specs.State.{state, IsOpen, IsEnd}
 use Rattle.session_model.specs.declared.entry.Entry.{Entry}
 use Rattle.session_model.specs.declared.rows.Query.{Query}
-use Rattle.session_laws.proofs.Along.{state_from_push}
-use Rattle.session_laws.proofs.Elements.{numbered_length, numbered_parts, element_below, appended_below, pushed_last, pushed_cases}
-use Rattle.session_laws.proofs.Ending.{NewQuery, after_query, query_was_asked, end_stays, entries_are}
-use Rattle.session_laws.proofs.Settling.{chosen}
+use Rattle.session_laws.proofs.Declared.{state_from_push, numbered_length, numbered_parts, element_below, appended_below, pushed_last, pushed_cases, NewQuery, after_query, query_was_asked, end_stays, entries_are, chosen}
 use Rattle.session_past.specs.declared.ends.Settled.{Settled}
 use Rattle.session_past.specs.Ends.{IsEndOf, AreEnds, next_end, end_now, with_room, ends_now}
 

@@ -1,6 +1,6 @@
 -- Each change keeps the lists of a session fit.
 use Rattle.std.proofs.Common.{◌≡◌, ℕ, zero, suc, ◌+◌, ◌<◌, ◌≤◌, Bool, true, false, map, List, [], ◌∷◌, ◌++◌, length, slice_get, Option, Some, None, option_map, ◌⊎◌, inl, inr, subst, sym, refl, ap, ap₂, ◌∙◌, arith, length-append}
-use Rattle.std.specs.Prelude.{nat_le, nat_lt, nat_eq, not, ◌&&◌, ◌||◌, ◌==◌, if◌then◌else◌, unwrap_or}
+use Rattle.std.specs.Prelude.{nat_le, nat_lt, not, ◌||◌, ◌==◌, if◌then◌else◌, unwrap_or}
 use Rattle.std.specs.Option.{option_map_or}
 use Rattle.std.specs.List.{position_from}
 use Rattle.std.proofs.lemmas.Bool.{leb-false, ltb-false, both_ways, or_parts}
@@ -16,7 +16,7 @@ use Rattle.session_model.specs.Lists.{changed_at, numbered, only_if}
 use Rattle.session_model.specs.Meaning.{Meaning}
 use Rattle.session_model.specs.Plain.{Plain, UnitRow, GenRow, has_dylib, is_tracker_of, is_unsearched, is_owned_at}
 use Rattle.session_model.specs.Answer.{Answers, no_dylib, not_tracker_of, answer_unit}
-use Rattle.session_model.specs.Change.{change_of, changed, settled, finish_listed, verdict, verdicts, is_kept, is_replaced, new_row, new_rows, kept_names, unreplaced_row, without_replaced, new_unit, defined, spent, spent_generator, generated, claimed, claimed_row, listed_unit, claimed_for, all_claimed, lodged, linked, waiting_unit, started_unit, finishing_unit, placed_unit, resolved_unit, resolved_row, emitted_row, done_unit, hit_row, hits_failed, failed_unit, tracker_roots, removed_row, removed_unit, removed_generator, gone_tracker, moved_unit, moved_generator, let_go_unit, linked_unit, ordered_dylib}
+use Rattle.session_model.specs.Change.{change_of, changed, settled, finish_listed, verdict, verdicts, is_kept, new_row, new_rows, unreplaced_row, without_replaced, new_unit, defined, spent, spent_generator, claimed, claimed_row, listed_unit, claimed_for, all_claimed, linked, waiting_unit, started_unit, finishing_unit, placed_unit, resolved_unit, resolved_row, emitted_row, done_unit, hit_row, hits_failed, failed_unit, tracker_roots, removed_row, removed_unit, removed_generator, gone_tracker, moved_unit, moved_generator, let_go_unit, linked_unit, ordered_dylib}
 use Rattle.session_model.specs.declared.rows.Verdict.{Verdict}
 use Rattle.session_model.specs.declared.change.Change.{Change}
 use Rattle.session_model.specs.declared.change.Change.TheVariants as change
@@ -28,14 +28,10 @@ use Rattle.session_model.specs.declared.entry.Event.TheVariants as event
 use Rattle.session_model.specs.declared.entry.Reply.{Reply}
 use Rattle.session_model.specs.declared.entry.Reply.TheVariants as reply
 use Rattle.session_model.specs.declared.rows.InstRow.{InstRow}
-use Rattle.session_laws.proofs.Elements.{changed_length, numbered_length, mapped_at, mapped_length, mapped_parts, mapped_some, same_element, pushed_cases, pushed_last, appended_cases, front_some}
-use Rattle.session_laws.proofs.Ending.{NewQuery, after_query}
-use Rattle.session_laws.proofs.Replies.{AllReplies, replies_only, replies_first, none_given}
-use Rattle.session_laws.proofs.Settling.{chosen, settling_keeps}
+use Rattle.session_laws.proofs.Declared.{changed_length, numbered_length, mapped_at, mapped_length, mapped_parts, mapped_some, same_element, pushed_cases, pushed_last, appended_cases, front_some, NewQuery, after_query, AllReplies, replies_only, replies_first, none_given, chosen, settling_keeps, owned_parts}
 use Rattle.session_past.specs.Fit.{FitTogether, EmptyIsFit, FitStays, FitSuits}
 use Rattle.session_plain.specs.Meant.{unit_row, gen_row}
 use Rattle.session_plain.specs.declared.plain.PlainUnit.{PlainUnit}
-use Rattle.session_laws.proofs.Changes.{owned_parts}
 
 -- What a change leaves as it is of an instance and of a unit
 

@@ -19,8 +19,7 @@ use Rattle.session_model.specs.declared.entry.Reply.TheVariants as reply
 use Rattle.session_model.specs.declared.rows.Job.{Job}
 use Rattle.session_model.specs.declared.rows.Job.TheVariants as job
 use Rattle.session_model.specs.declared.rows.Query.{Query}
-use Rattle.session_laws.proofs.Elements.{element_below}
-use Rattle.session_laws.proofs.Ending.{end_is_unique, open_has_no_end}
+use Rattle.session_laws.proofs.Declared.{element_below, end_is_unique, open_has_no_end}
 use Rattle.session_past.specs.declared.ends.Settled.{Settled}
 use Rattle.session_past.specs.Ends.{AreEnds}
 use Rattle.session_past.specs.Taking.{IsCollected, end_reply, collect_reply, its_end, end_at, link_end, finish_reply, job_reply}

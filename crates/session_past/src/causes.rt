@@ -14,6 +14,7 @@ ghost use Rattle.session_past.specs.Taking.{end_at, link_end};
 use crate::ends::Settled;
 use crate::taking::{held_count, link_query};
 use orc_ids::{InstId, Place, UnitId};
+use same_replies::same_reply;
 use session_model::{Ending, Entry, Event, Reply, UnitKind, Why};
 use session_plain::{PlainSession, PlainUnit, is_finishing};
 
@@ -47,7 +48,7 @@ fn still_last<U: UnitKind>(e: &Entry<U>, call: Call, u: UnitId, reply: &Reply, w
     ensures { (found : Option Reply) → IsTrue was ↔ (found ≡ Some reply.now) → IsTrue result ↔ (last_of (is_call_of call u.0) found (plain_entry U.meaning e.now) ≡ Some reply.now) }
 {
     if is_call(&e.event, call, u) && !turned_off(&e.reply) {
-        e.reply.is_same(reply)
+        same_reply(&e.reply, reply)
     } else {
         was
     }

@@ -15,7 +15,7 @@ use session_plain::{PlainSession, lost_match, query_met, row_address, unready};
 use std::alloc::{AllocError, Global};
 
 /// How a query ended, and the number of the entry at which it did.
-#[derive(Debug, Drop)]
+#[derive(Drop)]
 pub struct Settled {
     pub at: u64,
     pub end: Ending,

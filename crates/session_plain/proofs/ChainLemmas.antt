@@ -1,6 +1,6 @@
 -- What the marks of chains say of an alias.
 use Rattle.std.proofs.Common.{◌≡◌, ℕ, Bool, true, false, List, [], ◌∷◌, map, length, refl, ap, subst, sym, ◌∙◌}
-use Rattle.std.specs.Prelude.{slice_get, Some, None, Option, option_map, option_and_then, filter_map, if◌then◌else◌, ◌&&◌}
+use Rattle.std.specs.Prelude.{slice_get, Some, None, Option, option_map, option_and_then, if◌then◌else◌, ◌&&◌}
 use Rattle.std.specs.Option.{option_map_or}
 use Rattle.std.proofs.lemmas.Option.{slice_get-map}
 use Rattle.std.proofs.lemmas.List.{length-map}

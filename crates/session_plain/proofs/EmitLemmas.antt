@@ -1,5 +1,5 @@
 -- A unit that is resolved, and one that isn't there.
-use Rattle.std.proofs.Common.{◌≡◌, ℕ, List, map, slice_get, Option, Some, None, sym, ap, ap₂, ◌∙◌}
+use Rattle.std.proofs.Common.{◌≡◌, ℕ, List, map, slice_get, Some, None, sym, ap, ap₂, ◌∙◌}
 use Rattle.std.specs.Option.{option_map_or}
 use Rattle.session_model.specs.Change.{resolved, resolved_row, resolved_unit}
 use Rattle.session_model.specs.Lists.{changed_at}

@@ -1,5 +1,5 @@
 -- The parts of a definition's answer and change, by name.
-use Rattle.std.specs.Prelude.{ℕ, Bool, true, false, ◌&&◌, ◌==◌, not, List, Option}
+use Rattle.std.specs.Prelude.{ℕ, Bool, ◌&&◌, ◌==◌, not, List, Option}
 use Rattle.orc_ids.specs.declared.flags.SymFlags.{SymFlags}
 use Rattle.orc_ids.specs.declared.ids.NameId.{NameId}
 use Rattle.session_model.specs.Lists.{first_some}

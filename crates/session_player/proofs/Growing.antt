@@ -10,7 +10,7 @@ use Rattle.session_model.specs.declared.entry.Event.{Event}
 use Rattle.session_model.specs.declared.entry.Event.TheVariants as event
 use Rattle.session_model.specs.declared.entry.Reply.{Reply}
 use Rattle.session_model.specs.declared.entry.Reply.TheVariants as reply
-use Rattle.execution_session.specs.Performs.{Performs, Collects, Takes}
+use Rattle.session_steps.specs.Performs.{Performs, Collects, Takes}
 use Rattle.session_player.specs.Plays.{Does}
 use Rattle.session_player.specs.declared.call.Call.{Call}
 use Rattle.session_player.specs.declared.call.Call.TheVariants as call

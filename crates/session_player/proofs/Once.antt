@@ -15,14 +15,12 @@ use Rattle.session_model.specs.declared.entry.Event.TheVariants as event
 use Rattle.session_model.specs.declared.entry.Reply.{Reply}
 use Rattle.session_model.specs.declared.entry.Reply.TheVariants as reply
 use Rattle.session_model.specs.declared.rows.Ending.TheVariants.{Found, Lost}
-use Rattle.session_model.specs.declared.rows.Job.TheVariants as job
 use Rattle.session_model.specs.declared.rows.Query.{Query}
 use Rattle.session_laws.specs.Queries.{OpenHasNoEnd}
 use Rattle.session_laws.specs.Replies.{ReplyIsDetermined}
-use Rattle.session_laws.proofs.Elements.{element_below}
-use Rattle.session_laws.proofs.Choosing.{collect_unplaced, take_unplaced}
-use Rattle.execution_session.specs.Handed.{IsLowest}
-use Rattle.execution_session.specs.Performs.{Collects, Enters, HasOpen, Takes, state_of}
+use Rattle.session_laws.proofs.Declared.{element_below, collect_unplaced, take_unplaced}
+use Rattle.session_steps.specs.Handed.{IsLowest}
+use Rattle.session_steps.specs.Performs.{Collects, Enters, HasOpen, Takes, state_of}
 use Rattle.session_player.specs.Plays.{Does, Plays}
 use Rattle.session_player.specs.declared.call.Call.{Call}
 use Rattle.session_player.specs.declared.call.Call.TheVariants as call

@@ -8,8 +8,8 @@ use Rattle.session_model.specs.Plain.{UnitRow, unit_shape}
 use Rattle.session_model.specs.State.{plain_history}
 use Rattle.session_model.specs.declared.entry.Entry.{Entry}
 use Rattle.session_model.specs.declared.entry.Reply.{Reply}
-use Rattle.execution_session.specs.Finish.{IsFinish}
-use Rattle.execution_session.specs.Performs.{state_of}
+use Rattle.session_steps.specs.Finish.{IsFinish}
+use Rattle.session_steps.specs.Performs.{state_of}
 use Rattle.session_player.specs.Plays.{Does}
 use Rattle.session_player.specs.declared.call.Call.{Call}
 use Rattle.session_player.specs.declared.call.Call.TheVariants as call

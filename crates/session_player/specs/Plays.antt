@@ -7,8 +7,8 @@ use Rattle.session_model.specs.State.{plain_history}
 use Rattle.session_model.specs.declared.entry.Entry.{Entry}
 use Rattle.session_model.specs.declared.entry.Event.TheVariants as event
 use Rattle.session_model.specs.declared.entry.Reply.{Reply}
-use Rattle.execution_session.specs.Handed.{IsLowest}
-use Rattle.execution_session.specs.Performs.{state_of, Performs, Collects, Takes}
+use Rattle.session_steps.specs.Handed.{IsLowest}
+use Rattle.session_steps.specs.Performs.{state_of, Performs, Collects, Takes}
 use Rattle.session_player.specs.declared.call.Call.{Call}
 use Rattle.session_player.specs.declared.call.Call.TheVariants as call
 use Rattle.session_player.specs.declared.call.SeatCall.{SeatCall}

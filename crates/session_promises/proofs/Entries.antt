@@ -7,8 +7,7 @@ use Rattle.session_model.specs.Meaning.{Meaning}
 use Rattle.session_model.specs.Plain.{empty}
 use Rattle.session_model.specs.State.{after, state}
 use Rattle.session_model.specs.declared.entry.Entry.{Entry}
-use Rattle.session_laws.proofs.Along.{one_more_legal, state_from_push}
-use Rattle.session_laws.proofs.Ending.{front_legal}
+use Rattle.session_laws.proofs.Declared.{one_more_legal, state_from_push, front_legal}
 
 -- it leads to the session after it
 pub entry_leads : (h : List (Entry Meaning)) (n : ℕ) (e : Entry Meaning) → slice_get h n ≡ Some e → state (take (n + 1) h) ≡ after (state (take n h)) e

@@ -10,8 +10,7 @@ use Rattle.session_model.specs.declared.entry.Event.TheVariants as event
 use Rattle.session_model.specs.declared.entry.Reply.{Reply}
 use Rattle.session_model.specs.declared.entry.Reply.TheVariants as reply
 use Rattle.session_laws.specs.Failures.{IsFailure}
-use Rattle.session_laws.proofs.Failing.{fail_fails_hits, remove_fails_hits}
-use Rattle.session_laws.proofs.Unfailing.{only_failures_fail}
+use Rattle.session_laws.proofs.Declared.{fail_fails_hits, remove_fails_hits, only_failures_fail}
 use Rattle.session_promises.specs.Failures.{roots_of}
 use Rattle.session_promises.specs.Laws.{FailureHitsThose, NothingElseFails}
 use Rattle.session_promises.proofs.Entries.{entry_leads}

@@ -8,7 +8,7 @@ use Rattle.orc_ids.specs.declared.lookup.Level.TheVariants.{Ready}
 use Rattle.session_model.specs.Query.{all_at, at_level}
 use Rattle.session_model.specs.State.{state}
 use Rattle.session_model.specs.declared.rows.InstRow.{InstRow}
-use Rattle.session_laws.proofs.Paths.{ready_from_test}
+use Rattle.session_laws.proofs.Declared.{ready_from_test}
 use Rattle.session_promises.specs.Laws.{FoundIsReady}
 
 -- each of the instances is at the level

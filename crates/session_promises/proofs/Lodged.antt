@@ -26,11 +26,7 @@ use Rattle.session_model.specs.declared.entry.Reply.TheVariants as reply
 use Rattle.session_model.specs.declared.rows.Match.{Match}
 use Rattle.session_model.specs.declared.rows.Match.TheVariants.{Instance, Offered}
 use Rattle.session_model.specs.declared.rows.Query.{Query}
-use Rattle.session_laws.proofs.Elements.{element_below, pushed_last}
-use Rattle.session_laws.proofs.Ending.{all_claimed_queries, entries_are, front_and_rest, query_stays}
-use Rattle.session_laws.proofs.Readying.{state_from_joined}
-use Rattle.session_laws.proofs.Replies.{AllReplies, replies_else, replies_first, replies_only, replies_or}
-use Rattle.session_laws.proofs.Settling.{chosen, settled_queries}
+use Rattle.session_laws.proofs.Declared.{element_below, pushed_last, all_claimed_queries, entries_are, front_and_rest, query_stays, state_from_joined, AllReplies, replies_else, replies_first, replies_only, replies_or, chosen, settled_queries}
 use Rattle.session_promises.proofs.Entries.{entry_answers, entry_leads}
 
 -- The number of the query

@@ -20,10 +20,8 @@ use Rattle.session_model.specs.declared.rows.Ending.{Ending}
 use Rattle.session_model.specs.declared.rows.Ending.TheVariants.{Found, Lost}
 use Rattle.session_model.specs.declared.rows.InstRow.{InstRow}
 use Rattle.session_model.specs.declared.rows.Query.{Query}
-use Rattle.session_laws.proofs.Elements.{same_element}
-use Rattle.session_laws.proofs.Ending.{end_stays, front_and_rest}
-use Rattle.session_laws.proofs.Meeting.{none_some}
-use Rattle.closure_laws.proofs.Ends.{found_parts}
+use Rattle.session_laws.proofs.Declared.{same_element, end_stays, front_and_rest, none_some}
+use Rattle.closure_laws.proofs.Declared.{found_parts}
 use Rattle.session_promises.specs.Laws.{FailedWhereLost, FoundWhereSettled}
 use Rattle.session_promises.specs.Lookups.{AreCallsOf, AreMatched, AreWaiting}
 use Rattle.session_promises.proofs.Entries.{entry_answers}

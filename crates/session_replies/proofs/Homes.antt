@@ -10,7 +10,7 @@ use Rattle.orc_ids.specs.declared.ids.TrackId.{TrackId}
 use Rattle.session_model.specs.Lists.{only_if}
 use Rattle.session_model.specs.Plain.{Plain, UnitRow, GenRow, has_tracker, is_tracker_of, tracker_dylib}
 use Rattle.session_model.specs.declared.rows.Track.{Track}
-use Rattle.session_laws.proofs.Elements.{none_past}
+use Rattle.session_laws.proofs.Declared.{none_past}
 use Rattle.tracker.specs.declared.owned.Owned.{Owned}
 use Rattle.tracker.specs.Owners.{Owners, within}
 use Rattle.session_parts.specs.Units.{AreOwners}

@@ -7,7 +7,7 @@ ghost use Rattle.session_model.specs.Plain.{UnitRow, own_rows, unit_shape};
 ghost use Rattle.session_model.specs.State.{plain_history};
 ghost use Rattle.session_model.specs.Memory.{unit_image};
 ghost use Rattle.session_model.specs.declared.entry.Entry.{Entry};
-ghost use Rattle.execution_session.specs.Finish.{IsFinish};
+ghost use Rattle.session_steps.specs.Finish.{IsFinish};
 ghost use Rattle.session_check.specs.Known.{Known, known_meaning};
 ghost use Rattle.session_plain.specs.Meant.{meant, unit_row, IsSmall, LiveFit};
 ghost use Rattle.session_player.specs.Fits.{Fits};

@@ -40,7 +40,7 @@ pub struct Judged<N: Notify, const JMAX: usize> {
 
 impl<N: Notify, const JMAX: usize> Model for Judged<N, JMAX> {
     ghost use Rattle.std.specs.Prelude.{IfSome};
-    ghost use Rattle.execution_session.specs.Log.{Log};
+    ghost use Rattle.session_steps.specs.Log.{Log};
     ghost use Rattle.session_check.specs.Known.{Known};
     ghost use Rattle.session_shadow.specs.Follows.{Follows};
 

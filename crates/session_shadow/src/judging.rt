@@ -5,6 +5,7 @@ ghost use Rattle.session_shadow.specs.Follows.{IsShadow};
 
 use crate::shadow::Shadow;
 use orc_ids::{SeatNo, Stop};
+use same_replies::same_reply;
 use session_check::KnownUnit;
 use session_model::{Entry, Reply};
 use session_past::held_count;
@@ -111,7 +112,7 @@ pub fn may_come(
 /// The one entry that the journal has gained is of this seat, and has this reply.
 fn has_gained(journal: &[Entry<KnownUnit>], seen: usize, s: SeatNo, reply: &Reply) -> bool {
     match journal.get(seen) {
-        Some(e) => journal.len() - seen == 1 && e.seat.0 == s.0 && e.reply.is_same(reply),
+        Some(e) => journal.len() - seen == 1 && e.seat.0 == s.0 && same_reply(&e.reply, reply),
         None => false,
     }
 }

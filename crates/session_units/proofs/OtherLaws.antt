@@ -1,20 +1,18 @@
 -- The units of absolute symbols and of aliases keep the laws of units.
-use Rattle.std.proofs.Common.{◌≡◌, ◌≢◌, ℕ, zero, suc, ◌<◌, List, [], ◌∷◌, ◌++◌, length, map, get_or, Option, Some, None, refl, sym, ap, subst, ◌∙◌, inl, inr, arith}
-use Rattle.std.specs.Prelude.{slice_get, flat_map, IsPermutation, Contains}
-use Rattle.std.specs.List.{All, AllPairs}
+use Rattle.std.proofs.Common.{◌≡◌, ℕ, zero, suc, ◌<◌, List, [], ◌∷◌, length, map, get_or, Some, refl, sym, ap, subst, ◌∙◌, inl, inr, arith}
+use Rattle.std.specs.Prelude.{slice_get, IsPermutation, Contains}
+use Rattle.std.specs.List.{All}
 use Rattle.std.proofs.lemmas.Bool.{cases_order}
 use Rattle.std.proofs.lemmas.List.{append-nil}
 use Rattle.std.proofs.lemmas.List.Elements.{All-nil, All-contains_itself}
 use Rattle.std.proofs.lemmas.List.Sorted.{IsPermutation-refl}
 use Rattle.std.proofs.lemmas.Option.{same_Some}
 use Rattle.orc_ids.specs.declared.flags.SymFlags.{SymFlags}
-use Rattle.orc_ids.specs.declared.groups.Group.{Group}
 use Rattle.orc_ids.specs.declared.ids.DylibId.{DylibId}
 use Rattle.orc_ids.specs.declared.ids.InstId.{InstId}
 use Rattle.orc_ids.specs.declared.ids.NameId.{NameId}
 use Rattle.orc_ids.specs.declared.ids.UnitName.{UnitName}
-use Rattle.session_model.specs.Meaning.{Bindings, IsLawful, bound_instances}
-use Rattle.block_groups.specs.Groups.{group_of}
+use Rattle.session_model.specs.Meaning.{IsLawful, bound_instances}
 use Rattle.session_units.specs.Names.{NamesDiffer}
 use Rattle.session_units.specs.Others.{absolute_flags, absolutes_meaning, alias_meaning}
 use Rattle.session_units.proofs.Sharing.{group_members, group_deps}

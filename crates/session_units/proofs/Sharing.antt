@@ -1,6 +1,6 @@
 -- The groups of a graph have each instance once, and depend on what is bound.
-use Rattle.std.proofs.Common.{◌≡◌, ◌≢◌, ℕ, zero, suc, ◌+◌, ◌<◌, ◌≤◌, ◌==◌, cond, Bool, true, false, ◌&&◌, not, List, [], ◌∷◌, ◌++◌, length, map, get_or, Option, Some, None, refl, sym, ap, subst, ◌∙◌, ◌⊎◌, inl, inr, arith}
-use Rattle.std.specs.Prelude.{zip, flat_map, filter_map, option_map, Contains, IsPermutation, ⊤}
+use Rattle.std.proofs.Common.{◌≡◌, ◌≢◌, ℕ, zero, suc, ◌+◌, ◌<◌, ◌≤◌, cond, Bool, true, false, ◌&&◌, not, List, [], ◌∷◌, ◌++◌, length, map, get_or, Option, Some, None, refl, sym, ap, subst, ◌∙◌, ◌⊎◌, inl, inr, arith}
+use Rattle.std.specs.Prelude.{zip, flat_map, filter_map, Contains, IsPermutation, ⊤}
 use Rattle.std.specs.List.{All, filter, cons_option, range_with_len}
 use Rattle.std.proofs.lemmas.Bool.{eqb-true, ne_eqb, eq-eqb, false≢true, and_parts}
 use Rattle.std.proofs.lemmas.Grind.{flat_map-append}
@@ -9,16 +9,13 @@ use Rattle.std.proofs.lemmas.List.Elements.{All-nil, All-cons, All-head, All-tai
 use Rattle.std.proofs.lemmas.List.Sorted.{IsPermutation-refl, IsPermutation-sym, IsPermutation-trans, IsPermutation-map, IsPermutation-append_right, IsPermutation-filter_both}
 use Rattle.orc_ids.specs.declared.ids.InstId.{InstId}
 use Rattle.orc_ids.specs.declared.groups.Group.{Group}
-use Rattle.session_model.specs.Meaning.{Bindings, bound_instances}
 use Rattle.link_model.specs.Graph.{is_defined, is_offered, first_flag, other_flags, own_symbols, external_symbols}
 use Rattle.block_groups.specs.Groups.{is_in, is_absolute, members_at, needs, needed, group_of, live_places, groups_of}
-use Rattle.link_model.specs.Offers.{offered_symbols}
 use Rattle.link_model.specs.Sound.{PlaceFits, Sound}
 use Rattle.link_model.specs.declared.graph.GPlace.{GPlace}
 use Rattle.link_model.specs.declared.graph.GPlace.TheVariants.{In, Abs, External}
 use Rattle.link_model.specs.declared.graph.GSym.{GSym}
 use Rattle.link_model.specs.declared.graph.LinkGraph.{LinkGraph}
-use Rattle.session_units.specs.Meaning.{instances}
 
 abbrev Pair : Type 0
 Pair = GPlace × InstId

@@ -9,8 +9,8 @@ use Rattle.session_model.specs.State.{plain_history}
 use Rattle.session_model.specs.declared.entry.Entry.{Entry}
 use Rattle.session_model.specs.declared.entry.Event.{Event}
 use Rattle.session_model.specs.declared.entry.Reply.{Reply}
-use Rattle.execution_session.specs.Log.{Log}
-use Rattle.execution_session.specs.Performs.{Performs}
+use Rattle.session_steps.specs.Log.{Log}
+use Rattle.session_steps.specs.Performs.{Performs}
 use Rattle.note_laws.specs.Notes.{AreNoted}
 use Rattle.shared_session.specs.Does.{HolderIsAnswered}
 

@@ -1,19 +1,15 @@
 -- What a call leaves a seat knowing.
-use Rattle.std.proofs.Common.{◌≡◌, ℕ, List, [], ◌∷◌, ◌++◌, append-nil, Result, Ok, Err, refl, sym, ap, subst, ◌∙◌}
-use Rattle.std.proofs.lemmas.List.{append_cancel_left, append_assoc}
-use Rattle.orc_ids.specs.declared.lookup.Stop.{Stop}
+use Rattle.std.proofs.Common.{◌≡◌, ℕ, List, [], ◌∷◌, ◌++◌, append-nil, Ok, Err, refl, sym, ap, subst, ◌∙◌}
+use Rattle.std.proofs.lemmas.List.{append_cancel_left}
 use Rattle.orc_ids.specs.declared.lookup.Stop.TheVariants.{JournalFull, NoMemory}
 use Rattle.session_model.specs.Meaning.{Meaning}
 use Rattle.session_model.specs.declared.entry.Entry.{Entry}
-use Rattle.session_model.specs.declared.entry.Event.{Event}
-use Rattle.session_model.specs.declared.entry.Reply.{Reply}
 use Rattle.turn_lock.specs.declared.view.View.{View}
-use Rattle.turn_lock.specs.Lists.{StartsWith}
-use Rattle.turn_lock.specs.Passes.{Passed, Turned}
-use Rattle.execution_session.specs.Performs.{Performs, IsStopped, IsFullAt}
+use Rattle.turn_lock.specs.Passes.{Passed}
+use Rattle.session_steps.specs.Performs.{IsFullAt}
 use Rattle.shared_session.specs.Does.{seat}
 use Rattle.shared_session.specs.Home.{IsLawful, IsPosted, seat_of}
-use Rattle.shared_session.specs.SharedCalls.{HasEntered, HasLooked, Answered, CallsAreShared}
+use Rattle.shared_session.specs.SharedCalls.{HasEntered, HasLooked, CallsAreShared}
 
 module _ {U : Type 0} (means : U → Meaning) (jmax : ℕ) (v w : View (Entry U)) (old new : List (Entry U)) (p : Passed seat_of (IsLawful means jmax) (IsPosted means) v w old new) where
   seen_is : w.seen ≡ new

@@ -1,5 +1,5 @@
 -- What a seat knows of a history stays true of it after entries of other seats.
-use Rattle.std.proofs.Common.{◌≡◌, ℕ, Bool, true, false, eqb, eq-eqb, cond, List, [], ◌∷◌, ◌++◌, length, zero, suc, arith, slice_get, Option, Some, option_and_then, refl, ap, sym, subst, ◌∙◌}
+use Rattle.std.proofs.Common.{◌≡◌, ℕ, Bool, true, false, eqb, eq-eqb, cond, List, [], ◌∷◌, ◌++◌, length, zero, suc, arith, option_and_then, refl, ap, sym, subst, ◌∙◌}
 use Rattle.std.proofs.lemmas.List.{map-append}
 use Rattle.std.proofs.lemmas.Bool.{false≢true}
 use Rattle.std.proofs.lemmas.Option.{none-some, same_Some}
@@ -16,10 +16,8 @@ use Rattle.session_model.specs.declared.entry.Entry.{Entry}
 use Rattle.session_model.specs.declared.entry.Why.{Why}
 use Rattle.session_laws.specs.Holding.{AllOthers}
 use Rattle.session_laws.specs.Readiness.{phase_at}
-use Rattle.session_laws.proofs.Along.{prefixes_legal}
-use Rattle.session_laws.proofs.Elements.{same_element}
-use Rattle.session_laws.proofs.Readying.{ready_stays_ready}
-use Rattle.execution_session.specs.Gives.{MayFail}
+use Rattle.session_laws.proofs.Declared.{prefixes_legal, same_element, ready_stays_ready}
+use Rattle.session_steps.specs.Gives.{MayFail}
 use Rattle.turn_lock.specs.Lists.{entries_of}
 use Rattle.holder_laws.specs.Conditions.{MayPlace, MayEmit, Stays}
 use Rattle.holder_laws.proofs.Calling.{place_stays, emit_stays, fail_stays}

@@ -1,24 +1,19 @@
 -- What each event does on a session whose history grows from old to new, made by seat s.
-use Rattle.std.specs.Prelude.{◌≡◌, ℕ, List, Option, Some, None, Result, Ok, Err, IfOk, slice_get, IsOk}
+use Rattle.std.specs.Prelude.{◌≡◌, ℕ, List, Option, Some, None, Result, Ok, Err, slice_get, IsOk}
 use Rattle.orc_ids.specs.declared.ids.SeatNo.{SeatNo}
 use Rattle.orc_ids.specs.declared.ids.UnitId.{UnitId}
 use Rattle.orc_ids.specs.declared.lookup.Stop.{Stop}
 use Rattle.orc_ids.specs.declared.lookup.Stop.TheVariants.{NoMemory}
 use Rattle.session_model.specs.Meaning.{Meaning}
 use Rattle.session_model.specs.Plain.{UnitRow}
-use Rattle.session_model.specs.State.{plain_event}
 use Rattle.session_model.specs.declared.entry.Entry.{Entry}
 use Rattle.session_model.specs.declared.entry.Event.{Event}
-use Rattle.session_model.specs.declared.entry.Event.TheVariants as event
 use Rattle.session_model.specs.declared.entry.Reply.{Reply}
 use Rattle.session_model.specs.declared.entry.Reply.TheVariants as reply
 use Rattle.notifiers.specs.declared.notice.Notice.{Notice}
-use Rattle.notifiers.specs.declared.notice.Unheard.{Unheard}
-use Rattle.execution_session.specs.Given.{HandsBack, HandsBackGenerator}
-use Rattle.execution_session.specs.Lookups.{BacksNotifier}
-use Rattle.execution_session.specs.Performs.{Performs, Takes, state_of}
-use Rattle.execution_session.specs.Taken.{GivesUnit, BindsUnit}
-use Rattle.execution_session.specs.declared.jobs.TakenUnit.{TakenUnit}
+use Rattle.session_steps.specs.Performs.{Performs, Takes, state_of}
+use Rattle.session_steps.specs.Taken.{GivesUnit, BindsUnit}
+use Rattle.session_steps.specs.declared.jobs.TakenUnit.{TakenUnit}
 use Rattle.note_laws.specs.Laws.{TellsBy}
 
 -- the seat of a number

@@ -7,7 +7,7 @@ use Rattle.session_model.specs.State.{plain_history}
 use Rattle.session_model.specs.History.{IsLegal, HasPlaces}
 use Rattle.session_model.specs.declared.entry.Entry.{Entry}
 use Rattle.session_laws.specs.Readiness.{phase_at}
-use Rattle.execution_session.specs.Performs.{state_of}
+use Rattle.session_steps.specs.Performs.{state_of}
 
 -- it is legal, and each entry had its place in the journal
 pub record IsLawful {U : Type 0} (means : U → Meaning) (jmax : ℕ) (h : List (Entry U)) : Type 0 where

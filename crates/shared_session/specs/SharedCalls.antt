@@ -8,7 +8,7 @@ use Rattle.session_model.specs.declared.entry.Reply.{Reply}
 use Rattle.turn_lock.specs.declared.view.View.{View}
 use Rattle.turn_lock.specs.Lists.{StartsWith}
 use Rattle.turn_lock.specs.Passes.{Turned}
-use Rattle.execution_session.specs.Performs.{Performs, IsStopped}
+use Rattle.session_steps.specs.Performs.{Performs, IsStopped}
 use Rattle.shared_session.specs.Does.{seat}
 use Rattle.shared_session.specs.Home.{IsLawful, IsPosted, seat_of}
 

@@ -9,7 +9,7 @@ use Rattle.session_model.specs.declared.entry.Event.{Event}
 use Rattle.session_model.specs.declared.entry.Event.TheVariants as event
 use Rattle.session_model.specs.declared.entry.Reply.{Reply}
 use Rattle.session_model.specs.declared.entry.Reply.TheVariants as reply
-use Rattle.execution_session.specs.Performs.{Performs, Takes, Collects}
+use Rattle.session_steps.specs.Performs.{Performs, Takes, Collects}
 use Rattle.shared_session.specs.Does.{seat}
 use Rattle.shared_session.specs.Home.{seat_of}
 

@@ -1,8 +1,7 @@
 -- The names that the units of files offer and look up are names of their table.
-use Rattle.std.proofs.Common.{◌≡◌, ℕ, zero, suc, ◌+◌, ◌<◌, Bool, true, false, cond, List, [], ◌∷◌, length, filter, Option, Some, None, unwrap_or, refl, sym, ap, ◌∙◌, subst, Ok, Err, arith, inl, inr}
+use Rattle.std.proofs.Common.{◌≡◌, ℕ, zero, suc, ◌+◌, ◌<◌, Bool, true, false, cond, List, [], ◌∷◌, length, filter, Option, Some, None, unwrap_or, refl, sym, ap, ◌∙◌, subst, arith, inl, inr}
 use Rattle.std.specs.Prelude.{option_map, slice_get}
 use Rattle.std.specs.List.{All, position_from}
-use Rattle.std.specs.Option.{option_map_or}
 use Rattle.std.specs.Str.{bytes_eq}
 use Rattle.std.proofs.lemmas.Bool.{cases_Bool}
 use Rattle.std.proofs.lemmas.List.Elements.{All-cons, All-filter, All-head, All-map, All-nil, All-tail}
@@ -17,18 +16,18 @@ use Rattle.elf_read.specs.declared.object.Symbol.{Symbol}
 use Rattle.link_graph.specs.Checks.{first_failed}
 use Rattle.link_graph.specs.Object.{graph_of_parts, graph_symbol, graph_symbols, is_common, is_global, name_number}
 use Rattle.link_graph.specs.Padding.{trimmed}
-use Rattle.link_graph.specs.declared.error.GraphError.{GraphError}
 use Rattle.link_model.specs.Graph.{external_symbols, is_offered}
 use Rattle.link_model.specs.Image.{at_or}
 use Rattle.link_model.specs.Offers.{name_of, no_symbol, wanted_of}
 use Rattle.link_model.specs.declared.graph.GSym.{GSym}
 use Rattle.link_model.specs.declared.graph.LinkGraph.{LinkGraph}
-use Rattle.closure_laws.proofs.LevelsStaying.{row_below}
+use Rattle.closure_laws.proofs.Declared.{row_below}
 use Rattle.session_model.specs.Meaning.{Meaning}
 use Rattle.session_units.specs.Meaning.{graph_meaning}
 use Rattle.journal_text.specs.Parts.{IsGiven}
 use Rattle.journal_names.specs.Laws.{HasKnownNames}
 use Rattle.object_files.specs.Files.{IsObject}
+use Rattle.object_files.proofs.SymbolValues.{made_of}
 use Rattle.spoken_names.specs.Laws.{LoadedUnitsAreKnown}
 
 -- a place in a table is below its length
@@ -72,10 +71,6 @@ graph_known names name g some named = record {
   offers = All-map (λ (o : NameId × SymFlags). IsGiven names o.0) (λ (s : GSym). (name_of s, s.flags)) (filter is_offered g.symbols) (All-filter is_offered (IsNamed names) g.symbols named);
   externals = λ live. all_mapped (λ (w : Wanted). IsGiven names w.name) (λ s. wanted_of (at_or no_symbol g.symbols s)) (λ s. one_or (IsNamed names) no_symbol g.symbols s some named) (external_symbols g live);
 }
-
-made_of : (failed : Option GraphError) (made g : LinkGraph) → option_map_or Err failed (Ok made) ≡ Ok g → made ≡ g
-made_of None made g h = cc
-made_of (Some e) made g h = absurd cc
 
 object_known : (names : List (List ℕ)) (name : UnitName) (bytes : List ℕ) (g : LinkGraph) → 0 < length names → IsObject names bytes g → HasKnownNames names (graph_meaning name g)
 object_known names name bytes g some is =

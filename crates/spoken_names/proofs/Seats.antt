@@ -4,6 +4,8 @@ use Rattle.std.specs.Bool.{⊤}
 use Rattle.std.specs.List.{AllByRecursion}
 use Rattle.std.proofs.lemmas.Bool.{cases_eq}
 use Rattle.std.proofs.lemmas.List.Elements.{All-from_recursion, recursion_from_All}
+use Rattle.session_laws.proofs.Declared.{call_first, call_skipped}
+use Rattle.session_laws.specs.Entries.{entries}
 use Rattle.list_laws.proofs.Each.{each_weaker}
 pub use Rattle.list_laws.proofs.Each.{each_taken}
 use Rattle.session_model.specs.Calls.{numbered_calls}
@@ -20,10 +22,9 @@ use Rattle.journal_names.proofs.KnownReplies.{answer_known}
 use Rattle.journal_names.proofs.KnownUnits.{IsKnown, after_known, empty_known}
 use Rattle.journal_names.proofs.Knowing.{names_are_known}
 use Rattle.run_laws.proofs.Costs.{each_joined}
-use Rattle.run_laws.proofs.Seats.{call_first, call_skipped}
 use Rattle.run_laws.proofs.Sums.{each_call}
 use Rattle.spoken_names.specs.Laws.{SpokenNamesAreKnown}
-use Rattle.spoken_names.specs.Speaking.{Speaks, entries}
+use Rattle.spoken_names.specs.Speaking.{Speaks}
 use Rattle.spoken_names.proofs.Speaking.{hands_in, says}
 
 -- an entry was given known names, and says no other; the names of its reply are known

@@ -20,13 +20,14 @@ use Rattle.session_model.specs.declared.entry.Reply.{Reply}
 use Rattle.session_model.specs.declared.entry.Reply.TheVariants as reply
 use Rattle.session_model.specs.declared.entry.Why.{Why}
 use Rattle.session_model.specs.declared.entry.Why.TheVariants as why
+use Rattle.session_laws.specs.Entries.{entries}
 use Rattle.journal_text.specs.Events.{KnownEvent, KnownWhy}
 use Rattle.journal_text.specs.Parts.{IsGiven}
 use Rattle.journal_text.specs.Replies.{KnownReply}
 use Rattle.journal_names.specs.Laws.{HandsInKnown}
 use Rattle.run_laws.specs.Runs.{AreJobs, NoJob, OneMore as AnotherJob}
 use Rattle.run_laws.proofs.Costs.{either_way}
-use Rattle.spoken_names.specs.Speaking.{Says, Speaks, entries}
+use Rattle.spoken_names.specs.Speaking.{Says, Speaks}
 
 -- Lists
 

@@ -4,10 +4,11 @@ use Rattle.session_model.specs.Calls.{numbered_calls}
 use Rattle.session_model.specs.History.{IsLegal}
 use Rattle.session_model.specs.Meaning.{Meaning}
 use Rattle.session_model.specs.declared.entry.Entry.{Entry}
+use Rattle.session_laws.specs.Entries.{entries}
 use Rattle.journal_text.specs.Journal.{AreKnown}
 use Rattle.journal_names.specs.Laws.{HasKnownNames}
 use Rattle.object_files.specs.Files.{AreLoaded, Told}
-use Rattle.spoken_names.specs.Speaking.{Speaks, entries}
+use Rattle.spoken_names.specs.Speaking.{Speaks}
 
 -- each name of a legal history is one of the table where the calls of each seat speak of known names
 abbrev pub SpokenNamesAreKnown : Type 0

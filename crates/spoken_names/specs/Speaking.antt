@@ -1,5 +1,5 @@
 -- Calls that speak of known names.
-use Rattle.std.specs.Prelude.{ℕ, ⊤, List, [], ◌∷◌, map}
+use Rattle.std.specs.Prelude.{ℕ, ⊤, List, [], ◌∷◌}
 use Rattle.session_model.specs.Meaning.{Meaning}
 use Rattle.session_model.specs.declared.entry.Entry.{Entry}
 use Rattle.session_model.specs.declared.entry.Event.{Event}
@@ -15,6 +15,3 @@ Says names Fact v = HandsInKnown names v × (Fact → KnownEvent names v)
 abbrev pub Speaks : List (List ℕ) → Type 0 → List (Entry Meaning) → Type 0
 Speaks names Fact [] = ⊤
 Speaks names Fact (e ∷ es) = Says names Fact e.event × Speaks names (Fact × KnownReply names e.reply) es
-
-abbrev pub entries : List (ℕ × Entry Meaning) → List (Entry Meaning)
-entries cs = map (λ (c : ℕ × Entry Meaning). c.1) cs

@@ -1,10 +1,9 @@
 -- The trees know who has each generator, through all that is done to the trackers.
 use Rattle.std.proofs.Common.{◌≡◌, ℕ, zero, suc, ◌+◌, ◌<◌, ◌⊎◌, inl, inr, Bool, true, false, List, [], ◌∷◌, ◌++◌, length, set, slice_get, Option, Some, None, refl, ap, sym, subst, ◌∙◌, arith}
-use Rattle.std.specs.Bool.{if◌then◌else◌}
 use Rattle.std.specs.Option.{option_map_or}
-use Rattle.std.specs.Prelude.{option_map, option_and_then, is_some, map, unwrap_or, nat_lt, ◌==◌, ◌||◌}
+use Rattle.std.specs.Prelude.{option_map, option_and_then, is_some, ◌==◌, ◌||◌}
 use Rattle.std.specs.List.{list_any}
-use Rattle.std.proofs.lemmas.Bool.{both_ways, cases_eq, cases_Bool, eqb-true, eq-eqb, ne_eqb, ltb-true, ltb-false}
+use Rattle.std.proofs.lemmas.Bool.{both_ways, cases_eq, eqb-true}
 use Rattle.std.proofs.lemmas.Option.{none-some, same_Some, slice_get_within}
 use Rattle.std.proofs.lemmas.List.{length_push}
 use Rattle.list_laws.proofs.Lists.{pushed_last, front_some, set_elsewhere, pushed_cases, missing_past}
@@ -12,13 +11,12 @@ use Rattle.list_laws.proofs.Options.{same_element}
 use Rattle.orc_ids.specs.declared.ids.DylibId.{DylibId}
 use Rattle.orc_ids.specs.declared.ids.GenId.{GenId}
 use Rattle.orc_ids.specs.declared.ids.TrackId.{TrackId}
-use Rattle.tracker.specs.declared.holders.Hanging.{Hanging}
 use Rattle.tracker.specs.declared.holders.Node.{Node}
 use Rattle.tracker.specs.declared.holders.TheConstants.{HEIGHT}
 use Rattle.tracker.specs.declared.owned.Owned.{Owned}
-use Rattle.tracker.specs.Holders.{put, hanging, hung_under, joined_nodes, has_generator, IsJoined, AreTrees, HasRoot, AreHeld, IsHomed, IsLonger, is_homed, holder_of, climbed}
-use Rattle.tracker.specs.Owners.{Owners, within, change_at, and_all_of, empty, owns_generator}
-use Rattle.tracker.proofs.Trees.{set_there, set_length, put_is, hung_is, holder_is}
+use Rattle.tracker.specs.Holders.{has_generator, HasRoot, AreHeld, IsHomed, IsLonger, is_homed, holder_of, climbed}
+use Rattle.tracker.specs.Owners.{Owners, within, change_at, empty, owns_generator}
+use Rattle.tracker.proofs.Trees.{set_length, holder_is}
 
 -- Trackers of which one changes
 

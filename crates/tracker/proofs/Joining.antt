@@ -1,5 +1,5 @@
 -- Two trees that become one, with all the generators of both.
-use Rattle.std.proofs.Common.{◌≡◌, ℕ, zero, suc, ◌+◌, ◌<◌, ◌≤◌, ◌⊎◌, inl, inr, Bool, true, false, List, [], ◌∷◌, ◌++◌, length, set, slice_get, Option, Some, None, refl, ap, sym, subst, ◌∙◌, arith}
+use Rattle.std.proofs.Common.{◌≡◌, ℕ, ◌+◌, ◌<◌, ◌≤◌, ◌⊎◌, inl, inr, Bool, true, false, List, [], ◌∷◌, ◌++◌, length, set, slice_get, Option, Some, None, refl, ap, sym, subst, ◌∙◌, arith}
 use Rattle.std.specs.Bool.{if◌then◌else◌}
 use Rattle.std.specs.Prelude.{option_map, map, nat_lt, ◌==◌, ◌||◌, IsSome, IfSome}
 use Rattle.std.specs.List.{list_any}
@@ -13,7 +13,7 @@ use Rattle.tracker.specs.declared.holders.Hanging.{Hanging}
 use Rattle.tracker.specs.declared.holders.Node.{Node}
 use Rattle.tracker.specs.declared.holders.TheConstants.{HEIGHT}
 use Rattle.tracker.specs.declared.owned.Owned.{Owned}
-use Rattle.tracker.specs.Holders.{put, hanging, hung_under, joined_nodes, has_generator, IsJoined, AreTrees, HasRoot, AreHeld}
+use Rattle.tracker.specs.Holders.{put, hanging, joined_nodes, has_generator, IsJoined, AreTrees, HasRoot, AreHeld}
 use Rattle.tracker.specs.Owners.{within, change_at, and_all_of}
 use Rattle.tracker.proofs.Holding.{changed_there, changed_elsewhere, changed_length, gone_there}
 use Rattle.tracker.proofs.Trees.{set_there, set_length, put_is, hung_is}

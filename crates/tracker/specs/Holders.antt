@@ -1,5 +1,5 @@
 -- Who has a generator now: trees over the trackers that were made, of which each root knows whose its tree is.
-use Rattle.std.specs.Prelude.{◌≡◌, ℕ, ◌+◌, ◌==◌, ◌<◌, Bool, true, false, nat_lt, zero, suc, List, length, set, slice_get, Option, Some, None, unwrap_or, is_some, option_map, option_and_then, if◌then◌else◌}
+use Rattle.std.specs.Prelude.{◌≡◌, ℕ, ◌+◌, ◌==◌, ◌<◌, Bool, true, nat_lt, zero, suc, List, length, set, slice_get, Option, Some, None, unwrap_or, is_some, option_map, option_and_then, if◌then◌else◌}
 use Rattle.std.specs.List.{list_any}
 use Rattle.std.specs.Option.{option_map_or}
 use Rattle.orc_ids.specs.declared.ids.GenId.{GenId}

@@ -5,8 +5,8 @@ ghost use Rattle.turn_lock.specs.Handles.{view, turn_id, IsReady};
 ghost use Rattle.turn_lock.specs.Lists.{entries_of};
 ghost use Rattle.turn_lock.specs.Views.{finds_taken};
 
-use std::alloc::{AllocError, AllocFailed};
-use std::test::Fail;
+use std::alloc::{AllocError, AllocFailed, Global};
+use std::sync::Wait;
 use std::thread;
 use std::thread::Threads;
 use turn_lock::{Call, Counted, Seat, Turn};
@@ -40,6 +40,15 @@ impl Counted for Roll {
 }
 
 impl Roll {
+    /// No turns yet.
+    fn new(alloc: Global) -> Roll
+        ensures { result.seats.items ≡ [] }
+    {
+        Roll {
+            seats: Vec::new(alloc),
+        }
+    }
+
     fn note(&mut self, seat: u32) -> Result<(), AllocFailed<u32>>
         ensures noted { OnOk result (self.new.seats.items ≡ self.old.seats.items ++ seat ∷ []) }
         ensures stays { OnErr result (self.new.seats.items ≡ self.old.seats.items) }
@@ -152,47 +161,74 @@ fn look_at_once<T: Counted + Send, R: Threads + Sync>(
     );
 }
 
-#[test]
-fn a_turn_is_busy_until_it_is_left(rt: HostRuntime) -> Result<(), Fail> {
-    let roll = Roll {
-        seats: Vec::new(rt.alloc()),
+/// How many entries there are, as the value says in a turn of the seat.
+fn entries_in_turn<R: Wait>(rt: &R, turn: &Turn<Roll>, seat: &mut Seat<Roll, u32>) -> u64
+    requires { IsReady (turn_id turn.now) seat.old }
+    ensures { IsReady (turn_id turn.now) seat.new }
+{
+    let mut held = turn.enter(rt, seat);
+    let len = held.value().history_len();
+    held.leave();
+    len
+}
+
+/// Two seats of one turn, which is busy until it is left. Whether the first has a spare number, whether
+/// the second got it, whether the second finds the turn taken while the first has it and notes itself
+/// then, whether the first sees that entry, and whether it is the only one. `None` where memory runs out.
+fn two_seats<R: Wait>(rt: &R, alloc: Global) -> Option<[bool; 7]> {
+    let Ok((turn, mut first)) = Turn::open(alloc, Roll::new(alloc), 2) else {
+        return None;
     };
-    let Ok((turn, mut first)) = Turn::open(rt.alloc(), roll, 2) else {
-        panic!(rt; "memory")
-    };
-    assert!(rt; first.number() == 0 && first.spares() == 1);
+    let spare = first.number() == 0 && first.spares() == 1;
     let mut second = turn.split(&mut first);
-    assert!(rt; second.number() == 1 && first.spares() == 0 && second.spares() == 0);
+    let given = second.number() == 1 && first.spares() == 0 && second.spares() == 0;
     let busy = is_busy_meanwhile(&turn, &mut first, &mut second);
     let noted = note_once(&turn, &mut second);
     let front = turn.front(&mut first);
     turn.meet(&mut second, &mut first);
     turn.join(&mut first, second);
-    let mut held = turn.enter(&rt, &mut first);
-    let len = held.value().history_len();
-    held.leave();
-    let roll = turn.close(&rt, first);
-    assert!(rt;
-        busy? && noted? && front == 1 && len == 1 && roll.seats.as_slice() == [1].as_slice()
-    );
-    Ok(())
+    let entries = entries_in_turn(rt, &turn, &mut first);
+    let roll = turn.close(rt, first);
+    Some([
+        spare,
+        given,
+        matches!(busy, Ok(true)),
+        matches!(noted, Ok(true)),
+        front == 1,
+        entries == 1,
+        roll.seats.as_slice() == [1].as_slice(),
+    ])
 }
 
 #[test]
-fn a_call_is_made_once_the_turn_is_free(rt: HostRuntime) -> Result<(), Fail> {
-    let roll = Roll {
-        seats: Vec::new(rt.alloc()),
-    };
-    let Ok((turn, mut first)) = Turn::open(rt.alloc(), roll, 2) else {
-        panic!(rt; "memory")
+fn a_turn_is_busy_until_it_is_left(rt: HostRuntime) {
+    assert_eq!(rt; two_seats(&rt, rt.alloc()), Some([true; 7]));
+}
+
+/// Two seats that make the same call once each, the second first. Whether no entry is there after the
+/// second got its call back, whether both calls are made then, and whether the seats stand in that
+/// order. `None` where the call isn't handed back, or memory runs out.
+fn two_calls<R: Wait>(rt: &R, alloc: Global) -> Option<[bool; 4]> {
+    let Ok((turn, mut first)) = Turn::open(alloc, Roll::new(alloc), 2) else {
+        return None;
     };
     let mut second = turn.split(&mut first);
-    assert!(rt; is_handed_back_meanwhile(&turn, &mut first, &mut second));
-    assert!(rt; turn.front(&mut first) == 0);
+    if !is_handed_back_meanwhile(&turn, &mut first, &mut second) {
+        return None;
+    }
+    let none = turn.front(&mut first) == 0;
     let tried = turn.try_perform(&mut second, NoteOnce);
-    assert!(rt; matches!(tried, Ok(Ok(()))));
-    assert!(rt; turn.perform(&rt, &mut first, NoteOnce).is_ok());
-    let roll = turn.close(&rt, first);
-    assert!(rt; roll.seats.as_slice() == [1, 0].as_slice());
-    Ok(())
+    let performed = turn.perform(rt, &mut first, NoteOnce);
+    let roll = turn.close(rt, first);
+    Some([
+        none,
+        matches!(tried, Ok(Ok(()))),
+        performed.is_ok(),
+        roll.seats.as_slice() == [1, 0].as_slice(),
+    ])
+}
+
+#[test]
+fn a_call_is_made_once_the_turn_is_free(rt: HostRuntime) {
+    assert_eq!(rt; two_calls(&rt, rt.alloc()), Some([true; 4]));
 }

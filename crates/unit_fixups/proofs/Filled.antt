@@ -1,6 +1,6 @@
 -- What is written to cells and stubs.
-use Rattle.std.proofs.Common.{◌≡◌, ℕ, ◌+◌, ◌-◌, ◌<◌, ◌≤◌, ◌^◌, ◌%◌, true, List, [], ◌∷◌, ℤ, pos, negsuc, refl, sym, ap, ◌∙◌, arith}
-use Rattle.std.specs.Prelude.{◌+ℤ◌, ◌-ℤ◌, IsSome}
+use Rattle.std.proofs.Common.{◌≡◌, ℕ, ◌-◌, ◌<◌, ◌^◌, ◌%◌, true, [], ◌∷◌, ℤ, pos, refl, sym, ap, ◌∙◌, arith}
+use Rattle.std.specs.Prelude.{◌-ℤ◌, IsSome}
 use Rattle.orc_words.specs.Numbers.{with_number}
 use Rattle.link_model.specs.Kinds.{row_of, rule_of, in_span, edited}
 use Rattle.link_model.specs.Image.{written, stub_bytes, KIND_64, KIND_CALL}

@@ -1,15 +1,14 @@
 -- The tables by symbol: addresses, cells and stubs.
-use Rattle.std.proofs.Common.{◌≡◌, ◌≢◌, ℕ, zero, suc, ◌+◌, ◌<◌, ◌≤◌, true, false, ◌==◌, cond, List, [], ◌∷◌, length, map, drop, get_or, set, replicate, slice_index, Option, Some, None, refl, sym, ap, subst, ◌∙◌, arith}
-use Rattle.std.specs.Prelude.{unwrap_or, option_map, find, slice_index_or}
+use Rattle.std.proofs.Common.{◌≡◌, ℕ, zero, suc, ◌+◌, ◌<◌, ◌≤◌, true, false, ◌==◌, cond, List, [], ◌∷◌, length, map, drop, get_or, set, slice_index, Option, Some, None, refl, sym, ap, subst, ◌∙◌, arith}
+use Rattle.std.specs.Prelude.{unwrap_or, option_map, find}
 use Rattle.std.specs.List.{All}
-use Rattle.std.proofs.lemmas.Bool.{cases_lt}
-use Rattle.std.proofs.lemmas.List.{get_or-replicate, length-replicate, length-map, get_or_default}
+use Rattle.std.proofs.lemmas.List.{get_or_default}
 use Rattle.std.proofs.lemmas.List.Elements.{All-head, All-tail}
 use Rattle.std.proofs.lemmas.Option.{same_Some}
 use Rattle.std.proofs.Math.Seq.{drop-cons, drop-length}
 use Rattle.list_laws.proofs.Lists.{get_or-set}
 use mathlib.Core.Path.{fun_ext}
-use Rattle.link_model.specs.Image.{at_or, own_address, place_of, bound_address, told_address, offset_of}
+use Rattle.link_model.specs.Image.{at_or, own_address, bound_address, told_address, offset_of}
 use Rattle.link_model.specs.declared.graph.GPlace.TheVariants.{Abs}
 use Rattle.link_model.specs.declared.graph.GSym.{GSym}
 use Rattle.link_model.specs.declared.graph.Layout.{Layout}

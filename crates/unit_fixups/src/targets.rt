@@ -53,7 +53,7 @@ fn own_addresses(
     requires { Lies g.now l.now base }
     ensures { IfOk result (λ own. own.items ≡ map (λ (s : SymbolSeen). own_address l.now base s.place) g.now.symbols) }
 {
-    let mut own = Vec::new(alloc);
+    let mut own = Vec::with_capacity(alloc, g.symbols.as_slice().len())?;
     for s in g.symbols.as_slice() {
         own.push(place_address(g, l, base, s.place))?;
     }

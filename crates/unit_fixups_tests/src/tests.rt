@@ -1,6 +1,10 @@
+ghost use Rattle.std.specs.Prelude.{IfOk};
+ghost use Rattle.link_model.specs.Sound.{Sound, IsSized};
+
 use elf_read::read_object;
 use got_stubs::synthesise;
 use link_graph::graph_of;
+use link_model::LinkGraph;
 use orc_ids::{Bytes, Place};
 use orc_names::Names;
 use std::alloc::Global;
@@ -148,6 +152,16 @@ const J: [u8; 872] = [
     0, 0, 0, 0, 0, 0,
 ];
 
+/// The graph of an object.
+fn graph_in(alloc: Global, bytes: &[u8]) -> Result<LinkGraph, Fail>
+    ensures sound { IfOk result (λ g. Sound g) }
+    ensures sized { IfOk result (λ g. IsSized g) }
+{
+    let object = read_object(alloc, bytes)?;
+    let mut names = Names::new(alloc);
+    Ok(graph_of(alloc, &object, &mut names)?)
+}
+
 /// The image of the unit of an object.
 fn image_of(
     alloc: Global,
@@ -156,9 +170,7 @@ fn image_of(
     base: u64,
     bound: &[Option<u64>],
 ) -> Result<Result<Bytes, FixError>, Fail> {
-    let object = read_object(alloc, bytes)?;
-    let mut names = Names::new(alloc);
-    let graph = graph_of(alloc, &object, &mut names)?;
+    let graph = graph_in(alloc, bytes)?;
     let layout = synthesise(alloc, &graph, live)?;
     if layout.externals.len() != bound.len() || base >= 0x8000_0000 {
         return Err(Fail::from("other externals"));
@@ -166,51 +178,77 @@ fn image_of(
     Ok(fix(alloc, &graph, &layout, base, bound))
 }
 
+/// An object, what of it is alive, where it is placed, and the addresses of its externals.
+#[derive(Clone, Copy)]
+struct Unit<'a> {
+    file: &'a [u8],
+    live: &'a [bool],
+    base: u64,
+    bound: &'a [Option<u64>],
+}
+
+/// The unit has this image.
+fn is_image(alloc: Global, unit: Unit<'_>, fixed: &[u8]) -> Result<bool, Fail> {
+    match image_of(alloc, unit.file, unit.live, unit.base, unit.bound)? {
+        Ok(image) => Ok(image.as_slice() == fixed),
+        Err(_) => Ok(false),
+    }
+}
+
+/// The unit is refused, since an edge at this place, of this kind, would have this value.
+fn is_out_of_range(
+    alloc: Global,
+    unit: Unit<'_>,
+    place: Place,
+    kind: u32,
+    value: i64,
+) -> Result<bool, Fail> {
+    match image_of(alloc, unit.file, unit.live, unit.base, unit.bound)? {
+        Err(FixError::OutOfRange(at, of_kind, is)) => {
+            Ok(at == place && of_kind == kind && is == value)
+        }
+        _ => Ok(false),
+    }
+}
+
 /// Two objects that call each other: the cells and stubs that the linker makes are in their images.
 #[test]
 fn a_cycle_across_two_objects(rt: HostRuntime) -> Result<(), Fail> {
-    let alloc = rt.alloc();
-    let Ok(a) = image_of(
-        alloc,
-        A.as_slice(),
-        &[true, true],
-        0x1000_0000,
-        &[Some(0x1000_0030)],
-    )?
-    else {
-        return Err(Fail::from("refused"));
+    let a = Unit {
+        file: &A,
+        live: &[true, true],
+        base: 0x1000_0000,
+        bound: &[Some(0x1000_0030)],
     };
     let fixed = [
         0x17u8, 0x03, 0, 0, 0x67, 0, 0x03, 0x02, 0x13, 0x05, 0x70, 0, 0x67, 0x80, 0, 0, // main and g
         0x30, 0, 0, 0x10, 0, 0, 0, 0, 0, 0, 0, 0, 0, 0, 0, 0, // the cell of f, and padding
         0x17, 0x0e, 0, 0, 0x03, 0x3e, 0x0e, 0xff, 0x67, 0x03, 0x0e, 0, 0x13, 0, 0, 0, // its stub
     ];
-    assert!(rt; a.as_slice() == fixed.as_slice());
-    let Ok(b) = image_of(
-        alloc,
-        B.as_slice(),
-        &[true],
-        0x1000_0030,
-        &[Some(0x1000_0008)],
-    )?
-    else {
-        return Err(Fail::from("refused"));
+    assert!(rt; is_image(rt.alloc(), a, &fixed)?);
+    let b = Unit {
+        file: &B,
+        live: &[true],
+        base: 0x1000_0030,
+        bound: &[Some(0x1000_0008)],
     };
     let fixed = [
         0x17u8, 0x03, 0, 0, 0x67, 0, 0x03, 0x01, // f
         0x08, 0, 0, 0x10, 0, 0, 0, 0, // the cell of g
         0x17, 0x0e, 0, 0, 0x03, 0x3e, 0x8e, 0xff, 0x67, 0x03, 0x0e, 0, 0x13, 0, 0, 0, // its stub
     ];
-    assert!(rt; b.as_slice() == fixed.as_slice());
+    assert!(rt; is_image(rt.alloc(), b, &fixed)?);
     Ok(())
 }
 
 /// A weak reference without a match is to address 0; the branch over its call is taken.
 #[test]
 fn a_weak_reference_without_a_match(rt: HostRuntime) -> Result<(), Fail> {
-    let alloc = rt.alloc();
-    let Ok(w) = image_of(alloc, W.as_slice(), &[true], 0x1000_0000, &[None])? else {
-        return Err(Fail::from("refused"));
+    let w = Unit {
+        file: &W,
+        live: &[true],
+        base: 0x1000_0000,
+        bound: &[None],
     };
     let fixed = [
         0x17u8, 0x05, 0, 0xf0, // auipc a0, -0x10000
@@ -224,28 +262,23 @@ fn a_weak_reference_without_a_match(rt: HostRuntime) -> Result<(), Fail> {
         0, 0, 0, 0, 0, 0, 0, 0, // padding
         0x17, 0x0e, 0, 0, 0x03, 0x3e, 0x0e, 0xff, 0x67, 0x03, 0x0e, 0, 0x13, 0, 0, 0, // its stub
     ];
-    assert!(rt; w.as_slice() == fixed.as_slice());
+    assert!(rt; is_image(rt.alloc(), w, &fixed)?);
     Ok(())
 }
 
 /// A jump doesn't reach from code memory to address 0.
 #[test]
 fn a_jump_to_nothing_is_refused(rt: HostRuntime) -> Result<(), Fail> {
-    let alloc = rt.alloc();
-    let made = image_of(alloc, J.as_slice(), &[true], 0x1000_0000, &[None])?;
-    match made {
-        Err(FixError::OutOfRange(place, kind, value)) => {
-            assert_eq!(rt;
-                place,
-                Place {
-                    block: 0,
-                    offset: 0
-                }
-            );
-            assert_eq!(rt; kind, 17);
-            assert_eq!(rt; value, -0x1000_0000);
-        }
-        _ => return Err(Fail::from("not refused")),
-    }
+    let j = Unit {
+        file: &J,
+        live: &[true],
+        base: 0x1000_0000,
+        bound: &[None],
+    };
+    let place = Place {
+        block: 0,
+        offset: 0,
+    };
+    assert!(rt; is_out_of_range(rt.alloc(), j, place, 17, -0x1000_0000)?);
     Ok(())
 }

@@ -1,5 +1,6 @@
 //! Objects whose names share bytes.
-use elf_read::{ElfError, ElfObject, Name, NameTable, read_object};
+use elf_read::{ElfError, ElfObject, Section, Symbol, read_object, read_shared};
+use shared_bytes::SharedBytes;
 use std::alloc::{AllocError, Global};
 use std::test::Fail;
 
@@ -21,6 +22,23 @@ struct FileMaker {
     count: u16,
 }
 
+/// Adds numbers of 8 bytes.
+fn put_words(bytes: &mut Vec<u8>, words: &[u64]) -> Result<(), AllocError> {
+    for word in words {
+        bytes.extend_from_slice(&word.to_le_bytes())?;
+    }
+    Ok(())
+}
+
+/// All parts, one behind another.
+fn joined(alloc: Global, parts: &[&[u8]]) -> Result<Vec<u8>, AllocError> {
+    let mut bytes = Vec::new(alloc);
+    for part in parts {
+        bytes.extend_from_slice(part)?;
+    }
+    Ok(bytes)
+}
+
 impl FileMaker {
     /// No section but number 0.
     fn new(alloc: Global) -> Result<FileMaker, AllocError> {
@@ -33,19 +51,21 @@ impl FileMaker {
 
     /// Adds a section; its name begins at byte 1 of the name table.
     fn put(&mut self, kind: u32, flags: u64, link: u32, contents: &[u8]) -> Result<(), AllocError> {
+        let names = (u64::from(kind) << 32) | 1;
         let offset = (self.contents.len() as u64).wrapping_add(64);
+        let size = contents.len() as u64;
         let entry_size: u64 = if kind == SYMTAB { 24 } else { 0 };
-        self.headers.extend_from_slice(&1u32.to_le_bytes())?;
-        self.headers.extend_from_slice(&kind.to_le_bytes())?;
-        self.headers.extend_from_slice(&flags.to_le_bytes())?;
-        self.headers.extend_from_slice(&0u64.to_le_bytes())?;
-        self.headers.extend_from_slice(&offset.to_le_bytes())?;
-        self.headers
-            .extend_from_slice(&(contents.len() as u64).to_le_bytes())?;
-        self.headers.extend_from_slice(&link.to_le_bytes())?;
-        self.headers.extend_from_slice(&0u32.to_le_bytes())?;
-        self.headers.extend_from_slice(&1u64.to_le_bytes())?;
-        self.headers.extend_from_slice(&entry_size.to_le_bytes())?;
+        let header = [
+            names,
+            flags,
+            0,
+            offset,
+            size,
+            u64::from(link),
+            1,
+            entry_size,
+        ];
+        put_words(&mut self.headers, &header)?;
         self.contents.extend_from_slice(contents)?;
         self.count = self.count.wrapping_add(1);
         Ok(())
@@ -54,35 +74,43 @@ impl FileMaker {
     /// The file, whose first section has the names of the sections.
     fn file(&self, alloc: Global) -> Result<Vec<u8>, AllocError> {
         let table = (self.contents.len() as u64).wrapping_add(64);
-        let mut file = Vec::new(alloc);
-        file.extend_from_slice(b"\x7fELF\x02\x01\x01\0\0\0\0\0\0\0\0\0")?;
-        file.extend_from_slice(&[1, 0, 243, 0, 1, 0, 0, 0])?;
-        file.extend_from_slice(&[0; 16])?;
-        file.extend_from_slice(&table.to_le_bytes())?;
-        file.extend_from_slice(&[0, 0, 0, 0, 64, 0, 0, 0, 0, 0, 64, 0])?;
-        file.extend_from_slice(&self.count.to_le_bytes())?;
-        file.extend_from_slice(&1u16.to_le_bytes())?;
-        file.extend_from_slice(self.contents.as_slice())?;
-        file.extend_from_slice(self.headers.as_slice())?;
-        Ok(file)
+        let parts = [
+            b"\x7fELF\x02\x01\x01\0\0\0\0\0\0\0\0\0".as_slice(),
+            &[1, 0, 243, 0, 1, 0, 0, 0],
+            &[0; 16],
+            &table.to_le_bytes(),
+            &[0, 0, 0, 0, 64, 0, 0, 0, 0, 0, 64, 0],
+            &self.count.to_le_bytes(),
+            &[1, 0],
+            self.contents.as_slice(),
+            self.headers.as_slice(),
+        ];
+        joined(alloc, &parts)
     }
 }
 
 /// A string table with the empty name and one of so many bytes.
 fn one_name(alloc: Global, len: usize) -> Result<Vec<u8>, AllocError> {
     let mut strings = vec![in alloc; 0]?;
-    let name = vec![in alloc; b'n'; len]?;
-    strings.extend_from_slice(name.as_slice())?;
+    strings.resize(len.saturating_add(1), b'n')?;
     strings.push(0)?;
     Ok(strings)
 }
 
-/// The entry of a local symbol with value 0, whose name begins at this place.
-fn put_local(table: &mut Vec<u8>, name: u32) -> Result<(), AllocError> {
-    table.extend_from_slice(&name.to_le_bytes())?;
-    table.extend_from_slice(&[0, 0])?;
-    table.extend_from_slice(&ABSOLUTE.to_le_bytes())?;
-    table.extend_from_slice(&[0; 16])
+/// The entry of symbol 0, and of local symbols with value 0 whose names begin at these places.
+fn symbol_table(alloc: Global, names: &[u32]) -> Result<Vec<u8>, AllocError> {
+    let mut table = vec![in alloc; 0; 24]?;
+    for name in names {
+        let place = u64::from(*name) | (u64::from(ABSOLUTE) << 48);
+        put_words(&mut table, &[place, 0, 0])?;
+    }
+    Ok(table)
+}
+
+/// The object that a file is, or why it is none.
+fn read(alloc: Global, file: &FileMaker) -> Result<Result<ElfObject, ElfError>, AllocError> {
+    let file = file.file(alloc)?;
+    Ok(read_object(alloc, file.as_slice()))
 }
 
 /// An object of so many sections that share a name of so many bytes.
@@ -92,7 +120,7 @@ fn with_sections(alloc: Global, count: u32, len: usize) -> Result<ElfObject, Fai
     for _ in 0..count {
         file.put(PROGBITS, ALLOC, 0, &[])?;
     }
-    Ok(read_object(alloc, file.file(alloc)?.as_slice())?)
+    Ok(read(alloc, &file)??)
 }
 
 /// An object of symbols whose names begin at these places of a name of so many bytes.
@@ -100,53 +128,73 @@ fn with_symbols(
     alloc: Global,
     places: &[u32],
     len: usize,
-) -> Result<Result<ElfObject, ElfError>, Fail> {
-    let mut table = vec![in alloc; 0; 24]?;
-    for place in places {
-        put_local(&mut table, *place)?;
-    }
+) -> Result<Result<ElfObject, ElfError>, AllocError> {
     let mut file = FileMaker::new(alloc)?;
     file.put(STRTAB, 0, 0, one_name(alloc, len)?.as_slice())?;
-    file.put(SYMTAB, 0, 1, table.as_slice())?;
-    Ok(read_object(alloc, file.file(alloc)?.as_slice()))
+    file.put(SYMTAB, 0, 1, symbol_table(alloc, places)?.as_slice())?;
+    read(alloc, &file)
+}
+
+/// Each section has a name of so many bytes, the first of which is `n`.
+fn are_named(sections: &[Section], len: usize) -> bool {
+    for section in sections {
+        if section.name.len() != len || section.name.as_slice().first() != Some(&b'n') {
+            return false;
+        }
+    }
+    true
+}
+
+/// How many bytes the name has that begins at a place of the table of `one_name`.
+fn length_at(place: u32, len: usize) -> usize {
+    if place == 0 {
+        0
+    } else {
+        len.wrapping_add(1).saturating_sub(place as usize)
+    }
+}
+
+/// The number of the first symbol whose name is not as long as its place says.
+fn other_name(symbols: &[Symbol], places: &[u32], len: usize) -> Option<usize> {
+    if symbols.len() != places.len() {
+        return Some(places.len());
+    }
+    for (number, (symbol, place)) in symbols.iter().zip(places).enumerate() {
+        if symbol.name.len() != length_at(*place, len) {
+            return Some(number);
+        }
+    }
+    None
+}
+
+/// An object of symbols is read whose names begin at these places; the number of the first, behind symbol 0,
+/// whose name is not as long as its place says.
+fn other_symbol(alloc: Global, places: &[u32], len: usize) -> Result<Option<usize>, Fail> {
+    let object = with_symbols(alloc, places, len)??;
+    match object.symbols.as_slice() {
+        [none, symbols @ ..] if none.name.is_empty() => Ok(other_name(symbols, places, len)),
+        _ => Err(Fail::from("another symbol 0")),
+    }
 }
 
 #[test]
 fn reads_sections_that_share_a_name(rt: HostRuntime) -> Result<(), Fail> {
     let object = with_sections(rt.alloc(), 40, 1 << 20)?;
-    let sections = object.sections.as_slice();
-    assert_eq!(rt; sections.len(), 40);
-    for section in sections {
-        assert_eq!(rt; section.name.len(), 1 << 20);
-        assert_eq!(rt; section.name.as_slice().first().copied(), Some(b'n'));
-    }
+    assert_eq!(rt; object.sections.as_slice().len(), 40);
+    assert!(rt; are_named(object.sections.as_slice(), 1 << 20));
     Ok(())
 }
 
 #[test]
 fn reads_symbols_that_share_a_name(rt: HostRuntime) -> Result<(), Fail> {
-    let places = vec![in rt.alloc(); 1; 2000]?;
-    let object = with_symbols(rt.alloc(), places.as_slice(), 4096)??;
-    let symbols = object.symbols.as_slice();
-    assert_eq!(rt; symbols.len(), 2001);
-    assert!(rt; symbols[0].name.is_empty());
-    assert_eq!(rt; symbols[1].name.len(), 4096);
-    assert_eq!(rt; symbols[2000].name.len(), 4096);
+    assert_eq!(rt; other_symbol(rt.alloc(), &[1; 2000], 4096)?, None);
     Ok(())
 }
 
 #[test]
 fn reads_names_that_are_ends_of_another(rt: HostRuntime) -> Result<(), Fail> {
     let places: Vec<u32> = (0..202).collect(rt.alloc())?;
-    let object = with_symbols(rt.alloc(), places.as_slice(), 200)??;
-    for (place, symbol) in object.symbols.as_slice().iter().skip(1).enumerate() {
-        let len = if place == 0 {
-            0
-        } else {
-            201_usize.saturating_sub(place)
-        };
-        assert_eq!(rt; symbol.name.len(), len, "at {place}");
-    }
+    assert_eq!(rt; other_symbol(rt.alloc(), places.as_slice(), 200)?, None);
     Ok(())
 }
 
@@ -159,13 +207,20 @@ fn refuses_a_name_that_is_too_long_or_has_no_end(rt: HostRuntime) -> Result<(), 
     Ok(())
 }
 
+/// How many sections and symbols an object of so many sections has.
+fn counts(alloc: Global, count: u32, len: usize) -> Result<(usize, usize), Fail> {
+    let object = with_sections(alloc, count, len)?;
+    Ok((
+        object.sections.as_slice().len(),
+        object.symbols.as_slice().len(),
+    ))
+}
+
 #[test]
 fn memory_is_enough_for_any_number_of_sections(rt: HostRuntime) -> Result<(), Fail> {
     for count in [0, 1, 2] {
         for len in [0, 1, 8] {
-            let object = with_sections(rt.alloc(), count, len)?;
-            assert_eq!(rt; object.sections.as_slice().len(), count as usize);
-            assert_eq!(rt; object.symbols.as_slice().len(), 1);
+            assert_eq!(rt; counts(rt.alloc(), count, len)?, (count as usize, 1));
         }
     }
     Ok(())
@@ -173,23 +228,36 @@ fn memory_is_enough_for_any_number_of_sections(rt: HostRuntime) -> Result<(), Fa
 
 #[test]
 fn memory_is_enough_for_any_number_of_symbols(rt: HostRuntime) -> Result<(), Fail> {
-    let none = with_symbols(rt.alloc(), &[], 1)??;
-    assert_eq!(rt; none.symbols.as_slice().len(), 1);
-    let one = with_symbols(rt.alloc(), &[1], 1)??;
-    assert_eq!(rt; one.symbols.as_slice().len(), 2);
-    let two = with_symbols(rt.alloc(), &[0, 1], 1)??;
-    assert_eq!(rt; two.symbols.as_slice().len(), 3);
+    for places in [[].as_slice(), &[1], &[0, 1]] {
+        assert_eq!(rt; other_symbol(rt.alloc(), places, 1)?, None);
+    }
     Ok(())
 }
 
+/// What is read of a file of two sections, which is let go.
+fn read_and_let_go(alloc: Global) -> Result<ElfObject, Fail> {
+    let mut maker = FileMaker::new(alloc)?;
+    maker.put(STRTAB, 0, 0, one_name(alloc, 1)?.as_slice())?;
+    maker.put(PROGBITS, ALLOC, 0, &[1; 4096])?;
+    maker.put(PROGBITS, ALLOC, 0, &[2; 8])?;
+    let file = SharedBytes::copy_of(alloc, maker.file(alloc)?.as_slice())?;
+    let object = read_shared(alloc, &file)?;
+    drop(file);
+    Ok(object)
+}
+
+/// The contents of the two sections, of which one lies in the file and the other is a copy.
+fn are_contents(sections: &[Section]) -> bool {
+    match sections {
+        [large, small] => large.bytes.as_slice() == [1; 4096].as_slice()
+            && small.bytes.as_slice() == [2; 8].as_slice(),
+        _ => false,
+    }
+}
+
 #[test]
-fn memory_is_enough_for_each_name(rt: HostRuntime) -> Result<(), Fail> {
-    let alloc = rt.alloc();
-    assert!(rt; Name::copy_of(alloc, b"")?.is_empty());
-    assert_eq!(rt; Name::copy_of(alloc, b"f")?.as_slice(), b"f".as_slice());
-    let table = NameTable::copy_of(alloc, b"main")?;
-    assert!(rt; table.name(0, 0)?.is_empty());
-    assert_eq!(rt; table.name(1, 1)?.as_slice(), b"a".as_slice());
-    assert_eq!(rt; table.name(1, 3)?.as_slice(), b"ain".as_slice());
+fn contents_outlive_the_file(rt: HostRuntime) -> Result<(), Fail> {
+    let object = read_and_let_go(rt.alloc())?;
+    assert!(rt; are_contents(object.sections.as_slice()));
     Ok(())
 }

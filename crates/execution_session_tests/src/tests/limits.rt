@@ -1,129 +1,195 @@
 //! One more than a session has: dylibs, trackers, generators, units, and bytes of memory.
 
-use super::parts::{Part, adds, begins, is_placed};
+use super::calls::{Call, Tried, make};
+use super::play::Step::{By, Many};
+use super::play::{Table, plays};
 use super::units::Named;
-use super::{SETUP, end, lookup_waits, reads};
-use execution_session::Session;
-use orc_ids::{DylibId, GenId, NameId, TrackId};
-use orc_io::Note;
+use super::{BEGUN, DEFINED, SEAT, SETUP, WAITS};
+use orc_ids::{NameId, Stop};
 use session_model::Reply;
 use std::alloc::Global;
 
-/// So many dylibs are made.
-fn makes_dylibs<const JMAX: usize>(session: &mut Session<Named, Note, JMAX>, count: u32) -> bool {
+/// What there can be many of.
+#[derive(Clone, Copy)]
+pub(super) enum Kind {
+    /// Dylibs, with the names from 0.
+    Dylibs,
+    /// Trackers of the first dylib.
+    Trackers,
+    /// Generators in the first dylib, of the names from 0.
+    Generators,
+    /// Units of one byte in the first dylib, of the names from 0, each with its own name as its external.
+    Parts,
+}
+
+/// The call that makes one of the kind.
+fn nth_call(kind: Kind, k: u32) -> Call<'static> {
+    let name = NameId(k);
+    match kind {
+        Kind::Dylibs => Call::Dylib(k),
+        Kind::Trackers => Call::Tracker(0),
+        Kind::Generators => Call::Attach(
+            0,
+            0,
+            Named {
+                name,
+                weak: false,
+                wants: None,
+                more: 47,
+            },
+        ),
+        Kind::Parts => Call::Define(
+            0,
+            0,
+            Named {
+                name,
+                weak: false,
+                wants: Some(name),
+                more: 0,
+            },
+        ),
+    }
+}
+
+/// One of the kind is made, which has this number.
+fn is_numbered(reply: &Result<Reply, Stop>, kind: Kind, k: u32) -> bool {
+    match (kind, reply) {
+        (Kind::Dylibs, Ok(Reply::Made(d))) => d.0 == k,
+        (Kind::Trackers, Ok(Reply::Tracker(t))) => t.0 == k,
+        (Kind::Generators, Ok(Reply::Generator(g))) => g.0 == k,
+        (Kind::Parts, Ok(Reply::Defined(u, _, _))) => u.0 == k,
+        _ => false,
+    }
+}
+
+/// Makes one of the kind, which has this number, and nothing comes back. The replies are not printed, since
+/// there are so many.
+fn makes_one<const JMAX: usize>(
+    alloc: Global,
+    session: &mut Tried<JMAX>,
+    kind: Kind,
+    k: u32,
+) -> bool {
+    match make(alloc, session, SETUP, nth_call(kind, k)) {
+        Some(answer) => is_numbered(&answer.reply, kind, k) && answer.beside.is_empty(),
+        None => false,
+    }
+}
+
+/// So many of the kind are made, which have the numbers from 0. The number that one doesn't have is written.
+pub(super) fn makes<const JMAX: usize>(
+    alloc: Global,
+    session: &mut Tried<JMAX>,
+    kind: Kind,
+    count: u32,
+    text: &mut String,
+) -> bool {
     for k in 0..count {
-        let Ok(Reply::Made(d)) = session.dylib(SETUP, NameId(k)) else {
-            return false;
-        };
-        if d.0 != k {
+        if !makes_one(alloc, session, kind, k) {
+            text.clear();
+            let _written = write!(text, "no number {k}");
             return false;
         }
     }
     true
 }
 
-/// So many trackers of the first dylib are made.
-fn makes_trackers<const JMAX: usize>(session: &mut Session<Named, Note, JMAX>, count: u32) -> bool {
-    for k in 0..count {
-        let Ok(Reply::Tracker(t)) = session.tracker(SETUP, DylibId(0)) else {
-            return false;
-        };
-        if t.0 != k {
-            return false;
-        }
-    }
-    true
-}
-
-/// So many generators, each of another name, are attached to the first dylib.
-fn attaches_many<const JMAX: usize>(session: &mut Session<Named, Note, JMAX>, count: u32) -> bool {
-    for k in 0..count {
-        let offered = session.attach(SETUP, DylibId(0), TrackId(0), Named::strong(k));
-        let Ok(Reply::Generator(g)) = offered.answer else {
-            return false;
-        };
-        if g.0 != k {
-            return false;
-        }
-    }
-    true
-}
-
-/// A generator of one part is attached to the first dylib.
-fn attaches_one<const JMAX: usize>(alloc: Global, session: &mut Session<Part, Note, JMAX>) -> bool {
-    let offered = session.attach(SETUP, DylibId(0), TrackId(0), Part::new(65_537, 0, 0));
-    reads(alloc, offered.answer, "Ok(Generator(GenId(0)))")
-}
-
-/// So many parts, each of another name, are defined in the first dylib.
-fn adds_many<const JMAX: usize>(session: &mut Session<Part, Note, JMAX>, count: u32) -> bool {
-    for k in 0..count {
-        if !adds(session, k, k, 0) {
-            return false;
-        }
-    }
-    true
-}
+const DYLIBS: Table = &[
+    Many(Kind::Dylibs, 64),
+    By(SETUP, Call::Dylib(64), "Ok(TooMany)"),
+];
 
 #[test]
 fn one_dylib_more(rt: HostRuntime) {
-    let alloc = rt.alloc();
-    let mut session = Session::<Named, Note, 128>::open(alloc).expect(&rt, "memory");
-    assert!(rt; makes_dylibs(&mut session, 64));
-    assert!(rt; reads(alloc, session.dylib(SETUP, NameId(64)), "Ok(TooMany)"));
-    assert_eq!(rt; session.journal().len(), 65);
-    end(&rt, session);
+    plays::<128>(&rt, rt.alloc(), &[DYLIBS], "entries: 65");
 }
+
+const TRACKERS: Table = &[
+    Many(Kind::Dylibs, 1),
+    Many(Kind::Trackers, 65_536),
+    By(SETUP, Call::Tracker(0), "Ok(TooMany)"),
+];
 
 #[test]
 fn one_tracker_more(rt: HostRuntime) {
-    let alloc = rt.alloc();
-    let mut session = Session::<Named, Note, 65_600>::open(alloc).expect(&rt, "memory");
-    assert!(rt; makes_dylibs(&mut session, 1));
-    assert!(rt; makes_trackers(&mut session, 65_536));
-    assert!(rt; reads(alloc, session.tracker(SETUP, DylibId(0)), "Ok(TooMany)"));
-    assert_eq!(rt; session.journal().len(), 65_538);
-    end(&rt, session);
+    plays::<65_600>(&rt, rt.alloc(), &[TRACKERS], "entries: 65538");
 }
+
+/// The generator that is one too many.
+const LAST_GENERATOR: Named = Named {
+    name: NameId(65_536),
+    weak: false,
+    wants: None,
+    more: 47,
+};
+
+const GENERATORS: Table = &[
+    Many(Kind::Dylibs, 1),
+    Many(Kind::Trackers, 1),
+    Many(Kind::Generators, 65_536),
+    By(
+        SETUP,
+        Call::Attach(0, 0, LAST_GENERATOR),
+        "Ok(TooMany), unit back",
+    ),
+];
 
 #[test]
 fn one_generator_more(rt: HostRuntime) {
-    let alloc = rt.alloc();
-    let mut session = Session::<Named, Note, 65_600>::open(alloc).expect(&rt, "memory");
-    assert!(rt; makes_dylibs(&mut session, 1));
-    assert!(rt; makes_trackers(&mut session, 1));
-    assert!(rt; attaches_many(&mut session, 65_536));
-    let offered = session.attach(SETUP, DylibId(0), TrackId(0), Named::strong(65_536));
-    assert!(rt; reads(alloc, offered.answer, "Ok(TooMany)"));
-    assert!(rt; offered.back.is_some());
-    assert_eq!(rt; session.journal().len(), 65_539);
-    end(&rt, session);
+    plays::<65_600>(&rt, rt.alloc(), &[GENERATORS], "entries: 65539");
 }
+
+/// The unit that is one too many.
+const LAST_PART: Named = Named {
+    name: NameId(65_536),
+    weak: false,
+    wants: Some(NameId(0)),
+    more: 0,
+};
+
+/// The unit of a generator, which is another one too many.
+const OFFERED_PART: Named = Named {
+    name: NameId(65_537),
+    weak: false,
+    wants: Some(NameId(0)),
+    more: 0,
+};
+
+const PARTS: Table = &[
+    By(
+        SETUP,
+        Call::Attach(0, 0, OFFERED_PART),
+        "Ok(Generator(GenId(0)))",
+    ),
+    Many(Kind::Parts, 65_536),
+    By(
+        SETUP,
+        Call::Define(0, 0, LAST_PART),
+        "Ok(TooMany), unit back",
+    ),
+    By(SETUP, Call::Generate(0), "Ok(TooMany)"),
+];
 
 #[test]
 fn one_unit_more(rt: HostRuntime) {
-    let alloc = rt.alloc();
-    let mut session = Session::<Part, Note, 65_600>::open(alloc).expect(&rt, "memory");
-    assert!(rt; begins(alloc, &mut session));
-    assert!(rt; attaches_one(alloc, &mut session));
-    assert!(rt; adds_many(&mut session, 65_536));
-    let offered = session.define(SETUP, DylibId(0), TrackId(0), Part::new(65_536, 0, 0));
-    assert!(rt; reads(alloc, offered.answer, "Ok(TooMany)"));
-    assert!(rt; offered.back.is_some());
-    let generated = session.generate(SETUP, GenId(0));
-    assert!(rt; reads(alloc, generated, "Ok(TooMany)"));
-    assert_eq!(rt; session.journal().len(), 65_541);
-    end(&rt, session);
+    plays::<65_600>(&rt, rt.alloc(), &[BEGUN, PARTS], "entries: 65541");
 }
+
+/// A unit of 64 MiB and a byte.
+const LARGE: Named = Named {
+    name: NameId(0),
+    weak: false,
+    wants: Some(NameId(0)),
+    more: 67_108_864,
+};
+
+const BYTES: Table = &[
+    By(SETUP, Call::Define(0, 0, LARGE), DEFINED),
+    By(SEAT, Call::LookUp(0, None), WAITS),
+    By(SEAT, Call::TakeAndPlace(0), "Ok(NoRoom(67108865))"),
+];
 
 #[test]
 fn one_byte_more(rt: HostRuntime) {
-    let alloc = rt.alloc();
-    let mut session = Session::<Part, Note, 64>::open(alloc).expect(&rt, "memory");
-    assert!(rt; begins(alloc, &mut session));
-    assert!(rt; adds(&mut session, 0, 0, 64));
-    assert!(rt; lookup_waits(alloc, &mut session, None));
-    assert!(rt; is_placed(alloc, &mut session, "Ok(NoRoom(67108865))"));
-    assert_eq!(rt; session.journal().len(), 6);
-    end(&rt, session);
+    plays::<64>(&rt, rt.alloc(), &[BEGUN, BYTES], "entries: 6");
 }

@@ -1,23 +1,20 @@
 //! Lookups of what is there already.
 
-use super::lookup::materializes;
-use super::units::Named;
-use super::{SEAT, asks, end, lookup_waits, prepares, reads};
-use execution_session::Session;
-use notifiers::FiredList;
-use orc_ids::QueryId;
-use orc_io::Note;
+use super::calls::Call;
+use super::play::Step::By;
+use super::play::{Table, plays};
+use super::{EMITTED, PLACED, SEAT};
+
+/// What the second query's end is.
+const FOUND: &str = "Ok(Found(11, Items { items: [Some((InstId(0), 268435456))] }))";
+
+/// The name is looked up again.
+const AGAIN: Table = &[
+    By(SEAT, Call::LookUp(0, None), "Ok(Done(QueryId(2)))"),
+    By(SEAT, Call::Collect(2), FOUND),
+];
 
 #[test]
 fn a_lookup_of_what_is_ready(rt: HostRuntime) {
-    let alloc = rt.alloc();
-    let mut session = Session::<Named, Note, 64>::open(alloc).expect(&rt, "memory");
-    assert!(rt; prepares(alloc, &mut session));
-    assert!(rt; lookup_waits(alloc, &mut session, None));
-    assert!(rt; materializes(alloc, &mut session, &mut FiredList::new()));
-    assert!(rt; asks(alloc, &mut session, 0, "Ok(Done(QueryId(2)))"));
-    let found = "Ok(Found(11, Items { items: [Some((InstId(0), 268435456))] }))";
-    assert!(rt; reads(alloc, session.collect(SEAT, QueryId(2)), found));
-    assert_eq!(rt; session.journal().len(), 12);
-    end(&rt, session);
+    plays::<64>(&rt, rt.alloc(), &[PLACED, EMITTED, AGAIN], "entries: 12");
 }

@@ -1,133 +1,104 @@
 //! Each reply that can come so early in a session.
 
-use super::units::Named;
-use super::{
-    SEAT, SETUP, arm, ask, asks, defines, end, give_up, links, lookup_waits, prepares, reads,
-    removes, resolves, takes_none,
-};
-use execution_session::Session;
-use notifiers::FiredList;
-use orc_ids::{DylibId, NameId, OrderItem, QueryId, Scope, TrackId};
-use orc_io::Note;
-use std::alloc::Global;
+use super::calls::Call;
+use super::play::Step::{By, HandsOut};
+use super::play::{Table, plays};
+use super::units::{FIRST, Named};
+use super::{ASKED, PREPARED, SEAT, SETUP, WAITS};
+use orc_ids::{DylibId, NameId, OrderItem, Scope};
+
+const EARLY: Table = &[
+    By(SEAT, Call::Take, "Ok(Idle(0))"),
+    By(SEAT, Call::Tracker(4), "Ok(NoDylib(DylibId(4)))"),
+    By(SEAT, Call::LookUp(0, None), "Ok(NoDylib(DylibId(0)))"),
+    By(
+        SETUP,
+        Call::Define(0, 0, FIRST),
+        "Ok(NoDylib(DylibId(0))), unit back",
+    ),
+    By(SEAT, Call::Resolve, "Ok(WrongPhase(UnitId(0)))"),
+    By(SEAT, Call::Link, "Ok(WrongPhase(UnitId(0)))"),
+    By(SEAT, Call::Collect(9), "Ok(Unknown(QueryId(9)))"),
+];
 
 #[test]
 fn calls_before_there_is_anything(rt: HostRuntime) {
-    let alloc = rt.alloc();
-    let mut session = Session::<Named, Note, 64>::open(alloc).expect(&rt, "memory");
-    assert!(rt; takes_none(alloc, &mut session, "Ok(Idle(0))"));
-    let tracker = session.tracker(SEAT, DylibId(4));
-    assert!(rt; reads(alloc, tracker, "Ok(NoDylib(DylibId(4)))"));
-    assert!(rt; asks(alloc, &mut session, 0, "Ok(NoDylib(DylibId(0)))"));
-    assert!(rt;
-        defines(
-            alloc,
-            &mut session,
-            0,
-            Named::strong(0),
-            "Ok(NoDylib(DylibId(0)))"
-        )
-    );
-    assert!(rt; resolves(alloc, &mut session, "Ok(WrongPhase(UnitId(0)))"));
-    assert!(rt; links(alloc, &mut session, "Ok(WrongPhase(UnitId(0)))"));
-    let collected = session.collect(SEAT, QueryId(9));
-    assert!(rt; reads(alloc, collected, "Ok(Unknown(QueryId(9)))"));
-    assert_eq!(rt; session.journal().len(), 6);
-    end(&rt, session);
+    plays::<64>(&rt, rt.alloc(), &[EARLY], "entries: 6");
 }
+
+/// The exported names of the second dylib.
+const SECOND: OrderItem = OrderItem {
+    dylib: DylibId(1),
+    scope: Scope::Exported,
+};
+
+/// A strong definition of name 2.
+const STRONG: Named = Named {
+    name: NameId(2),
+    weak: false,
+    wants: None,
+    more: 47,
+};
 
 /// Another dylib is made, with a tracker.
-fn prepares_another<const JMAX: usize>(
-    alloc: Global,
-    session: &mut Session<Named, Note, JMAX>,
-) -> bool {
-    let taken = session.dylib(SETUP, NameId(7));
-    let made = session.dylib(SETUP, NameId(8));
-    let tracker = session.tracker(SETUP, DylibId(1));
-    reads(alloc, taken, "Ok(NameTaken(DylibId(0)))")
-        && reads(alloc, made, "Ok(Made(DylibId(1)))")
-        && reads(alloc, tracker, "Ok(Tracker(TrackId(1)))")
-}
+const ANOTHER: Table = &[
+    By(SETUP, Call::Dylib(7), "Ok(NameTaken(DylibId(0)))"),
+    By(SETUP, Call::Dylib(8), "Ok(Made(DylibId(1)))"),
+    By(SETUP, Call::Tracker(1), "Ok(Tracker(TrackId(1)))"),
+];
 
-/// A move to a tracker of another dylib is refused, and one to itself is not.
-fn moves<const JMAX: usize>(alloc: Global, session: &mut Session<Named, Note, JMAX>) -> bool {
-    let across = session.move_tracker(SETUP, TrackId(0), TrackId(1));
-    let itself = session.move_tracker(SETUP, TrackId(0), TrackId(0));
-    reads(alloc, across, "Ok(OtherDylib)") && reads(alloc, itself, "Ok(Moved)")
-}
-
-/// The first dylib links against the second.
-fn orders<const JMAX: usize>(alloc: Global, session: &mut Session<Named, Note, JMAX>) -> bool {
-    let item = OrderItem {
-        dylib: DylibId(1),
-        scope: Scope::Exported,
-    };
-    let set = session.set_order(SETUP, DylibId(0), &[item]);
-    reads(alloc, set, "Ok(Set)")
-}
+/// A move to a tracker of another dylib is refused, and one to itself is not; the first dylib links against
+/// the second; a tracker is removed once.
+const TRACKERS: Table = &[
+    By(SETUP, Call::MoveTracker(0, 1), "Ok(OtherDylib)"),
+    By(SETUP, Call::MoveTracker(0, 0), "Ok(Moved)"),
+    By(SETUP, Call::SetOrder(0, &[SECOND]), "Ok(Set)"),
+    By(SETUP, Call::Remove(1), "Ok(Removed)"),
+    By(SETUP, Call::Remove(1), "Ok(TrackerGone(TrackId(1)))"),
+    By(
+        SETUP,
+        Call::Define(0, 1, STRONG),
+        "Ok(TrackerGone(TrackId(1))), unit back",
+    ),
+];
 
 #[test]
 fn dylibs_and_trackers(rt: HostRuntime) {
-    let alloc = rt.alloc();
-    let mut session = Session::<Named, Note, 64>::open(alloc).expect(&rt, "memory");
-    let mut heard = FiredList::new();
-    assert!(rt; prepares(alloc, &mut session));
-    assert!(rt; prepares_another(alloc, &mut session));
-    assert!(rt; moves(alloc, &mut session));
-    assert!(rt; orders(alloc, &mut session));
-    assert!(rt; removes(alloc, &mut session, &mut heard, 1, "Ok(Removed)"));
-    assert!(rt;
-        removes(
-            alloc,
-            &mut session,
-            &mut heard,
-            1,
-            "Ok(TrackerGone(TrackId(1)))"
-        )
-    );
-    let gone = "Ok(TrackerGone(TrackId(1)))";
-    assert!(rt; defines(alloc, &mut session, 1, Named::strong(2), gone));
-    assert!(rt; heard.pop().is_none());
-    assert_eq!(rt; session.journal().len(), 12);
-    end(&rt, session);
+    let tables = &[PREPARED, ANOTHER, TRACKERS];
+    plays::<64>(&rt, rt.alloc(), tables, "entries: 12");
 }
+
+const WAIT_OR_MISS: Table = &[
+    By(
+        SEAT,
+        Call::LookUp(9, Some(1)),
+        "Ok(Missing(NameId(9))), notifier back",
+    ),
+    By(SEAT, Call::LookUp(0, Some(2)), WAITS),
+    By(SEAT, Call::Collect(0), "Ok(Open)"),
+    HandsOut(2),
+];
 
 #[test]
 fn lookups_that_wait_or_miss(rt: HostRuntime) {
-    let alloc = rt.alloc();
-    let mut session = Session::<Named, Note, 64>::open(alloc).expect(&rt, "memory");
-    let mut heard = FiredList::new();
-    assert!(rt; prepares(alloc, &mut session));
-    let then = arm(&rt, alloc, 1);
-    let (answer, back) = ask(&mut session, &mut heard, DylibId(0), NameId(9), then);
-    assert!(rt; give_up(back));
-    assert!(rt; reads(alloc, answer, "Ok(Missing(NameId(9)))"));
-    let then = arm(&rt, alloc, 2);
-    assert!(rt; lookup_waits(alloc, &mut session, then));
-    assert!(rt; reads(alloc, session.collect(SEAT, QueryId(0)), "Ok(Open)"));
-    assert_eq!(rt; session.journal().len(), 5);
-    assert!(rt; give_up(session.give_back()));
-    end(&rt, session);
+    plays::<64>(&rt, rt.alloc(), &[PREPARED, WAIT_OR_MISS], "entries: 5");
 }
+
+const FULL: Table = &[
+    By(SEAT, Call::Dylib(8), "Err(JournalFull(4))"),
+    By(SEAT, Call::Take, "Err(JournalFull(4))"),
+    By(SEAT, Call::Image, "Err(JournalFull(4))"),
+    By(SETUP, Call::Remove(0), "Err(JournalFull(4))"),
+    By(SEAT, Call::Collect(0), "Ok(Open)"),
+    By(SEAT, Call::Collect(1), "Err(JournalFull(4))"),
+    By(
+        SEAT,
+        Call::LookUp(0, Some(1)),
+        "Err(JournalFull(4)), notifier back",
+    ),
+];
 
 #[test]
 fn a_full_journal_stops_the_calls(rt: HostRuntime) {
-    let alloc = rt.alloc();
-    let mut session = Session::<Named, Note, 4>::open(alloc).expect(&rt, "memory");
-    let mut heard = FiredList::new();
-    let full = "Err(JournalFull(4))";
-    assert!(rt; prepares(alloc, &mut session));
-    assert!(rt; lookup_waits(alloc, &mut session, None));
-    assert!(rt; reads(alloc, session.dylib(SEAT, NameId(8)), full));
-    assert!(rt; takes_none(alloc, &mut session, full));
-    assert!(rt; reads(alloc, session.image(SEAT).answer, full));
-    assert!(rt; removes(alloc, &mut session, &mut heard, 0, full));
-    assert!(rt; reads(alloc, session.collect(SEAT, QueryId(0)), "Ok(Open)"));
-    assert!(rt; reads(alloc, session.collect(SEAT, QueryId(1)), full));
-    let then = arm(&rt, alloc, 1);
-    let (answer, back) = ask(&mut session, &mut heard, DylibId(0), NameId(0), then);
-    assert!(rt; give_up(back));
-    assert!(rt; reads(alloc, answer, full));
-    assert_eq!(rt; session.journal().len(), 4);
-    end(&rt, session);
+    plays::<4>(&rt, rt.alloc(), &[ASKED, FULL], "entries: 4");
 }

@@ -1,6 +1,7 @@
 //! The tests' unit.
 
-ghost use Rattle.std.specs.Prelude.{false, true, [], ◌∷◌, replicate, Some, None, cond, slice_get, unwrap_or};
+ghost use Rattle.std.specs.Prelude.{◌+◌, false, true, [], ◌∷◌, replicate, Some, None, ◌≡◌, IfOk};
+ghost use Rattle.std.specs.Option.{option_map_or};
 ghost use Rattle.orc_ids.specs.declared.ids.UnitName.TheVariants.{Absolute};
 
 use execution_session::{Finished, Finishes};
@@ -8,40 +9,34 @@ use orc_ids::{Bytes, DylibId, Group, InstId, Items, NameId, Shape, SymFlags, Uni
 use session_model::UnitKind;
 use std::alloc::{AllocError, Global};
 
-/// A unit with one name, at its start, and 48 bytes that are all 7.
-#[derive(Debug, Drop)]
+/// A unit with one name, at its start, and bytes that are all 7.
+#[derive(Clone, Copy, Debug)]
 pub(super) struct Named {
-    name: NameId,
-    weak: bool,
+    pub(super) name: NameId,
+    pub(super) weak: bool,
+    /// The name that it looks up, if it does.
+    pub(super) wants: Option<NameId>,
+    /// How many bytes it has after the first.
+    pub(super) more: u32,
 }
 
-impl Named {
-    /// A unit with this strong name.
-    pub(super) fn strong(name: u32) -> Named {
-        Named {
-            name: NameId(name),
-            weak: false,
-        }
-    }
-
-    /// A unit with this weak name.
-    pub(super) fn weak(name: u32) -> Named {
-        Named {
-            name: NameId(name),
-            weak: true,
-        }
-    }
-}
+/// A unit of 48 bytes with the strong name 0.
+pub(super) const FIRST: Named = Named {
+    name: NameId(0),
+    weak: false,
+    wants: None,
+    more: 47,
+};
 
 impl UnitKind for Named {
     ghost meaning = { λ u. record {
       name = Absolute 0;
       offers = (u.name, record { weak = u.weak; common = false; exported = true; callable = true }) ∷ [];
-      shape = λ live. Some (record { need = 48; align = 16 });
+      shape = λ live. Some (record { need = u.more + 1; align = 16 });
       address = λ k base. base;
       source = None;
-      externals = λ live. cond (unwrap_or (slice_get live 0) true) [] (record { name = u.name; weak = false } ∷ []);
-      image = λ live base bound. replicate 48 7;
+      externals = λ live. option_map_or (λ n. record { name = n; weak = false } ∷ []) u.wants [];
+      image = λ live base bound. replicate (u.more + 1) 7;
       groups = λ live base bound own. record { members = own; deps = [] } ∷ [];
       refusal = λ live base bound. None;
     } };
@@ -67,10 +62,7 @@ impl UnitKind for Named {
     }
 
     fn share(&self, _alloc: Global) -> Result<Named, AllocError> {
-        Ok(Named {
-            name: self.name,
-            weak: self.weak,
-        })
+        Ok(*self)
     }
 
     fn name(&self) -> UnitName {
@@ -79,7 +71,7 @@ impl UnitKind for Named {
 
     fn shape(&self, _live: &[bool]) -> Option<Shape> {
         Some(Shape {
-            need: 48,
+            need: self.more as u64 + 1,
             align: 16,
         })
     }
@@ -88,16 +80,25 @@ impl UnitKind for Named {
         base
     }
 
-    fn externals(&self, alloc: Global, live: &[bool]) -> Result<Vec<Wanted>, AllocError> {
+    fn externals(&self, alloc: Global, _live: &[bool]) -> Result<Vec<Wanted>, AllocError> {
         let mut wanted = Vec::new(alloc);
-        if !live[0] {
-            wanted.push(Wanted {
-                name: self.name,
-                weak: false,
-            })?;
+        if let Some(name) = self.wants {
+            wanted.push(Wanted { name, weak: false })?;
         }
         Ok(wanted)
     }
+}
+
+/// A group of all members, which depends on nothing.
+fn one_group(alloc: Global, own: &[InstId]) -> Result<Vec<Group>, AllocError>
+    ensures { IfOk result (λ groups. groups.items ≡ record { members = own.now; deps = [] } ∷ []) }
+{
+    let mut groups = Vec::new(alloc);
+    groups.push(Group {
+        members: Items::from_vec(own.to_vec(alloc)?),
+        deps: Items::new(alloc),
+    })?;
+    Ok(groups)
 }
 
 impl Finishes for Named {
@@ -109,14 +110,11 @@ impl Finishes for Named {
         _bound: &[Option<(InstId, u64)>],
         own: &[InstId],
     ) -> Result<Option<Finished>, AllocError> {
-        let mut groups = Vec::new(alloc);
-        groups.push(Group {
-            members: Items::from_vec(own.to_vec(alloc)?),
-            deps: Items::new(alloc),
-        })?;
+        let groups = one_group(alloc, own)?;
+        let bytes = vec![in alloc; 7; self.more as usize + 1]?;
         Ok(Some(Finished {
             groups: Items::from_vec(groups),
-            bytes: Bytes::copy_of(alloc, &[7; 48])?,
+            bytes: Bytes::from_vec(bytes),
         }))
     }
 }

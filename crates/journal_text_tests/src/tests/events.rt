@@ -1,223 +1,215 @@
 //! The form of each event.
 
-use super::{F, MAIN, NOSUCH, Named, VERSIONED, group, item, list, says, strong, weak};
-use orc_ids::{
-    DylibId, GenId, InstId, Items, Level, Place, QueryId, Scope, Shape, TrackId, UnitId, UnitName,
-};
-use session_model::{Event, Reply, Why};
+use super::reading::{check_each, says};
+use super::said::GroupRow;
+use super::{F, FIRST_ALL, I0, I1, I2, MAIN, NOSUCH, STRONG_MAIN, Said, Told, VERSIONED};
+use orc_ids::{DylibId, InstId, Level, OrderItem, Place, Scope, UnitName, Wanted};
+use session_model::Why;
+use std::alloc::Global;
+use std::process::Abort;
 use std::test::Fail;
+
+const DYLIBS_AND_TRACKERS: [(Said, Told, &str); 4] = [
+    (
+        Said::Dylib(VERSIONED),
+        Told::NameTaken(0),
+        "1 s12 dylib f@V1 = taken d0",
+    ),
+    (
+        Said::Tracker(0),
+        Told::TooMany,
+        "1 s12 tracker d0 = toomany",
+    ),
+    (Said::Move(7, 10), Told::Moved, "1 s12 move t7 t10 = moved"),
+    (Said::Remove(7), Told::Removed, "1 s12 remove t7 = removed"),
+];
 
 #[test]
 fn dylibs_and_trackers(rt: HostRuntime) -> Result<(), Fail> {
-    let alloc = rt.alloc();
-    let (d, t, to) = (DylibId(0), TrackId(7), TrackId(10));
-    says(
-        &rt,
-        alloc,
-        Event::Dylib(VERSIONED),
-        Reply::NameTaken(d),
-        b"1 s12 dylib f@V1 = taken d0\n",
-    )?;
-    says(
-        &rt,
-        alloc,
-        Event::Tracker(d),
-        Reply::TooMany,
-        b"1 s12 tracker d0 = toomany\n",
-    )?;
-    says(
-        &rt,
-        alloc,
-        Event::MoveTracker(t, to),
-        Reply::Moved,
-        b"1 s12 move t7 t10 = moved\n",
-    )?;
-    says(
-        &rt,
-        alloc,
-        Event::Remove(t),
-        Reply::Removed,
-        b"1 s12 remove t7 = removed\n",
-    )
+    check_each(&rt, rt.alloc(), &DYLIBS_AND_TRACKERS)
 }
+
+const TWO_ITEMS: [OrderItem; 2] = [
+    OrderItem {
+        dylib: DylibId(1),
+        scope: Scope::Exported,
+    },
+    OrderItem {
+        dylib: DylibId(20),
+        scope: Scope::All,
+    },
+];
+
+const ORDERS: [(Said, Told, &str); 2] = [
+    (
+        Said::Order(3, &TWO_ITEMS),
+        Told::Set,
+        "1 s12 order d3 d1:exported,d20:all = set",
+    ),
+    (Said::Order(3, &[]), Told::Set, "1 s12 order d3 = set"),
+];
 
 #[test]
 fn orders(rt: HostRuntime) -> Result<(), Fail> {
-    let alloc = rt.alloc();
-    let two = list(alloc, &[item(1, Scope::Exported), item(20, Scope::All)])?;
-    let set = Event::SetOrder(DylibId(3), two);
-    says(
-        &rt,
-        alloc,
-        set,
-        Reply::Set,
-        b"1 s12 order d3 d1:exported,d20:all = set\n",
-    )?;
-    let none = Event::SetOrder(DylibId(3), Items::new(alloc));
-    says(&rt, alloc, none, Reply::Set, b"1 s12 order d3 = set\n")
+    check_each(&rt, rt.alloc(), &ORDERS)
 }
+
+const UNITS_THAT_ARE_HANDED_IN: [(Said, Told, &str); 4] = [
+    (
+        Said::Attach(1, 2, UnitName::Object(30)),
+        Told::TrackerGone(2),
+        "1 s12 attach d1 t2 o30 = gone t2",
+    ),
+    (
+        Said::Define(1, 2, UnitName::Absolute(0)),
+        Told::NoDylib(1),
+        "1 s12 define d1 t2 a0 = nodylib d1",
+    ),
+    (
+        Said::Define(1, 2, UnitName::Alias(12)),
+        Told::Defined(1, 1, 1),
+        "1 s12 define d1 t2 l12 = defined u1 i1 1",
+    ),
+    (
+        Said::Generate(5),
+        Told::TooMany,
+        "1 s12 generate g5 = toomany",
+    ),
+];
 
 #[test]
 fn units_that_are_handed_in(rt: HostRuntime) -> Result<(), Fail> {
-    let alloc = rt.alloc();
-    let (d, t) = (DylibId(1), TrackId(2));
-    let attach = Event::Attach(d, t, Named(UnitName::Object(30)));
-    says(
-        &rt,
-        alloc,
-        attach,
-        Reply::TrackerGone(t),
-        b"1 s12 attach d1 t2 o30 = gone t2\n",
-    )?;
-    let define = Event::Define(d, t, Named(UnitName::Absolute(0)));
-    says(
-        &rt,
-        alloc,
-        define,
-        Reply::NoDylib(d),
-        b"1 s12 define d1 t2 a0 = nodylib d1\n",
-    )?;
-    let alias = Event::Define(d, t, Named(UnitName::Alias(12)));
-    says(
-        &rt,
-        alloc,
-        alias,
-        Reply::Defined(UnitId(1), InstId(1), 1),
-        b"1 s12 define d1 t2 l12 = defined u1 i1 1\n",
-    )?;
-    let generate = Event::Generate(GenId(5));
-    says(
-        &rt,
-        alloc,
-        generate,
-        Reply::TooMany,
-        b"1 s12 generate g5 = toomany\n",
-    )
+    check_each(&rt, rt.alloc(), &UNITS_THAT_ARE_HANDED_IN)
 }
+
+/// What lookups search and want.
+const ORDER: [OrderItem; 2] = [
+    FIRST_ALL,
+    OrderItem {
+        dylib: DylibId(2),
+        scope: Scope::Exported,
+    },
+];
+
+const WANTED: [Wanted; 3] = [
+    Wanted {
+        name: F,
+        weak: true,
+    },
+    Wanted {
+        name: VERSIONED,
+        weak: false,
+    },
+    Wanted {
+        name: MAIN,
+        weak: true,
+    },
+];
+
+const LOOKUPS: [(Said, Told, &str); 4] = [
+    (
+        Said::Ask(&[FIRST_ALL], &[STRONG_MAIN], Level::Ready, Some(0)),
+        Told::Pending(0),
+        "1 s12 watch 0 d0:all ready main = pending q0",
+    ),
+    (
+        Said::Ask(&ORDER, &WANTED, Level::Resolved, None),
+        Told::Done(0),
+        "1 s12 ask d0:all,d2:exported resolved f? f@V1 main? = done q0",
+    ),
+    (
+        Said::Ask(&[], &[], Level::Ready, None),
+        Told::Done(0),
+        "1 s12 ask ready = done q0",
+    ),
+    (
+        Said::Collect(0),
+        Told::Unknown(0),
+        "1 s12 collect q0 = unknown q0",
+    ),
+];
 
 #[test]
 fn lookups(rt: HostRuntime) -> Result<(), Fail> {
-    let alloc = rt.alloc();
-    let q = QueryId(0);
-    let order = list(alloc, &[item(0, Scope::All)])?;
-    let wanted = list(alloc, &[strong(MAIN)])?;
-    let watch = Event::Ask(order, wanted, Level::Ready, Some(0));
-    says(
-        &rt,
-        alloc,
-        watch,
-        Reply::Pending(q),
-        b"1 s12 watch 0 d0:all ready main = pending q0\n",
-    )?;
-    let order = list(alloc, &[item(0, Scope::All), item(2, Scope::Exported)])?;
-    let wanted = list(alloc, &[weak(F), strong(VERSIONED), weak(MAIN)])?;
-    let ask = Event::Ask(order, wanted, Level::Resolved, None);
-    let line = b"1 s12 ask d0:all,d2:exported resolved f? f@V1 main? = done q0\n";
-    says(&rt, alloc, ask, Reply::Done(q), line)?;
-    let empty = Event::Ask(Items::new(alloc), Items::new(alloc), Level::Ready, None);
-    says(
-        &rt,
-        alloc,
-        empty,
-        Reply::Done(q),
-        b"1 s12 ask ready = done q0\n",
-    )?;
-    says(
-        &rt,
-        alloc,
-        Event::Collect(q),
-        Reply::Unknown(q),
-        b"1 s12 collect q0 = unknown q0\n",
-    )
+    check_each(&rt, rt.alloc(), &LOOKUPS)
 }
+
+const TWO_GROUPS: [GroupRow; 2] = [(&[I0, I1], &[I2, InstId(9)]), (&[InstId(3)], &[])];
+
+const EMITTED: [(Said, Told, &str); 2] = [
+    (
+        Said::Emit(4, &TWO_GROUPS),
+        Told::Emitted,
+        "1 s12 emit u4 i0,i1:i2,i9;i3: = emitted",
+    ),
+    (Said::Emit(4, &[]), Told::Emitted, "1 s12 emit u4 = emitted"),
+];
 
 #[test]
 fn groups_that_are_emitted(rt: HostRuntime) -> Result<(), Fail> {
-    let alloc = rt.alloc();
-    let u = UnitId(4);
-    let own = group(alloc, &[InstId(0), InstId(1)], &[InstId(2), InstId(9)])?;
-    let alone = group(alloc, &[InstId(3)], &[])?;
-    let two = Items::from_vec(vec![in alloc; own, alone]?);
-    let emit = Event::Emit(u, two);
-    says(
-        &rt,
-        alloc,
-        emit,
-        Reply::Emitted,
-        b"1 s12 emit u4 i0,i1:i2,i9;i3: = emitted\n",
-    )?;
-    let none = Event::Emit(u, Items::new(alloc));
-    says(
-        &rt,
-        alloc,
-        none,
-        Reply::Emitted,
-        b"1 s12 emit u4 = emitted\n",
-    )
+    check_each(&rt, rt.alloc(), &EMITTED)
 }
+
+const CALLS_ON_A_UNIT: [(Said, Told, &str); 3] = [
+    (
+        Said::Place(4, 67_108_865, 4_096),
+        Told::NoRoom(67_108_865),
+        "1 s12 place u4 67108865 4096 = noroom 67108865",
+    ),
+    (
+        Said::Resolve(4),
+        Told::Defunct(4),
+        "1 s12 resolve u4 = defunct u4",
+    ),
+    (Said::Link(4), Told::Missing(F), "1 s12 link u4 = missing f"),
+];
 
 #[test]
 fn calls_on_a_unit(rt: HostRuntime) -> Result<(), Fail> {
-    let alloc = rt.alloc();
-    let u = UnitId(4);
-    let shape = Shape {
-        need: 67_108_865,
-        align: 4_096,
-    };
-    let place = Event::Place(u, shape);
-    let line = b"1 s12 place u4 67108865 4096 = noroom 67108865\n";
-    says(&rt, alloc, place, Reply::NoRoom(67_108_865), line)?;
-    says(
-        &rt,
-        alloc,
-        Event::Resolve(u),
-        Reply::Defunct(u),
-        b"1 s12 resolve u4 = defunct u4\n",
-    )?;
-    says(
-        &rt,
-        alloc,
-        Event::Link(u),
-        Reply::Missing(F),
-        b"1 s12 link u4 = missing f\n",
-    )
+    check_each(&rt, rt.alloc(), &CALLS_ON_A_UNIT)
 }
+
+/// The first of the causes that another line is written for.
+fn other_cause<'a>(alloc: Global, rows: &[(Why, &'a str)]) -> Result<Option<&'a str>, Fail> {
+    for (why, text) in rows {
+        let line = ["1 s12 fail u4 ", *text, " = failed\n"];
+        if !says(alloc, &Said::Fail(4, *why), &Told::Failed, &line)? {
+            return Ok(Some(*text));
+        }
+    }
+    Ok(None)
+}
+
+/// Each of the causes is written so.
+fn check_causes(rt: &impl Abort, alloc: Global, rows: &[(Why, &str)]) -> Result<(), Fail> {
+    assert_eq!(rt; other_cause(alloc, rows)?, None);
+    Ok(())
+}
+
+const PLACE: Place = Place {
+    block: 1,
+    offset: 20,
+};
+
+const CAUSES_OF_A_FAILURE: [(Why, &str); 9] = [
+    (
+        Why::Refused(PLACE, 17, -268_435_456),
+        "refused 1 20 17 -268435456",
+    ),
+    (
+        Why::Refused(PLACE, 26, 2_147_481_600),
+        "refused 1 20 26 2147481600",
+    ),
+    (Why::Missing(NOSUCH), "missing nosuch"),
+    (Why::InError(InstId(3)), "inerror i3"),
+    (Why::AliasCycle(InstId(0)), "aliascycle i0"),
+    (Why::BadDep(InstId(2)), "baddep i2"),
+    (Why::NoRoom(48), "noroom 48"),
+    (Why::NoMemory, "nomemory"),
+    (Why::Full, "full"),
+];
 
 #[test]
 fn causes_of_a_failure(rt: HostRuntime) -> Result<(), Fail> {
-    let alloc = rt.alloc();
-    let place = Place {
-        block: 1,
-        offset: 20,
-    };
-    let causes = [
-        (
-            Why::Refused(place, 17, -268_435_456),
-            b"refused 1 20 17 -268435456".as_slice(),
-        ),
-        (
-            Why::Refused(place, 26, 2_147_481_600),
-            b"refused 1 20 26 2147481600",
-        ),
-        (Why::Missing(NOSUCH), b"missing nosuch"),
-        (Why::InError(InstId(3)), b"inerror i3"),
-        (Why::AliasCycle(InstId(0)), b"aliascycle i0"),
-        (Why::BadDep(InstId(2)), b"baddep i2"),
-        (Why::NoRoom(48), b"noroom 48"),
-        (Why::NoMemory, b"nomemory"),
-        (Why::Full, b"full"),
-    ];
-    for (why, text) in causes {
-        let mut line = b"1 s12 fail u4 ".to_vec(alloc)?;
-        line.extend_from_slice(text)?;
-        line.extend_from_slice(b" = failed\n")?;
-        says(
-            &rt,
-            alloc,
-            Event::Fail(UnitId(4), why),
-            Reply::Failed,
-            &line,
-        )?;
-    }
-    Ok(())
+    check_causes(&rt, rt.alloc(), &CAUSES_OF_A_FAILURE)
 }

@@ -1,27 +1,19 @@
 //! Objects that need each other are linked by one pass, and run.
 
-ghost use Rattle.std.specs.Prelude.{◌≡◌, None, IfOk};
-ghost use Rattle.session_units.specs.Units.{meaning_of};
-ghost use Rattle.turn_lock.specs.Handles.{view, turn_id, IsReady};
-ghost use Rattle.link_worker.specs.Works.{IsFree};
-
-use super::{entries, is_found, looks, makes_dylib, makes_tracker};
+use super::play::{End, Step, played};
+use super::{ALL, FIRST};
 use elf_read::read_object;
-use exec_run::{Ran, RunEnd, run};
+use exec_run::RunEnd;
 use link_graph::graph_of;
-use link_worker::LinkedUnit;
-use orc_ids::{DylibId, Stop, TrackId, UnitName};
-use orc_io::Note;
+use orc_ids::Level::Ready;
+use orc_ids::{NameId, UnitName, Wanted};
 use orc_names::Names;
-use session_model::Reply;
 use session_units::ObjectUnit;
-use shared_session::{CopyMemory, Define, Pass, Shared, open};
 use std::alloc::Global;
-use std::sync::Wait;
 use std::test::Fail;
 
 /// What GNU as makes of `.globl main; main: tail f; .globl g; g: addi a0, zero, 7; ret`.
-const FIRST: [u8; 1048] = [
+const FIRST_OBJECT: [u8; 1048] = [
     127, 69, 76, 70, 2, 1, 1, 0, 0, 0, 0, 0, 0, 0, 0, 0, 1, 0, 243, 0, 1, 0, 0, 0, 0, 0, 0, 0, 0,
     0, 0, 0, 0, 0, 0, 0, 0, 0, 0, 0, 216, 1, 0, 0, 0, 0, 0, 0, 0, 0, 0, 0, 64, 0, 0, 0, 0, 0, 64,
     0, 9, 0, 8, 0, 23, 3, 0, 0, 103, 0, 3, 0, 19, 5, 112, 0, 103, 128, 0, 0, 65, 39, 0, 0, 0, 114,
@@ -61,7 +53,7 @@ const FIRST: [u8; 1048] = [
 ];
 
 /// What it makes of `.globl f; f: tail g`.
-const SECOND: [u8; 1008] = [
+const SECOND_OBJECT: [u8; 1008] = [
     127, 69, 76, 70, 2, 1, 1, 0, 0, 0, 0, 0, 0, 0, 0, 0, 1, 0, 243, 0, 1, 0, 0, 0, 0, 0, 0, 0, 0,
     0, 0, 0, 0, 0, 0, 0, 0, 0, 0, 0, 176, 1, 0, 0, 0, 0, 0, 0, 0, 0, 0, 0, 64, 0, 0, 0, 0, 0, 64,
     0, 9, 0, 8, 0, 23, 3, 0, 0, 103, 0, 3, 0, 65, 39, 0, 0, 0, 114, 105, 115, 99, 118, 0, 1, 29, 0,
@@ -100,76 +92,36 @@ const SECOND: [u8; 1008] = [
 ];
 
 /// The unit of an object.
-fn unit_of(alloc: Global, names: &mut Names, bytes: &[u8], k: u32) -> Result<ObjectUnit, Fail>
-    ensures { IfOk result (λ unit. (meaning_of unit).source ≡ None) }
-{
+fn unit_of(alloc: Global, names: &mut Names, bytes: &[u8], k: u32) -> Result<ObjectUnit, Fail> {
     let object = read_object(alloc, bytes)?;
     let graph = graph_of(alloc, &object, names)?;
     Ok(ObjectUnit::of_graph(alloc, UnitName::Object(k), graph)?)
 }
 
-/// A unit, which is no alias, is defined in the first dylib.
-fn defines<U: LinkedUnit, R: Wait, const JMAX: usize>(
-    rt: &R,
-    shared: &Shared<U, Note, JMAX>,
-    pass: &mut Pass<U, Note, JMAX>,
-    unit: U,
-) -> Result<Reply, Stop>
-    requires ready { IsReady (turn_id shared.now) pass.old }
-    requires free { IsFree U.meaning (view pass.old) }
-    requires source { (U.meaning unit).source ≡ None }
-    ensures ready { IsReady (turn_id shared.now) pass.new }
-    ensures free { IsFree U.meaning (view pass.new) }
-{
-    let define = Define {
-        dylib: DylibId(0),
-        tracker: TrackId(0),
-        unit,
-    };
-    shared.perform(rt, pass, define).answer
-}
-
-/// How the run of a shared session's memory from the start of code memory ends.
-fn runs<U: LinkedUnit, R: Wait, const JMAX: usize>(
-    rt: &R,
-    alloc: Global,
-    shared: &Shared<U, Note, JMAX>,
-    pass: &mut Pass<U, Note, JMAX>,
-    fuel: u64,
-) -> Option<RunEnd>
-    requires ready { IsReady (turn_id shared.now) pass.old }
-    ensures ready { IsReady (turn_id shared.now) pass.new }
-{
-    let image = shared.perform(rt, pass, CopyMemory).image?;
-    let Ran { end, .. } = run(alloc, &image, 0x1000_0000, &[], fuel).ok()?;
-    Some(end)
+/// The units of both objects, and what the entry is called.
+fn two_units(alloc: Global) -> Result<([ObjectUnit; 2], NameId), Fail> {
+    let mut names = Names::new(alloc);
+    let first = unit_of(alloc, &mut names, FIRST_OBJECT.as_slice(), 0)?;
+    let second = unit_of(alloc, &mut names, SECOND_OBJECT.as_slice(), 1)?;
+    let main = names.find(b"main").ok_or("no entry")?;
+    Ok(([first, second], main))
 }
 
 /// `main` calls `f` of the second object, which calls `g` of the first one: both are ready at once.
 #[test]
 fn a_cycle_of_two_objects_is_linked_and_run(rt: HostRuntime) -> Result<(), Fail> {
-    let alloc = rt.alloc();
-    let mut names = Names::new(alloc);
-    let first = unit_of(alloc, &mut names, FIRST.as_slice(), 0)?;
-    let second = unit_of(alloc, &mut names, SECOND.as_slice(), 1)?;
-    let main = names.find(b"main").ok_or("no entry")?;
-    let Ok((shared, mut pass)) = open::<ObjectUnit, Note, 64>(alloc, 1) else {
-        return Err(Fail::from("memory"));
-    };
-    assert!(rt; makes_dylib(&rt, &shared, &mut pass).is_ok());
-    assert!(rt; makes_tracker(&rt, &shared, &mut pass).is_ok());
-    assert!(rt; defines(&rt, &shared, &mut pass, first).is_ok());
-    assert!(rt; defines(&rt, &shared, &mut pass, second).is_ok());
-    let end = looks(&rt, alloc, &shared, &mut pass, main.0);
-    assert!(rt; is_found(&end));
-    assert_eq!(rt;
-        runs(&rt, alloc, &shared, &mut pass, 12),
-        Some(RunEnd::Exited(7))
-    );
-    assert_eq!(rt;
-        runs(&rt, alloc, &shared, &mut pass, 11),
-        Some(RunEnd::OutOfFuel)
-    );
-    assert_eq!(rt; entries(&rt, shared, pass), 20);
+    let (units, name) = two_units(rt.alloc())?;
+    let entry = Wanted { name, weak: false };
+    let steps = [
+        Step::Dylib,
+        Step::Tracker,
+        Step::Define(0),
+        Step::Define(1),
+        Step::Look(&[ALL], &[entry], Ready, End::Found(1, FIRST)),
+        Step::Run(12, RunEnd::Exited(7)),
+        Step::Run(11, RunEnd::OutOfFuel),
+    ];
+    let ended = played::<ObjectUnit, 64>(&rt, rt.alloc(), &units, &steps);
+    assert_eq!(rt; ended, Ok(20));
     Ok(())
 }

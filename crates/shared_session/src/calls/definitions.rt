@@ -18,8 +18,8 @@ pub struct Define<U> {
 impl<U: UnitKind, N: Notify, const JMAX: usize> Call<Home<U, N, JMAX>> for Define<U> {
     ghost use Rattle.session_model.specs.Answer.{HasSource};
     ghost use Rattle.session_model.specs.declared.entry.Event.TheVariants as event;
-    ghost use Rattle.execution_session.specs.Performs.{state_of};
-    ghost use Rattle.execution_session.specs.Given.{HandsBack};
+    ghost use Rattle.session_steps.specs.Performs.{state_of};
+    ghost use Rattle.session_steps.specs.Given.{HandsBack};
     ghost use Rattle.shared_session.specs.Does.{Keeps};
     ghost use Rattle.shared_session.specs.Single.{performed_once};
     ghost use Rattle.shared_session.specs.Carried.{source_is_carried};
@@ -51,8 +51,8 @@ pub struct Attach<U> {
 impl<U: UnitKind, N: Notify, const JMAX: usize> Call<Home<U, N, JMAX>> for Attach<U> {
     ghost use Rattle.session_model.specs.Answer.{HasSource};
     ghost use Rattle.session_model.specs.declared.entry.Event.TheVariants as event;
-    ghost use Rattle.execution_session.specs.Performs.{state_of};
-    ghost use Rattle.execution_session.specs.Given.{HandsBackGenerator};
+    ghost use Rattle.session_steps.specs.Performs.{state_of};
+    ghost use Rattle.session_steps.specs.Given.{HandsBackGenerator};
     ghost use Rattle.shared_session.specs.Does.{Keeps};
     ghost use Rattle.shared_session.specs.Single.{performed_once};
     ghost use Rattle.shared_session.specs.Carried.{source_is_carried};
@@ -81,7 +81,7 @@ pub struct Generate {
 
 impl<U: UnitKind, N: Notify, const JMAX: usize> Call<Home<U, N, JMAX>> for Generate {
     ghost use Rattle.session_model.specs.declared.entry.Event.TheVariants as event;
-    ghost use Rattle.execution_session.specs.Performs.{Performs};
+    ghost use Rattle.session_steps.specs.Performs.{Performs};
     ghost use Rattle.shared_session.specs.Does.{seat};
     ghost use Rattle.shared_session.specs.Single.{performed_once};
 

@@ -14,7 +14,7 @@ pub struct MakeDylib {
 
 impl<U: UnitKind, N: Notify, const JMAX: usize> Call<Home<U, N, JMAX>> for MakeDylib {
     ghost use Rattle.session_model.specs.declared.entry.Event.TheVariants as event;
-    ghost use Rattle.execution_session.specs.Performs.{Performs};
+    ghost use Rattle.session_steps.specs.Performs.{Performs};
     ghost use Rattle.shared_session.specs.Does.{seat};
     ghost use Rattle.shared_session.specs.Single.{performed_once};
 
@@ -44,7 +44,7 @@ impl<'a, U: UnitKind, N: Notify, const JMAX: usize> Call<Home<U, N, JMAX>> for S
     ghost use Rattle.std.specs.Prelude.{◌≤◌, length};
     ghost use Rattle.orc_ids.specs.declared.limits.TheConstants.{ORDER_LIMIT};
     ghost use Rattle.session_model.specs.declared.entry.Event.TheVariants as event;
-    ghost use Rattle.execution_session.specs.Performs.{Performs};
+    ghost use Rattle.session_steps.specs.Performs.{Performs};
     ghost use Rattle.shared_session.specs.Does.{seat};
     ghost use Rattle.shared_session.specs.Single.{performed_once};
 

@@ -20,7 +20,7 @@ impl<'a, U: UnitKind, N: Notify, const JMAX: usize> Call<Home<U, N, JMAX>> for A
     ghost use Rattle.std.specs.Prelude.{◌≤◌, length, option_map};
     ghost use Rattle.orc_ids.specs.declared.limits.TheConstants.{ORDER_LIMIT, WANTED_LIMIT};
     ghost use Rattle.session_model.specs.declared.entry.Event.TheVariants as event;
-    ghost use Rattle.execution_session.specs.Lookups.{BacksNotifier};
+    ghost use Rattle.session_steps.specs.Lookups.{BacksNotifier};
     ghost use Rattle.shared_session.specs.Does.{Tells};
     ghost use Rattle.shared_session.specs.Single.{performed_once};
 
@@ -52,7 +52,7 @@ pub struct Collect {
 }
 
 impl<U: UnitKind, N: Notify, const JMAX: usize> Call<Home<U, N, JMAX>> for Collect {
-    ghost use Rattle.execution_session.specs.Performs.{Collects};
+    ghost use Rattle.session_steps.specs.Performs.{Collects};
     ghost use Rattle.shared_session.specs.Does.{seat};
     ghost use Rattle.shared_session.specs.Single.{collected_once};
 

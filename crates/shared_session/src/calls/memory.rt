@@ -13,8 +13,8 @@ pub struct CopyMemory;
 
 impl<U: UnitKind, N: Notify, const JMAX: usize> Call<Home<U, N, JMAX>> for CopyMemory {
     ghost use Rattle.session_model.specs.declared.entry.Event.TheVariants as event;
-    ghost use Rattle.execution_session.specs.Performs.{Performs};
-    ghost use Rattle.execution_session.specs.Handed.{IsCopied};
+    ghost use Rattle.session_steps.specs.Performs.{Performs};
+    ghost use Rattle.session_steps.specs.Handed.{IsCopied};
     ghost use Rattle.shared_session.specs.Does.{seat};
     ghost use Rattle.shared_session.specs.Single.{performed_once};
 

@@ -15,7 +15,7 @@ pub struct MakeTracker {
 
 impl<U: UnitKind, N: Notify, const JMAX: usize> Call<Home<U, N, JMAX>> for MakeTracker {
     ghost use Rattle.session_model.specs.declared.entry.Event.TheVariants as event;
-    ghost use Rattle.execution_session.specs.Performs.{Performs};
+    ghost use Rattle.session_steps.specs.Performs.{Performs};
     ghost use Rattle.shared_session.specs.Does.{seat};
     ghost use Rattle.shared_session.specs.Single.{performed_once};
 
@@ -43,7 +43,7 @@ pub struct MoveTracker {
 
 impl<U: UnitKind, N: Notify, const JMAX: usize> Call<Home<U, N, JMAX>> for MoveTracker {
     ghost use Rattle.session_model.specs.declared.entry.Event.TheVariants as event;
-    ghost use Rattle.execution_session.specs.Performs.{Performs};
+    ghost use Rattle.session_steps.specs.Performs.{Performs};
     ghost use Rattle.shared_session.specs.Does.{seat};
     ghost use Rattle.shared_session.specs.Single.{performed_once};
 

@@ -22,11 +22,6 @@ impl Named {
             weak: false,
         }
     }
-
-    /// Whether it offers this name.
-    pub(super) fn is_named(&self, name: u32) -> bool {
-        self.name == NameId(name)
-    }
 }
 
 impl UnitKind for Named {

@@ -1,5 +1,5 @@
 use Rattle.std.proofs.Common.{refl, rules}
-use Rattle.block_groups.proofs.Searches.{came_noted, came_more, same_more}
+use Rattle.block_groups.proofs.Searches.{came_noted}
 use Rattle.block_groups.proofs.backwards.come_to.Goals as goal
 
 pub returns-in_ok-push-clause-noted : goal.returns-in_ok-push-clause-noted

@@ -1,4 +1,4 @@
-use Rattle.std.proofs.Common.{◌≡◌, ◌<◌, ◌≤◌, false, get_or, length, refl, sym, ◌∙◌, arith}
+use Rattle.std.proofs.Common.{◌<◌, ◌≤◌, false, length, refl, sym, ◌∙◌, arith}
 use Rattle.std.proofs.lemmas.List.{get_or_default}
 use Rattle.block_groups.proofs.Searches.{read_handed, found_within, hands_past, hands_next, hands_clear, hands_all}
 use Rattle.block_groups.proofs.backwards.hand_out.Goals.{then-index+in_ok-push, else-index}

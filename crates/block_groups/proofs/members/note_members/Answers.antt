@@ -1,7 +1,7 @@
-use Rattle.std.proofs.Common.{◌≡◌, ◌<◌, ℕ, length, get_or, sym, ap, ◌∙◌, arith}
+use Rattle.std.proofs.Common.{◌<◌, ℕ, length, get_or, sym, ap, ◌∙◌, arith}
 use Rattle.link_model.specs.declared.graph.GPlace.TheVariants.{In}
 use Rattle.block_groups.specs.Members.{list_of}
-use Rattle.block_groups.proofs.Instances.{list_there, members_next, members_past}
+use Rattle.block_groups.proofs.Instances.{members_next, members_past}
 use Rattle.block_groups.proofs.members.note_members.Goals.{in-Some+in_ok-push, in_default}
 use Rattle.block_groups.proofs.members.note_members.Goals as goal
 

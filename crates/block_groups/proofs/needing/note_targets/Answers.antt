@@ -1,4 +1,4 @@
-use Rattle.std.proofs.Common.{◌≡◌, length, get_or, pos, refl}
+use Rattle.std.proofs.Common.{length, get_or, pos, refl}
 use Rattle.std.proofs.lemmas.List.{get_or_default}
 use Rattle.link_model.specs.declared.graph.Edge.{Edge}
 use Rattle.block_groups.specs.Keys.{target_of}

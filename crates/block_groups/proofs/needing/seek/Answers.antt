@@ -1,4 +1,4 @@
-use Rattle.std.proofs.Common.{◌≡◌, ℕ, List, length, subst, sym, ap, ◌∙◌, arith}
+use Rattle.std.proofs.Common.{ℕ, List, length, subst, arith}
 use Rattle.std.specs.Prelude.{Contains}
 use Rattle.std.proofs.lemmas.Result.{on_ok_weaker}
 use Rattle.block_groups.specs.Groups.{leads_to}

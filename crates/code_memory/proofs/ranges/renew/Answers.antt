@@ -12,7 +12,7 @@ use Rattle.code_memory.proofs.ranges.renew.Goals as goal
 
 pub count_based_below-kept-requires : goal.count_based_below-kept-requires
 count_based_below-kept-requires c =
-    subst (IsNonDecreasingBy (λ s. s.base)) (sym c.as_slice.ensures.value) (rising_bases CODE_START c.args.copies.now.items CODE_END c.requires.segments)
+    subst (IsNonDecreasingBy (λ s. s.base)) (sym c.as_slice.ensures.value) (rising_bases CODE_START c.args.segments.now.items CODE_END c.requires.segments)
 
 pub returns : goal.returns
 returns c =

@@ -1,77 +1,66 @@
 -- One group more is added.
-use Rattle.std.proofs.Common.{◌≡◌, ◌∙◌, ◌<◌, ◌+◌, ℕ, Some, length, vec_len, subst, sym, arith}
-use Rattle.std.specs.Prelude.{slice_get}
-use Rattle.dep_groups.specs.declared.graph.Node.{Node}
+use Rattle.std.proofs.Common.{◌≡◌, ◌∙◌, ◌<◌, ◌+◌, ◌-◌, ℕ, length, subst, sym, arith}
+use Rattle.orc_ids.specs.declared.groups.Group.{Group}
 use Rattle.dep_groups.specs.Added.{AreFresh}
-use Rattle.dep_groups.specs.Adding.{total, AreAdded}
-use Rattle.dep_groups.proofs.Addings.{still_fresh, added_next, held_added, unlinked_first, unlinked_more, added_none, room_less, room_popped, last_of, before_last}
+use Rattle.dep_groups.specs.Adding.{AreAdded}
+use Rattle.dep_groups.proofs.Addings.{RoomFor, still_fresh, added_next, held_added, unlinked_first, unlinked_more, added_none, room_first, room_one, room_split}
 use Rattle.dep_groups.proofs.add.add_all.Goals as goal
 
 pub add-requires-clause-members : goal.add-requires-clause-members
 add-requires-clause-members c = λ m named.
-    let rest = c.pop.new.self in
-    let node : Node = c.in-Some.node in
-    let here : slice_get c.loop-node.nodes.items (vec_len rest) ≡ Some node = last_of c.loop-node.nodes.items rest.items node (vec_len rest) c.in-Some.ensures.items rest.ok.0 in
-    subst (λ n. m.0 < n) (sym c.loop-node.invariant.added.homes) (c.requires.members.members (vec_len rest) node m (c.loop-node.invariant.left (vec_len rest) node here) named)
+    subst (λ n. m.0 < n) (sym c.loop-left.invariant.added.homes) (c.requires.members.members (c.loop-left.left - 1) c.group_at.result.now m c.group_at.ensures named)
 
 pub add-requires-clause-deps : goal.add-requires-clause-deps
 add-requires-clause-deps c = λ d named.
-    let rest = c.pop.new.self in
-    let node : Node = c.in-Some.node in
-    let here : slice_get c.loop-node.nodes.items (vec_len rest) ≡ Some node = last_of c.loop-node.nodes.items rest.items node (vec_len rest) c.in-Some.ensures.items rest.ok.0 in
-    subst (λ n. d < n) (sym (c.loop-node.invariant.added.firsts ∙ c.requires.firsts)) (c.requires.members.deps (vec_len rest) node d (c.loop-node.invariant.left (vec_len rest) node here) named)
+    subst (λ n. d.0 < n) (sym (c.loop-left.invariant.added.firsts ∙ c.requires.firsts)) (c.requires.members.deps (c.loop-left.left - 1) c.group_at.result.now d c.group_at.ensures named)
 
 pub add-requires-clause-firsts : goal.add-requires-clause-firsts
-add-requires-clause-firsts c = c.loop-node.invariant.added.firsts ∙ c.requires.firsts ∙ sym c.loop-node.invariant.added.homes
+add-requires-clause-firsts c = c.loop-left.invariant.added.firsts ∙ c.requires.firsts ∙ sym c.loop-left.invariant.added.homes
 
 pub add-requires-clause-fresh : goal.add-requires-clause-fresh
 add-requires-clause-fresh c =
-    let rest = c.pop.new.self in
-    let node : Node = c.in-Some.node in
-    let here : slice_get c.loop-node.nodes.items (vec_len rest) ≡ Some node = last_of c.loop-node.nodes.items rest.items node (vec_len rest) c.in-Some.ensures.items rest.ok.0 in
-    let less : vec_len rest < vec_len c.loop-node.nodes = omega (arith, c.in-Some.ensures.len) in
-    still_fresh c.args.core.now c.loop-node.core c.args.nodes.now.items (vec_len c.loop-node.nodes) (vec_len rest) node less (c.loop-node.invariant.left (vec_len rest) node here) c.requires.fresh c.requires.apart c.loop-node.invariant.added
+    still_fresh c.args.core.now c.loop-left.core c.args.groups.now c.loop-left.left (c.loop-left.left - 1) c.group_at.result.now (omega (arith, c.loop-left-test.true)) c.group_at.ensures c.requires.fresh c.requires.apart c.loop-left.invariant.added
 
 pub add-requires-clause-room : goal.add-requires-clause-room
 add-requires-clause-room c =
-    let rest = c.pop.new.self in
-    let node : Node = c.in-Some.node in
-    room_less c.loop-node.core (length rest.items) (vec_len node.deps) (total rest.items) (room_popped c.loop-node.core c.loop-node.nodes.items rest.items node c.in-Some.ensures.items c.loop-node.invariant.room)
+    let k : ℕ = c.loop-left.left - 1 in
+    let next : c.loop-left.left ≡ k + 1 = omega (arith, c.loop-left-test.true) in
+    let group : Group = c.group_at.result.now in
+    room_one c.loop-left.core k (length group.members) (length group.deps) _ _ (room_split c.loop-left.core c.args.groups.now k group c.group_at.ensures (subst (λ n. RoomFor c.loop-left.core c.args.groups.now n) next c.loop-left.invariant.room))
 
-pub loop-node-init : goal.loop-node-init
-loop-node-init c =
-    let core = c.args.core.now in
-    let nodes = c.args.nodes.now in
+pub loop-left-preserved : goal.loop-left-preserved
+loop-left-preserved c =
+    let i = c.loop-left.invariant in
+    let e = c.add.ensures in
+    let mid = c.loop-left.core in
+    let new = c.add.new.core in
+    let start = c.args.core.now in
+    let all = c.args.groups.now in
+    let k : ℕ = c.loop-left.left - 1 in
+    let next : c.loop-left.left ≡ k + 1 = omega (arith, c.loop-left-test.true) in
+    let group : Group = c.group_at.result.now in
+    let is = c.group_at.ensures in
+    let fresh : AreFresh mid.graph group.members = still_fresh start mid all c.loop-left.left k group (omega (arith, next)) is c.requires.fresh c.requires.apart i.added in
     record {
-      left = λ k n is. is;
-      room = c.requires.room;
+      within = omega (arith, i.within);
+      room = e.added.room k _ _ (room_split mid all k group is (subst (λ n. RoomFor mid all n) next i.room));
+      sound = e.sound;
+      indexed = e.indexed;
+      held = held_added start mid new all k group is fresh i.sound e.added (length start.graph.nodes.items) i.added.longer i.held;
+      unlinked = unlinked_more mid.links.items new.links.items (length start.graph.nodes.items) e.added.links i.unlinked;
+      added = added_next start mid new all k group is fresh i.sound e.added (subst (λ (n : ℕ). AreAdded start mid all n) next i.added);
+    }
+
+pub loop-left-init : goal.loop-left-init
+loop-left-init c =
+    let core = c.args.core.now in
+    let all = c.args.groups.now in
+    record {
+      within = omega arith;
+      room = room_first core all c.requires.room;
       sound = c.requires.sound;
       indexed = c.requires.indexed;
       held = c.requires.held;
       unlinked = unlinked_first core c.requires.sound;
-      added = added_none core nodes.items (vec_len nodes) (omega (arith, nodes.ok.0));
-    }
-
-pub loop-node-preserved : goal.loop-node-preserved
-loop-node-preserved c =
-    let i = c.loop-node.invariant in
-    let e = c.add.ensures in
-    let mid = c.loop-node.core in
-    let new = c.add.new.core in
-    let start = c.args.core.now in
-    let all = c.args.nodes.now.items in
-    let rest = c.pop.new.self in
-    let node : Node = c.in-Some.node in
-    let is = i.left (vec_len rest) node (last_of c.loop-node.nodes.items rest.items node (vec_len rest) c.in-Some.ensures.items rest.ok.0) in
-    let one : vec_len c.loop-node.nodes ≡ vec_len rest + 1 = omega (arith, c.in-Some.ensures.len) in
-    let less : vec_len rest < vec_len c.loop-node.nodes = omega (arith, one) in
-    let fresh : AreFresh mid.graph node.members.items = still_fresh start mid all (vec_len c.loop-node.nodes) (vec_len rest) node less is c.requires.fresh c.requires.apart i.added in
-    record {
-      left = λ k x at. i.left k x (before_last c.loop-node.nodes.items rest.items node k x c.in-Some.ensures.items at);
-      room = e.added.room (length rest.items) (total rest.items) (room_popped mid c.loop-node.nodes.items rest.items node c.in-Some.ensures.items i.room);
-      sound = e.sound;
-      indexed = e.indexed;
-      unlinked = unlinked_more mid.links.items new.links.items (length start.graph.nodes.items) e.added.links i.unlinked;
-      held = held_added start mid new all (vec_len rest) node is fresh i.sound e.added (length start.graph.nodes.items) i.added.longer i.held;
-      added = added_next start mid new all (vec_len rest) node is fresh i.sound e.added (subst (λ (n : ℕ). AreAdded start mid all n) one i.added);
+      added = added_none core all _ (omega arith);
     }

@@ -15,8 +15,8 @@ keep : (old new : ℕ → Option ℕ) (homes : List (Option ℕ)) (members : Lis
 keep old new homes members g n same (inl e) = inl (same ∙ e)
 keep old new homes members g n same (inr e) = inr (e.0, same ∙ e.1)
 
-pub put-requires : goal.put-requires
-put-requires c = subst (λ n. (get_or c.args.members.now c.loop-member.member-index none).0 < n) (sym c.loop-member.invariant.sizes) (c.requires.within (get_or c.args.members.now c.loop-member.member-index none) (at_contains c.args.members.now c.loop-member.member-index (get_or c.args.members.now c.loop-member.member-index none) (slice_get-get_or c.args.members.now c.loop-member.member-index none c.loop-member-test.true)))
+pub put-requires-clause-within : goal.put-requires-clause-within
+put-requires-clause-within c = subst (λ n. (get_or c.args.members.now c.loop-member.member-index none).0 < n) (sym c.loop-member.invariant.sizes) (c.requires.within (get_or c.args.members.now c.loop-member.member-index none) (at_contains c.args.members.now c.loop-member.member-index (get_or c.args.members.now c.loop-member.member-index none) (slice_get-get_or c.args.members.now c.loop-member.member-index none c.loop-member-test.true)))
 
 pub loop-member-preserved : goal.loop-member-preserved
 loop-member-preserved c =

@@ -44,7 +44,7 @@ loop-next-smaller c =
     let graph = c.args.graph.now in
     let edge : Edge = c.index-in-Some.result.now in
     let is = edge_there graph.edges.items c.in-Some.mention edge (c.loop-next.invariant.within c.in-Some.mention c.in-Some.is) c.index-in-Some.ensures in
-    left_falls c.loop-next.next edge.next c.in-Some.mention c.in-Some.is (λ j next. c.requires.complete.indexed.falls c.in-Some.mention j edge is next)
+    left_falls c.loop-next.next c.get-next.result c.in-Some.mention c.in-Some.is (λ j next. c.requires.complete.indexed.falls c.in-Some.mention j edge is (sym c.get-next.ensures ∙ next))
 
 pub loop-next-preserved : goal.loop-next-preserved
 loop-next-preserved c =
@@ -60,12 +60,12 @@ loop-next-preserved c =
       swept = e.swept;
       hits = hit_then (entries_of graph) c.args.hits.now c.loop-next.hits c.hit_group.new.hits i.hits e.hits;
       more = more_then c.args.trail.now c.loop-next.trail c.hit_group.new.trail i.more e.more;
-      within = λ k next. let less = c.requires.complete.indexed.falls c.in-Some.mention k edge is next in omega (arith, less, below);
-      rest = λ g listed. i.rest g (subst (λ (o : Option ℕ). IsListed graph.edges.items o g) (sym c.in-Some.is) (later edge is listed));
+      within = λ k next. let less = c.requires.complete.indexed.falls c.in-Some.mention k edge is (sym c.get-next.ensures ∙ next) in omega (arith, less, below);
+      rest = λ g listed. i.rest g (subst (λ (o : Option ℕ). IsListed graph.edges.items o g) (sym c.in-Some.is) (later edge is (subst (λ (o : Option ℕ). IsListed graph.edges.items o g) c.get-next.ensures listed)));
       seen = λ g listed. ⊎_elim (λ (was : is_set c.loop-next.trail.seen.items g ≡ true). inl (e.more.seen g was))
           (λ (left : IsListed graph.edges.items c.loop-next.next g). ⊎_elim
           (λ (same : edge.group ≡ g). inl (subst (λ (n : ℕ). is_set c.hit_group.new.trail.seen.items n ≡ true) (group ∙ same) e.seen))
-          (λ (further : IsListed graph.edges.items edge.next g). inr further)
+          (λ (further : IsListed graph.edges.items edge.next g). inr (subst (λ (o : Option ℕ). IsListed graph.edges.items o g) (sym c.get-next.ensures) further))
           (listed_next graph.edges.items c.loop-next.next c.in-Some.mention g edge c.in-Some.is is left)) (i.seen g listed);
     }
 

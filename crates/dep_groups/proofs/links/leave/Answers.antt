@@ -12,22 +12,22 @@ set-requires c = place_within c.args.heads.now c.args.instance c.args.group c.re
 pub returns-clause-ends : goal.returns-clause-ends
 returns-clause-ends c =
     ends_left c.args.graph.now c.args.links.now c.empty.new.places c.args.nexts.now c.args.heads.now c.set.new.places c.args.group c.args.instance
-    c.empty.ensures (λ n. c.set.ensures n ∙ ap (λ (o : Option ℕ). cond (c.args.instance == n) o (place c.args.heads.now n)) c.at.ensures) c.requires.ends
+    c.empty.ensures (λ n. c.set.ensures n ∙ ap (λ (o : Option ℕ). cond (c.args.instance == n) o (place c.args.heads.now n)) c.slot_at.ensures) c.requires.ends
 
 pub returns-clause-leads : goal.returns-clause-leads
 returns-clause-leads c =
     leads_left c.args.graph.now c.args.links.now c.empty.new.places c.args.nexts.now c.args.heads.now c.set.new.places c.args.group c.args.instance
-    c.empty.ensures (λ n. c.set.ensures n ∙ ap (λ (o : Option ℕ). cond (c.args.instance == n) o (place c.args.heads.now n)) c.at.ensures) c.requires.leads
+    c.empty.ensures (λ n. c.set.ensures n ∙ ap (λ (o : Option ℕ). cond (c.args.instance == n) o (place c.args.heads.now n)) c.slot_at.ensures) c.requires.leads
 
 pub returns-clause-queued : goal.returns-clause-queued
 returns-clause-queued c =
     queued_left c.args.graph.now c.args.links.now c.empty.new.places c.args.nexts.now c.args.heads.now c.set.new.places c.args.group c.args.instance
-    c.empty.ensures (λ n. c.set.ensures n ∙ ap (λ (o : Option ℕ). cond (c.args.instance == n) o (place c.args.heads.now n)) c.at.ensures) c.requires.head c.requires.queued
+    c.empty.ensures (λ n. c.set.ensures n ∙ ap (λ (o : Option ℕ). cond (c.args.instance == n) o (place c.args.heads.now n)) c.slot_at.ensures) c.requires.head c.requires.queued
 
 pub returns-clause-was : goal.returns-clause-was
 returns-clause-was c =
     link_head c.args.graph.now c.args.links.now c.empty.new.places c.args.nexts.now c.args.heads.now c.set.new.places c.args.group c.args.instance
-    c.empty.ensures (λ n. c.set.ensures n ∙ ap (λ (o : Option ℕ). cond (c.args.instance == n) o (place c.args.heads.now n)) c.at.ensures) c.requires.head c.requires.queued
+    c.empty.ensures (λ n. c.set.ensures n ∙ ap (λ (o : Option ℕ). cond (c.args.instance == n) o (place c.args.heads.now n)) c.slot_at.ensures) c.requires.head c.requires.queued
 
 pub returns-clause-unlinked : goal.returns-clause-unlinked
 returns-clause-unlinked c = written_here (place c.args.links.now) (place c.empty.new.places) c.args.group None c.empty.ensures

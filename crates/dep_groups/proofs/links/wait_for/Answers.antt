@@ -10,17 +10,17 @@ use Rattle.dep_groups.proofs.links.wait_for.Goals as goal
 pub returns-clause-ends : goal.returns-clause-ends
 returns-clause-ends c =
     ends_entered c.args.graph.now c.args.links.now c.put-2.new.places c.args.nexts.now c.set.new.places c.args.heads.now c.put.new.places c.args.group c.args.to
-    c.put-2.ensures (λ n. c.set.ensures n ∙ ap (λ (o : Option ℕ). cond (c.args.group == n) o (place c.args.nexts.now n)) c.at.ensures) c.put.ensures c.requires.found c.requires.queued c.requires.ends
+    c.put-2.ensures (λ n. c.set.ensures n ∙ ap (λ (o : Option ℕ). cond (c.args.group == n) o (place c.args.nexts.now n)) c.slot_at.ensures) c.put.ensures c.requires.found c.requires.queued c.requires.ends
 
 pub returns-clause-leads : goal.returns-clause-leads
 returns-clause-leads c =
     leads_entered c.args.graph.now c.args.links.now c.put-2.new.places c.args.nexts.now c.set.new.places c.args.heads.now c.put.new.places c.args.group c.args.to
-    c.put-2.ensures (λ n. c.set.ensures n ∙ ap (λ (o : Option ℕ). cond (c.args.group == n) o (place c.args.nexts.now n)) c.at.ensures) c.put.ensures c.requires.found c.requires.leads
+    c.put-2.ensures (λ n. c.set.ensures n ∙ ap (λ (o : Option ℕ). cond (c.args.group == n) o (place c.args.nexts.now n)) c.slot_at.ensures) c.put.ensures c.requires.found c.requires.leads
 
 pub returns-clause-queued : goal.returns-clause-queued
 returns-clause-queued c =
     queued_entered c.args.graph.now c.args.links.now c.put-2.new.places c.args.nexts.now c.set.new.places c.args.heads.now c.put.new.places c.args.group c.args.to
-    c.put-2.ensures (λ n. c.set.ensures n ∙ ap (λ (o : Option ℕ). cond (c.args.group == n) o (place c.args.nexts.now n)) c.at.ensures) c.put.ensures c.requires.unlinked c.requires.queued
+    c.put-2.ensures (λ n. c.set.ensures n ∙ ap (λ (o : Option ℕ). cond (c.args.group == n) o (place c.args.nexts.now n)) c.slot_at.ensures) c.put.ensures c.requires.unlinked c.requires.queued
 
 pub returns-clause-held : goal.returns-clause-held
 returns-clause-held c = record {

@@ -18,11 +18,11 @@ loop-group-preserved c =
       room = e.room;
       capacity = e.capacity ∙ i.capacity;
       tells = tells_then c.args.ready.now c.loop-group.ready c.mark_members.new.marks c.args.told.now.items c.loop-group.told.items c.mark_members.new.told.items i.tells e.tells;
-      marked = λ k v m below is named member. each_more c.args.trail.now.order.items c.loop-group.group-index (λ (v : ℕ). (m : InstId) → Contains (members_of c.args.nodes.now v) m → place c.args.homes.now m.0 ≡ Some v → is_set c.mark_members.new.marks m.0 ≡ true)
+      marked = λ k v m below is named member. each_more c.args.trail.now.order.items c.loop-group.group-index (λ (v : ℕ). (m : InstId) → Contains (members_of c.args.nodes.now.items v) m → place c.args.homes.now m.0 ≡ Some v → is_set c.mark_members.new.marks m.0 ≡ true)
           (λ k v below is m named member. e.tells.stays m.0 (i.marked k v m below is named member))
           (λ v is m named member.
           let group : get_or c.deref-group-items.result.now c.loop-group.group-index 0 ≡ v = get_or_from_slice_get c.deref-group-items.result.now c.loop-group.group-index v 0 (subst (λ (us : List ℕ). slice_get us c.loop-group.group-index ≡ Some v) (sym c.deref-group-items.ensures.value) is) in
-          e.marked m (subst (λ (ms : List InstId). Contains ms m) (sym (c.members_of-members.ensures ∙ ap (members_of c.args.nodes.now) group)) named) (member ∙ ap Some (sym group))) k v below is m named member;
+          e.marked m (subst (λ (ms : List InstId). Contains ms m) (sym (c.members_of-members.ensures ∙ ap (members_of c.args.nodes.now.items) group)) named) (member ∙ ap Some (sym group))) k v below is m named member;
       only = λ n is. ⊎_elim (λ (was : is_set c.loop-group.ready n ≡ true). i.only n was) (λ (here : place c.args.homes.now n ≡ Some (get_or c.deref-group-items.result.now c.loop-group.group-index 0)). inr (record {
         at = c.loop-group.group-index;
         group = get_or c.deref-group-items.result.now c.loop-group.group-index 0;

@@ -12,6 +12,6 @@ invariant-loop-group l = record {
   room : vec_len l.told + unset l.ready ≤ vec_capacity l.told;
   capacity : vec_capacity l.told ≡ vec_capacity l.initial.told;
   tells : Tells l.initial.ready l.ready l.initial.told.items l.told.items;
-  marked : (k v : ℕ) (m : InstId) → k < l.group-index → slice_get l.trail.order.items k ≡ Some v → Contains (members_of l.nodes v) m → place l.homes m.0 ≡ Some v → is_set l.ready m.0 ≡ true;
+  marked : (k v : ℕ) (m : InstId) → k < l.group-index → slice_get l.trail.order.items k ≡ Some v → Contains (members_of l.nodes.items v) m → place l.homes m.0 ≡ Some v → is_set l.ready m.0 ≡ true;
   only : (i : ℕ) → is_set l.ready i ≡ true → (is_set l.initial.ready i ≡ true) ⊎ IsOfTrail l.homes l.trail.order.items i;
 }

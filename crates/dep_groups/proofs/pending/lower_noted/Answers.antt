@@ -1,15 +1,14 @@
 -- The flags of what one visit more depends on are taken back.
-use Rattle.std.proofs.Common.{◌≡◌, ◌<◌, ◌≤◌, ◌∙◌, ⊎_elim, ℕ, List, Contains, subst, sym, ap, arith}
+use Rattle.std.proofs.Common.{◌≡◌, ◌<◌, ◌≤◌, ◌∙◌, ⊎_elim, ℕ, List, Contains, subst, sym, arith}
 use Rattle.std.proofs.lemmas.Bool.{cases_lt, false_from_ne_true}
-use Rattle.dep_groups.specs.declared.graph.Node.{Node}
 use Rattle.dep_groups.specs.Places.{is_set}
-use Rattle.dep_groups.specs.Shape.{deps_of, deps_in}
+use Rattle.dep_groups.specs.Shape.{deps_in}
 use Rattle.dep_groups.specs.Search.{IsVisit}
 use Rattle.dep_groups.proofs.Trails.{same_visit, visit_below}
 use Rattle.dep_groups.proofs.pending.lower_noted.Goals as goal
 
 pub lower_each-requires : goal.lower_each-requires
-lower_each-requires c = record { within = λ d named. subst (λ n. d < n) (sym c.loop-k.invariant.places) (c.requires.within.within c.group_at.result d (subst (λ (ds : List ℕ). Contains ds d) (c.deps_of.ensures ∙ ap (λ (ns : List Node). deps_of ns c.group_at.result) c.deref.ensures.value) named)) }
+lower_each-requires c = record { within = λ d named. subst (λ n. d < n) (sym c.loop-k.invariant.places) (c.requires.within.within c.group_at.result d (subst (λ (ds : List ℕ). Contains ds d) c.deps_of.ensures named)) }
 
 pub loop-k-preserved : goal.loop-k-preserved
 loop-k-preserved c =
@@ -17,7 +16,7 @@ loop-k-preserved c =
     let order = c.args.trail.now.order.items in
     let i = c.loop-k.invariant in
     let at = c.group_at.ensures in
-    let list : c.deps_of.result.now ≡ deps_in graph c.group_at.result = c.deps_of.ensures ∙ ap (λ (ns : List Node). deps_of ns c.group_at.result) c.deref.ensures.value in
+    let list : c.deps_of.result.now ≡ deps_in graph c.group_at.result = c.deps_of.ensures in
     record {
       places = c.lower_each.auto.flags ∙ i.places;
       left = λ n is. i.left n (c.lower_each.ensures n is).0;

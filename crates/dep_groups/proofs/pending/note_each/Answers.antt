@@ -1,8 +1,6 @@
 -- One dependency more was looked at.
-use Rattle.std.proofs.Common.{◌∙◌, ℕ, List, ap, subst, arith}
+use Rattle.std.proofs.Common.{◌∙◌, ℕ, subst, arith}
 use Rattle.std.proofs.lemmas.Option.{get_or_from_slice_get}
-use Rattle.dep_groups.specs.declared.graph.Node.{Node}
-use Rattle.dep_groups.specs.Shape.{deps_of}
 use Rattle.dep_groups.specs.Pending.{IsCovered}
 use Rattle.dep_groups.proofs.Lists.{each_more}
 use Rattle.dep_groups.proofs.Trails.{more_then}
@@ -11,7 +9,7 @@ use Rattle.dep_groups.proofs.pending.note_each.Goals as goal
 
 pub returns-clause-covered : goal.returns-clause-covered
 returns-clause-covered c =
-    covered_from c.args.graph.now c.args.trail.now c.loop-k.trail c.loop-k.flags c.args.from c.group_at.result c.loop-k.k c.deps_of-deps.result.now c.group_at.ensures c.loop-k.invariant.more (c.deps_of-deps.ensures ∙ ap (λ (ns : List Node). deps_of ns c.group_at.result) c.deref.ensures.value) (omega arith) c.loop-k.invariant.covered
+    covered_from c.args.graph.now c.args.trail.now c.loop-k.trail c.loop-k.flags c.args.from c.group_at.result c.loop-k.k c.deps_of-deps.result.now c.group_at.ensures c.loop-k.invariant.more c.deps_of-deps.ensures (omega arith) c.loop-k.invariant.covered
 
 pub note_one-count-requires-clause-within : goal.note_one-count-requires-clause-within
 note_one-count-requires-clause-within c = within_same c.args.graph.now c.args.flags.now c.loop-k.flags c.loop-k.invariant.places c.requires.within

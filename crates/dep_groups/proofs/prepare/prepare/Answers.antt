@@ -19,6 +19,7 @@ returns-clause-alike c = let t = c.reserve_tables.ensures in let g = c.reserve_g
   order = t.same.order;
   order_room = t.same.order_room;
   heads_size = omega (arith, c.grow_places.ensures.len, c.grow_places.new.places.ok.0, w.sizes.0);
+  few = λ was. omega (arith, w.sizes.0, c.in_ok-check_places.ensures);
   more = omega (arith, w.sizes.0, c.in_ok-needs.ensures.places, c.len.ensures, c.args.core.now.graph.homes.ok.0);
   size = w.sizes.2 ∙ sym w.sizes.0;
   room = omega (arith, x.len, x.capacity, unset_few c.grow.new.graph.ready.items, w.sizes.2, c.in_ok-reserve_tables.ensures.room.told, c.reserve_tables.ensures.same.count);

@@ -1,7 +1,7 @@
 -- The group is linked, or it and what it depends on is ready.
 use Rattle.std.proofs.Common.{◌≡◌, ◌∙◌, ◌⊎◌, ℕ, List, Bool, Option, [], ◌∷◌, ◌++◌, true, inl, inr, length, subst, sym, ap, Vec, Global, vec_len, vec_capacity, ◌+◌, ◌≤◌}
 use Rattle.std.specs.Vec.{with_items}
-use Rattle.dep_groups.specs.declared.graph.Node.{Node}
+use Rattle.dep_groups.specs.Nodes.{Node}
 use Rattle.std.proofs.lemmas.List.{with_items_is}
 use Rattle.dep_groups.specs.Places.{is_set, unset}
 use Rattle.dep_groups.specs.Search.{IsTrail, IsVisit, ArePassed}
@@ -29,8 +29,8 @@ seek-found-requires-clause-first c =
 pub returns-in-Some-clause-tells : goal.returns-in-Some-clause-tells
 returns-in-Some-clause-tells c = tells_none c.args.core.now.graph.ready.items c.args.core.now.told.items
 
-marked_as : (hs homes : List (Option ℕ)) (ns nodes : List Node) (rs ready : List Bool) (order : List ℕ) → hs ≡ homes → ns ≡ nodes → ready ≡ rs → AreMarked hs ns rs order → AreMarked homes nodes ready order
-marked_as hs homes ns nodes rs ready order a b c m = subst (λ xs. AreMarked xs nodes ready order) a (subst (λ xs. AreMarked hs xs ready order) b (subst (λ xs. AreMarked hs ns xs order) (sym c) m))
+marked_as : (hs homes : List (Option ℕ)) (nodes : List Node) (rs ready : List Bool) (order : List ℕ) → hs ≡ homes → ready ≡ rs → AreMarked hs nodes rs order → AreMarked homes nodes ready order
+marked_as hs homes nodes rs ready order a c m = subst (λ xs. AreMarked xs nodes ready order) a (subst (λ xs. AreMarked hs nodes xs order) (sym c) m)
 
 old : (new was : List Bool) (homes tables : List (Option ℕ)) (order : List ℕ) (i : ℕ) → new ≡ was → homes ≡ tables → (is_set new i ≡ true) ⊎ IsOfTrail homes order i → (is_set was i ≡ true) ⊎ IsOfTrail tables order i
 old new was homes tables order i same table (inl e) = inl (subst (λ (xs : List Bool). is_set xs i ≡ true) same e)
@@ -54,7 +54,7 @@ returns-in-None-clause-sound c =
     let is : ready.items ≡ c.mark_all.new.ready = with_items_is core.graph.ready c.mark_all.new.ready (c.mark_all.auto.ready ∙ c.deref_mut-in-None.ensures.len) in
     let passed : cursors.items ≡ c.seek-found.new.cursors = with_items_is core.cursors c.seek-found.new.cursors (c.seek-found.auto.cursors ∙ c.deref_mut.ensures.len) in
     sound_marked core ready trail cursors c.clear-in-None.new.trail c.mark_all.new.told s c.seek-found.ensures.trail c.in-None.ensures.found
-    (marked_as c.deref-in-None.result.now core.graph.homes.items c.deref-in-None-2.result.now core.graph.nodes.items c.mark_all.new.ready ready.items trail.order.items c.deref-in-None.ensures.value c.deref-in-None-2.ensures.value is e.marked)
+    (marked_as c.deref-in-None.result.now core.graph.homes.items core.graph.nodes.items c.mark_all.new.ready ready.items trail.order.items c.deref-in-None.ensures.value is e.marked)
     (λ i was. subst (λ (xs : List Bool). is_set xs i ≡ true) (sym is) (e.tells.stays i (subst (λ (xs : List Bool). is_set xs i ≡ true) (sym c.deref_mut-in-None.ensures.value) was)))
     (λ i now. old c.deref_mut-in-None.result.now core.graph.ready.items c.deref-in-None.result.now core.graph.homes.items trail.order.items i c.deref_mut-in-None.ensures.value c.deref-in-None.ensures.value (e.only i (subst (λ (xs : List Bool). is_set xs i ≡ true) is now)))
     (subst (λ (xs : List ℕ). ArePassed core.graph xs) (sym passed) c.seek-found.ensures.cursors)
@@ -67,6 +67,7 @@ returns-in-None-clause-sound c =
       seen = c.clear-in-None.ensures.sizes ∙ c.seek-found.ensures.more.groups ∙ c.come_to.ensures.sizes.0 ∙ s.sizes.seen;
       ready = ap length is ∙ c.mark_all.auto.ready ∙ ap length c.deref_mut-in-None.ensures.value ∙ s.sizes.ready;
       few = s.sizes.few;
+      places_few = s.sizes.places_few;
     })
     (subst (λ (xs : List Bool). vec_len c.mark_all.new.told + unset xs ≤ vec_capacity c.mark_all.new.told) (sym is) e.room)
 
@@ -78,5 +79,5 @@ returns-in-None-clause-settled c = λ i member.
     let is : ready.items ≡ c.mark_all.new.ready = with_items_is core.graph.ready c.mark_all.new.ready (c.mark_all.auto.ready ∙ c.deref_mut-in-None.ensures.len) in
     let first = first_kept c.come_to.new.trail.order.items trail.order.items c.seek-found.ensures.more.kept c.args.group (c.come_to.ensures.order ∙ ap (λ (o : List ℕ). o ++ c.args.group ∷ []) c.requires.sound.clear.empty) in
     inl (seen_marked core ready trail c.requires.sound c.seek-found.ensures.trail
-    (marked_as c.deref-in-None.result.now core.graph.homes.items c.deref-in-None-2.result.now core.graph.nodes.items c.mark_all.new.ready ready.items trail.order.items c.deref-in-None.ensures.value c.deref-in-None-2.ensures.value is c.mark_all.ensures.marked)
+    (marked_as c.deref-in-None.result.now core.graph.homes.items core.graph.nodes.items c.mark_all.new.ready ready.items trail.order.items c.deref-in-None.ensures.value is c.mark_all.ensures.marked)
     i c.args.group member (record { at = 0; is = first }))

@@ -1,8 +1,6 @@
 -- What is found may be waited for.
-use Rattle.std.proofs.Common.{◌<◌, ◌∙◌, List, Contains, subst, sym, ap, vec_len}
+use Rattle.std.proofs.Common.{◌<◌, List, Contains, subst, sym, vec_len}
 use Rattle.orc_ids.specs.declared.ids.InstId.{InstId}
-use Rattle.dep_groups.specs.declared.graph.Node.{Node}
-use Rattle.dep_groups.specs.Marks.{members_of}
 use Rattle.dep_groups.specs.Search.{IsExhausted, IsOpen}
 use Rattle.dep_groups.specs.Links.{IsFound}
 use Rattle.dep_groups.specs.Seek.{AreOwn, IsOther}
@@ -26,8 +24,7 @@ returns-clause-found c =
     let graph = c.args.graph.now in
     let trail = c.args.trail.now in
     let g = c.args.group in
-    let members = c.members_of.ensures ∙ ap (λ (ns : List Node). members_of ns g) c.deref.ensures.value in
     either_way c.first_other.result (AreOwn graph g) (IsExhausted graph trail (vec_len trail.order)) (λ to. IsOther graph g to) (λ to. IsFound graph c.args.heads.now g to)
     (own_exhausted graph trail g c.requires.trail c.requires.first c.requires.one)
     (λ to o. found_other graph c.args.heads.now _ g to c.requires.wired c.requires.members
-    (λ m named. c.is_wanted.ensures c.if-is_wanted.false m (subst (λ (ms : List InstId). Contains ms m) (sym members) named)) o) c.first_other.ensures.found
+    (λ m named. c.is_wanted.ensures c.if-is_wanted.false m (subst (λ (ms : List InstId). Contains ms m) (sym c.members_of.ensures) named)) o) c.first_other.ensures.found

@@ -1,6 +1,7 @@
 -- The range in the middle has the address, ends before it or begins after it.
 use Rattle.std.proofs.Common.{◌≤◌, ◌+◌, ◌-◌, ◌/◌, ◌<◌, subst, sym, length, arith}
-use Rattle.exec_run.proofs.Regions.{IsSearched, search_starts, search_up, search_down, search_ends, segments_rise, some_item, base_of, end_of, not_less}
+use Rattle.list_laws.proofs.Lists.{some_below}
+use Rattle.exec_run.proofs.Regions.{IsSearched, search_starts, search_up, search_down, search_ends, segments_rise, base_of, end_of, not_less}
 use Rattle.exec_run.proofs.find.search.Goals as goal
 
 pub loop-low-init : goal.loop-low-init
@@ -14,7 +15,7 @@ loop-low-preserved-then-base-at c =
     let ss = c.args.ranges.now in
     let middle = c.loop-low.low + (c.loop-low.high - c.loop-low.low) / 2 in
     let less : middle < length ss = omega (arith, c.loop-low.invariant.within) in
-    let m = some_item ss middle less in
+    let m = some_below ss middle less in
     let base = base_of _ m.0 c.base.result m.1 c.base.ensures in
     let from : m.0.base ≤ c.args.at = omega (arith, base, c.if-base-at.true) in
     let ends : end_of m.0 ≤ c.args.at =
@@ -29,7 +30,7 @@ loop-low-preserved c =
     let ss = c.args.ranges.now in
     let middle = c.loop-low.low + (c.loop-low.high - c.loop-low.low) / 2 in
     let less : middle < length ss = omega (arith, c.loop-low.invariant.within) in
-    let m = some_item ss middle less in
+    let m = some_below ss middle less in
     let base = base_of _ m.0 c.base.result m.1 c.base.ensures in
     record {
       within = omega (arith, c.loop-low.invariant.within);

@@ -1,9 +1,8 @@
 use Rattle.std.proofs.Common.{◌≡◌, ap, subst, ◌∙◌, refl, IfErr}
 use Rattle.orc_ids.specs.declared.lookup.Stop.TheVariants as stop
 use Rattle.session_model.specs.declared.entry.Event.TheVariants as event
-use Rattle.execution_session.specs.Performs.{state_of}
-use Rattle.execution_session.proofs.NewUnits.{told_step, did_perform, lacked_memory}
-use Rattle.execution_session.proofs.Standing.{stands, can_step, did_step}
+use Rattle.session_steps.specs.Performs.{state_of}
+use Rattle.session_steps.proofs.Declared.{told_step, did_perform, lacked_memory, stands, can_step, did_step}
 use Rattle.execution_session.proofs.attachments.enter_attached.Goals as goal
 use Rattle.execution_session.proofs.attachments.enter_attached.Goals.{in-Ok, in-Err}
 

@@ -2,9 +2,9 @@ use Rattle.std.proofs.Common.{◌≡◌, ap, sym, subst, ◌∙◌, refl, rules,
 use Rattle.std.specs.Prelude.{◌≢◌, Err}
 use Rattle.session_model.specs.declared.entry.Event.TheVariants as event
 use Rattle.execution_session.specs.Collected.{is_open}
-use Rattle.execution_session.specs.Performs.{state_of, Collects}
+use Rattle.session_steps.specs.Performs.{state_of, Collects}
 use Rattle.execution_session.proofs.Collected.{says_settled, has_no_open, collect_step, collects_entered, collects_stopped}
-use Rattle.execution_session.proofs.Standing.{stands, stopped, can_step, did_step}
+use Rattle.session_steps.proofs.Declared.{stands, stopped, can_step, did_step}
 use Rattle.execution_session.proofs.collecting.enter_end.Goals as goal
 
 pub check_places-requires : goal.check_places-requires

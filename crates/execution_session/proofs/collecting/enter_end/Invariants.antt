@@ -1,5 +1,5 @@
 -- The journal's places are those of the session that it led to.
-use Rattle.execution_session.specs.Performs.{state_of}
+use Rattle.session_steps.specs.Performs.{state_of}
 use Rattle.execution_session.proofs.collecting.enter_end.Given as goal
 
 abbrev pub ghost-check_places : goal.ghost-check_places

@@ -7,11 +7,9 @@ use Rattle.query_book.specs.Ledger.{IsTold, IsSeen}
 use Rattle.session_parts.specs.Dues.{WaitsOpen, WaitsOwn}
 use Rattle.session_parts.specs.Ends.{noted}
 use Rattle.session_parts.specs.Parts.{AreParts}
-use Rattle.execution_session.specs.Rest.{IsAtRest}
-use Rattle.execution_session.specs.Fires.{AreFires}
-use Rattle.execution_session.proofs.Counting.{plain_length}
-use Rattle.execution_session.proofs.Rested.{plain_push, rows_after, entering, rested, told_by, place_left}
-use Rattle.execution_session.proofs.Telling.{fires_are}
+use Rattle.session_steps.specs.Rest.{IsAtRest}
+use Rattle.session_steps.specs.Fires.{AreFires}
+use Rattle.session_steps.proofs.Declared.{plain_length, plain_push, rows_after, entering, rested, told_by, place_left, fires_are}
 use Rattle.execution_session.proofs.entering.enter.Goals as goal
 
 pub push_reserved-requires : goal.push_reserved-requires
@@ -57,9 +55,9 @@ returns-clause-rest g c =
     let e = c.args.entry in
     let told = c.settle.ensures in
     subst (λ es. IsAtRest g.U.UnitKind.meaning g.row.JMAX c.settle.new.self es (vec_capacity c.push_reserved.new.self)) (sym c.push_reserved.ensures.items)
-    (rested g.U.UnitKind.meaning g.row.JMAX h (vec_capacity c.args.journal.now) (vec_capacity c.push_reserved.new.self) e c.args.parts.now c.settle.new.self c.count-at.result can c.push_reserved.ensures.capacity (search rules) (record {
+    (rested g.U.UnitKind.meaning g.row.JMAX h (vec_capacity c.args.journal.now) (vec_capacity c.push_reserved.new.self) e c.args.parts.now c.settle.new.self c.entry_count-at.result can c.push_reserved.ensures.capacity (search rules) (record {
       parts = subst (λ m. AreParts g.U.UnitKind.meaning c.settle.new.self (settled m)) same told.parts;
-      ends = told.ends ∙ ap (λ m. noted (record m { entries = c.count-at.result }) m.queries c.args.parts.now.book.ends) same;
+      ends = told.ends ∙ ap (λ m. noted (record m { entries = c.entry_count-at.result }) m.queries c.args.parts.now.book.ends) same;
       queries = told.queries ∙ ap (λ m. m.queries) same;
       due = told.handed_out;
       seen = subst (λ m. IsSeen (stand_at m.rows) c.settle.new.self.book) same told.seen;
@@ -73,12 +71,12 @@ returns-clause-fires g c =
     let h = c.args.journal.now.items in
     let e = c.args.entry in
     let told = c.settle.ensures in
-    let count : c.count-at.result ≡ length (h ++ e ∷ []) = search rules in
+    let count : c.entry_count-at.result ≡ length (h ++ e ∷ []) = search rules in
     let rest = subst (λ es. IsAtRest g.U.UnitKind.meaning g.row.JMAX c.settle.new.self es (vec_capacity c.push_reserved.new.self)) c.push_reserved.ensures.items (returns-clause-rest g c) in
     subst (λ es. AreFires (plain_history g.U.UnitKind.meaning es) c.args.parts.now.book.armed c.settle.new.self.book.armed c.settle.result) (sym c.push_reserved.ensures.items)
     (subst (λ past. AreFires past c.args.parts.now.book.armed c.settle.new.self.book.armed c.settle.result) (sym (plain_push g.U.UnitKind.meaning h e))
-    (fires_are (plain_history g.U.UnitKind.meaning h) (plain_entry g.U.UnitKind.meaning e) g.m.rows c.args.parts.now.book c.settle.new.self.book c.count-at.result c.settle.result
-    (told_by g.U.UnitKind.meaning g.row.JMAX h (vec_capacity c.args.journal.now) _ e c.args.parts.now c.settle.new.self c.count-at.result can count (told.ends ∙ ap (λ m. noted (record m { entries = c.count-at.result }) m.queries c.args.parts.now.book.ends) same) rest)
+    (fires_are (plain_history g.U.UnitKind.meaning h) (plain_entry g.U.UnitKind.meaning e) g.m.rows c.args.parts.now.book c.settle.new.self.book c.entry_count-at.result c.settle.result
+    (told_by g.U.UnitKind.meaning g.row.JMAX h (vec_capacity c.args.journal.now) _ e c.args.parts.now c.settle.new.self c.entry_count-at.result can count (told.ends ∙ ap (λ m. noted (record m { entries = c.entry_count-at.result }) m.queries c.args.parts.now.book.ends) same) rest)
     (count ∙ (sym (plain_length g.U.UnitKind.meaning (h ++ e ∷ [])) ∙ ap length (plain_push g.U.UnitKind.meaning h e)))
     (ap (λ m. m.rows) same ∙ (sym (rows_after g.U.UnitKind.meaning h e) ∙ ap (λ past. (state past).rows) (plain_push g.U.UnitKind.meaning h e)))
     told.fires told.armed))

@@ -3,8 +3,8 @@ use Rattle.std.specs.Vec.{vec_capacity}
 use Rattle.session_model.specs.State.{plain_event, plain_history}
 use Rattle.session_model.specs.Change.{change_of}
 use Rattle.closure_laws.specs.Quiet.{stirs}
-use Rattle.execution_session.specs.Performs.{state_of}
-use Rattle.execution_session.specs.Moved.{CanEnter}
+use Rattle.session_steps.specs.Performs.{state_of}
+use Rattle.session_steps.specs.Moved.{CanEnter}
 use Rattle.execution_session.proofs.Listless.{listless}
 use Rattle.execution_session.proofs.entering.enter_quietly.Goals as goal
 

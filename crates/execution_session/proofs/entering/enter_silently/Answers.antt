@@ -1,5 +1,5 @@
 use Rattle.std.proofs.Common.{refl, rules}
-use Rattle.execution_session.proofs.Standing.{quiet_entry}
+use Rattle.session_steps.proofs.Declared.{quiet_entry}
 use Rattle.execution_session.proofs.entering.enter_silently.Goals as goal
 
 pub enter-fires-requires : goal.enter-fires-requires

@@ -1,5 +1,5 @@
 -- It settles in the session that the entry leads to.
-use Rattle.execution_session.specs.Moved.{next}
+use Rattle.session_steps.specs.Moved.{next}
 use Rattle.execution_session.proofs.entering.enter_stirring.Given as goal
 
 abbrev pub ghost-enter : goal.ghost-enter

@@ -1,6 +1,6 @@
 use Rattle.std.proofs.Common.{IfSome, unwrap_or, arith, subst}
 use Rattle.execution_session.specs.Holding.{IsFinished}
-use Rattle.execution_session.specs.Performs.{state_of}
+use Rattle.session_steps.specs.Performs.{state_of}
 use Rattle.execution_session.proofs.HeldCalls.{finishes_itself}
 use Rattle.execution_session.proofs.holding.emit_taken.Goals as goal
 

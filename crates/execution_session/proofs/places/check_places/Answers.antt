@@ -2,7 +2,7 @@ use Rattle.std.proofs.Common.{◌≡◌, length, ap, sym, subst, ◌∙◌, rule
 use Rattle.session_model.specs.Plain.{kept}
 use Rattle.session_parts.specs.Parts.{AreParts}
 use Rattle.orc_ids.specs.declared.lookup.Stop.TheVariants as stop
-use Rattle.execution_session.proofs.Counting.{lacks, fits}
+use Rattle.session_steps.proofs.Declared.{lacks, fits}
 use Rattle.execution_session.proofs.places.check_places.Goals as goal
 
 pub kept-requires : goal.kept-requires

@@ -52,7 +52,7 @@ returns-in-Err-clause-awaited g c = λ n lodged.
     let x = view c.loop.pass in
     let y = view c.perform.new.seat in
     let so = c.loop.invariant.2 n lodged in
-    subst (HasAwaited means g.N.Notify.heard g.row.JMAX v y c.args.fired.now c.loop.fired q n) (sym c.stopped.ensures)
+    subst (HasAwaited means g.N.Notify.heard g.row.JMAX v y c.args.fired.now c.loop.fired q n) (sym c.end_stopped.ensures)
     (collect_stopped means g.N.Notify.heard g.row.JMAX q n v x y c.args.fired.now c.loop.fired so c.in-Err.stop c.loop.invariant.1
     (subst (CollectOf means g.N.Notify.heard g.row.JMAX q n v x y c.args.fired.now c.loop.fired so) c.in-Err.is c.perform.ensures.turned)).0
 

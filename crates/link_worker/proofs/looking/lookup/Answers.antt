@@ -39,7 +39,7 @@ returns-in-Err-perform-clause-looked g c =
     let is = c.in-Ok.is ∙ ap Ok (offered_is c.in-Ok.reply c.in-Some-offered_in.generator (sym c.offered_in.ensures ∙ c.in-Some-offered_in.is)) in
     let offered = subst (λ a. AskTurn means g.row.JMAX c.args.order.now c.args.wanted.now c.args.level x y c.args.then a made.back made.fires) is turned in
     let free = ask_free means hears g.row.JMAX c.args.order.now c.args.wanted.now c.args.level c.args.then v x y c.args.fired.now c.loop.fired c.fire_all.new.done so (reply.Offer c.in-Some-offered_in.generator) made.back made.fires c.loop.invariant.1 offered in
-    subst (λ e. HasLooked means hears g.row.JMAX v z c.args.fired.now c.fire_all.new.done (lookup_of c.args.order.now c.args.wanted.now c.args.level c.args.then) c.args.then e made.back) (sym c.stopped-end.ensures)
+    subst (λ e. HasLooked means hears g.row.JMAX v z c.args.fired.now c.fire_all.new.done (lookup_of c.args.order.now c.args.wanted.now c.args.level c.args.then) c.args.then e made.back) (sym c.end_stopped-end.ensures)
     (use_stopped means hears g.row.JMAX c.args.order.now c.args.wanted.now c.args.level c.args.then v x y c.args.fired.now c.loop.fired c.fire_all.new.done so c.in-Some-offered_in.generator made.back made.fires offered c.fire_all.ensures z c.in-Err-perform.stop free
     (subst (UseOf means hears g.row.JMAX c.args.order.now c.args.wanted.now c.args.level c.args.then v x y c.args.fired.now c.loop.fired c.fire_all.new.done so c.in-Some-offered_in.generator made.back made.fires offered c.fire_all.ensures z) c.in-Err-perform.is c.perform.ensures.turned)).0
 
@@ -117,6 +117,6 @@ returns-in-Err-clause-looked g c =
     let y = view c.perform-answer.new.seat in
     let made = c.perform-answer.result in
     let turned = subst (λ th. AskTurn means g.row.JMAX c.args.order.now c.args.wanted.now c.args.level x y th made.answer made.back made.fires) c.loop.invariant.2 c.perform-answer.ensures.turned in
-    subst (λ e. HasLooked means hears g.row.JMAX (view c.args.pass.now) y c.args.fired.now c.fire_all.new.done (lookup_of c.args.order.now c.args.wanted.now c.args.level c.args.then) c.args.then e made.back) (sym c.stopped-end-in-Err.ensures)
+    subst (λ e. HasLooked means hears g.row.JMAX (view c.args.pass.now) y c.args.fired.now c.fire_all.new.done (lookup_of c.args.order.now c.args.wanted.now c.args.level c.args.then) c.args.then e made.back) (sym c.end_stopped-end-in-Err.ensures)
     (ask_stopped means hears g.row.JMAX c.args.order.now c.args.wanted.now c.args.level c.args.then (view c.args.pass.now) x y c.args.fired.now c.loop.fired c.fire_all.new.done c.loop.invariant.3 c.in-Err.stop made.back made.fires c.loop.invariant.1
     (subst (λ a. AskTurn means g.row.JMAX c.args.order.now c.args.wanted.now c.args.level x y c.args.then a made.back made.fires) c.in-Err.is turned) c.fire_all.ensures).0

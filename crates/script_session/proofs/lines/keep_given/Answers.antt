@@ -1,5 +1,5 @@
 use Rattle.std.proofs.Common.{ap, sym, ◌∙◌}
-use Rattle.link_worker.specs.declared.looking.LookEnd.TheVariants as look
+use Rattle.look_ends.specs.declared.look_end.LookEnd.TheVariants as look
 use Rattle.script_session.proofs.OneLine.{kept_given}
 use Rattle.script_session.proofs.lines.keep_given.Goals as goal
 

@@ -1,6 +1,7 @@
 use Rattle.std.proofs.Common.{◌≡◌, ◌+◌, ◌++◌, [], All, Some, length, map, slice_get, arith, ap, subst, sym, ◌∙◌}
 use Rattle.std.proofs.lemmas.List.{length-map}
 use Rattle.std.proofs.lemmas.List.Elements.{All-map}
+use Rattle.list_laws.proofs.Each.{all_unmapped}
 use Rattle.turn_lock.specs.Handles.{view}
 use Rattle.session_model.specs.State.{plain_history}
 use Rattle.script_calls.specs.Plans.{CanCall, event_of, line_of}
@@ -10,7 +11,7 @@ use Rattle.script_session.specs.SetUps.{IsAt}
 use Rattle.script_session.specs.Members.{AreMembers, ends_of, told_of, unlodged_of}
 use Rattle.script_session.proofs.MemberEnds.{all_can}
 use Rattle.script_session.proofs.Notifying.{count_told}
-use Rattle.script_session.proofs.WholeSession.{all_lines, all_mapped, at_first, came, first_of}
+use Rattle.script_session.proofs.WholeSession.{all_lines, at_first, came, first_of}
 use Rattle.script_session.proofs.session.run_script.Goals as goal
 
 pub set_up-left-requires : goal.set_up-left-requires
@@ -99,5 +100,5 @@ returns-clause-notified g c =
     record {
       count = omega (arith, ap length told, count_told done, it.count, length-map plan.clients.items (λ x. x.items));
       told = λ k fired at. it.told k fired (subst (λ l. slice_get l k ≡ Some fired) told at);
-      unlodged = all_mapped (AreUnheard H) (λ x. x.items) notified.unlodged.items (subst (All (AreUnheard H)) (sym unlodged) it.unlodged);
+      unlodged = all_unmapped (AreUnheard H) (λ x. x.items) notified.unlodged.items (subst (All (AreUnheard H)) (sym unlodged) it.unlodged);
     }

@@ -12,5 +12,5 @@ returns-then-is_open g c = let means = g.U.UnitKind.meaning in let past = plain_
 
 pub returns : goal.returns
 returns g c = let means = g.U.UnitKind.meaning in let past = plain_history means c.args.past.now in
-    both_tests c.is_same.ensures (collected_closed past (meant means c.args.s.now) c.args.q.0 c.in_ok-known.known c.args.reply.now c.requires.leads
+    both_tests c.same_reply.ensures (collected_closed past (meant means c.args.s.now) c.args.q.0 c.in_ok-known.known c.args.reply.now c.requires.leads
     (c.in_ok-known.ensures.right past c.requires.known) (λ e. both_ways c.is_open.result c.if-is_open.false (c.is_open.ensures.1 e)))

@@ -7,4 +7,4 @@ use Rattle.session_check.proofs.calls.resolve_is_right.Goals as goal
 
 pub returns : goal.returns
 returns g c = let m = meant g.U.UnitKind.meaning c.args.s.now in
-    both_tests c.is_same.ensures (same_call (called m c.args.seat.0 c.args.u can_resolve) c.args.u (λ x. Resolved) c.reply_resolve.result c.args.reply.now c.reply_resolve.ensures)
+    both_tests c.same_reply.ensures (same_call (called m c.args.seat.0 c.args.u can_resolve) c.args.u (λ x. Resolved) c.reply_resolve.result c.args.reply.now c.reply_resolve.ensures)

@@ -8,5 +8,5 @@ use Rattle.session_check.proofs.calls.unit_emitted.Goals as goal
 
 pub returns-in-Some : goal.returns-in-Some
 returns-in-Some g c = let means = g.U.UnitKind.meaning in let x = unit_row means c.args.x.now in
-    both_tests c.is_same.ensures (turned_call c.args.seat.0 c.args.u can_emit x (λ y. AnswersEmit (meant means c.args.s.now) c.args.u.0 c.args.groups.now y c.args.reply.now) c.in-Some.known c.args.reply.now
+    both_tests c.same_reply.ensures (turned_call c.args.seat.0 c.args.u can_emit x (λ y. AnswersEmit (meant means c.args.s.now) c.args.u.0 c.args.groups.now y c.args.reply.now) c.in-Some.known c.args.reply.now
     (sym (c.turn_away.ensures ∙ ap (λ b. turned_away c.args.seat.0 c.args.u b x) c.emit_is_next.ensures) ∙ c.in-Some.is))

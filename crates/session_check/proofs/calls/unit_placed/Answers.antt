@@ -9,5 +9,5 @@ use Rattle.session_check.proofs.calls.unit_placed.Goals as goal
 
 pub returns-in-Some : goal.returns-in-Some
 returns-in-Some g c = let means = g.U.UnitKind.meaning in let x = unit_row means c.args.x.now in
-    both_tests c.is_same.ensures (turned_call c.args.seat.0 c.args.u can_place x (λ y. (unit_shape y ≡ Some c.args.shape) × AnswersPlace (meant means c.args.s.now) c.args.shape c.args.reply.now) c.in-Some.known c.args.reply.now
+    both_tests c.same_reply.ensures (turned_call c.args.seat.0 c.args.u can_place x (λ y. (unit_shape y ≡ Some c.args.shape) × AnswersPlace (meant means c.args.s.now) c.args.shape c.args.reply.now) c.in-Some.known c.args.reply.now
     (sym (c.turn_away.ensures ∙ ap (λ b. turned_away c.args.seat.0 c.args.u b x) c.place_is_next.ensures) ∙ c.in-Some.is))

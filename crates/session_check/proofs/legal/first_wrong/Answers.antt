@@ -1,4 +1,4 @@
-use Rattle.std.proofs.Common.{◌≡◌, ◌<◌, length, slice_get, ap, sym, ◌∙◌, rules, Some, true}
+use Rattle.std.proofs.Common.{◌≡◌, slice_get, ap, sym, ◌∙◌, Some, true}
 use Rattle.std.proofs.lemmas.Option.{slice_get-get_or}
 use Rattle.session_model.specs.State.{plain_history}
 use Rattle.session_plain.specs.Meant.{meant}

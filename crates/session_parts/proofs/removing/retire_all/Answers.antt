@@ -2,7 +2,7 @@ use Rattle.std.proofs.Common.{◌<◌, ap, refl, subst, sym, ◌∙◌, length}
 use Rattle.std.specs.Prelude.{All}
 use Rattle.std.proofs.lemmas.List.Elements.{All-rest}
 use Rattle.orc_ids.specs.declared.ids.UnitId.{UnitId}
-use Rattle.session_laws.proofs.Elements.{changed_length}
+use Rattle.session_laws.proofs.Declared.{changed_length}
 use Rattle.mat_unit.specs.Changes as one
 use Rattle.session_parts.proofs.Retiring.{Removing, Freeing, one_removed, all_gone, one_freed, all_freed, head_there}
 use Rattle.session_parts.proofs.removing.retire_all.Goals as goal

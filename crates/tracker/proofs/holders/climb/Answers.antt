@@ -1,4 +1,4 @@
-use Rattle.std.proofs.Common.{◌≡◌, ap, sym, ◌∙◌}
+use Rattle.std.proofs.Common.{ap, sym, ◌∙◌}
 use Rattle.tracker.specs.Holders.{up_of}
 use Rattle.tracker.proofs.Trees.{climbed_none, climbed_next}
 use Rattle.tracker.proofs.holders.climb.Goals as goal

@@ -1,4 +1,4 @@
-use Rattle.std.proofs.Common.{◌<◌, ◌^◌, length, get_or, sym, ap, ◌∙◌, arith}
+use Rattle.std.proofs.Common.{sym, ap, ◌∙◌, arith}
 use Rattle.unit_fixups.proofs.Pieces.{block_fits, block_copied}
 use Rattle.link_model.specs.declared.graph.Block.{Block}
 use Rattle.unit_fixups.proofs.raw.copy_block.Goals as goal

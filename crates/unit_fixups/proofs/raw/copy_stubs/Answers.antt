@@ -1,4 +1,4 @@
-use Rattle.std.proofs.Common.{◌≡◌, ◌-◌, refl, get_or, arith, rules, ap, sym, length, ◌∙◌}
+use Rattle.std.proofs.Common.{◌-◌, refl, arith, sym, length, ◌∙◌}
 use Rattle.unit_fixups.proofs.Filled.{stub_words}
 use Rattle.unit_fixups.proofs.Pieces.{no_stubs_yet, stub_copied}
 use Rattle.unit_fixups.proofs.raw.copy_stubs.Goals as goal

@@ -4,7 +4,7 @@ use Rattle.dep_groups.proofs.frontier.Frontier.new.Goals as goal
 pub invariant_of-result : goal.invariant_of-result
 invariant_of-result c = whole_empty _ (record {
   homes = c.new.ensures.items;
-  nodes = c.new-2.ensures.items;
+  nodes = c.new-2.ensures;
   firsts = c.new-3.ensures.items;
   edges = c.new-4.ensures.items;
   ready = c.new-5.ensures.items;

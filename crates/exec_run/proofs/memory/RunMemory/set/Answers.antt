@@ -1,9 +1,9 @@
 -- A byte on the stack, or in a range below it.
 use Rattle.std.proofs.Common.{◌≡◌, ◌∙◌, None, ap, subst}
+use Rattle.list_laws.proofs.Options.{not_there}
 use Rattle.rv_hart.specs.Map.{with_byte}
 use Rattle.code_memory.specs.Mapped.{byte_at}
 use Rattle.exec_run.specs.Regions.{with_top}
-use Rattle.exec_run.proofs.Loads.{not_none}
 use Rattle.exec_run.proofs.Tops.{top_rises, set_low, set_top, off_stack, none_low}
 use Rattle.exec_run.proofs.Writes.{set_byte}
 use Rattle.exec_run.proofs.memory.RunMemory.set.Goals as goal
@@ -26,4 +26,4 @@ returns-in_default c =
     let i = c.self.inside in
     let off = off_stack c.is_on_stack.result c.args.at c.is_on_stack.ensures c.if-is_on_stack.false in
     let none = subst (λ ss. byte_at ss c.args.at ≡ None) c.self.view_is (none_low i.ranges i.stack c.args.at c.self.invariant off c.in_default.ensures.missing) in
-    absurd (not_none (byte_at c.args.self.now c.args.at) none c.requires)
+    absurd (not_there (byte_at c.args.self.now c.args.at) none c.requires)

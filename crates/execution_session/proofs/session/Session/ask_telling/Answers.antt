@@ -3,11 +3,10 @@ use Rattle.std.specs.Vec.{vec_capacity}
 use Rattle.session_model.specs.State.{plain_history}
 use Rattle.session_model.specs.declared.entry.Event.TheVariants as event
 use Rattle.session_parts.specs.Lodged.{note_of}
-use Rattle.execution_session.specs.Fires.{AreFires}
-use Rattle.execution_session.specs.Lookups.{armed_by}
-use Rattle.execution_session.specs.Moved.{CanEnter}
-use Rattle.execution_session.proofs.Counting.{counted}
-use Rattle.execution_session.proofs.Standing.{stands, entry, can_step, did_step}
+use Rattle.session_steps.specs.Fires.{AreFires}
+use Rattle.session_steps.specs.Lookups.{armed_by}
+use Rattle.session_steps.specs.Moved.{CanEnter}
+use Rattle.session_steps.proofs.Declared.{counted, stands, entry, can_step, did_step}
 use Rattle.execution_session.proofs.session.Session.ask_telling.Goals as goal
 
 pub check_places-requires : goal.check_places-requires

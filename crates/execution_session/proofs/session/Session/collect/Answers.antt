@@ -1,7 +1,7 @@
 use Rattle.std.proofs.Common.{◌≡◌, true, slice_get, ap, sym, subst, ◌∙◌, refl, rules}
 use Rattle.std.specs.Prelude.{Ok}
 use Rattle.execution_session.specs.Collected.{is_open}
-use Rattle.execution_session.specs.Performs.{HasOpen, Collects}
+use Rattle.session_steps.specs.Performs.{HasOpen, Collects}
 use Rattle.execution_session.proofs.Collected.{says_open, open_reply, has_open, has_no_open, collects_open}
 use Rattle.execution_session.proofs.session.Session.collect.Goals as goal
 

@@ -3,12 +3,12 @@ use Rattle.session_model.specs.Plain.{UnitRow}
 use Rattle.session_model.specs.Answer.{Right, called, can_emit}
 use Rattle.session_model.specs.State.{plain_history}
 use Rattle.session_model.specs.declared.entry.Event.TheVariants as event
-use Rattle.closure_laws.proofs.OwnRows.{units_fit}
-use Rattle.execution_session.specs.Finish.{IsFinish}
-use Rattle.execution_session.specs.Performs.{state_of}
-use Rattle.execution_session.specs.Steps.{IsTellingStep}
+use Rattle.closure_laws.proofs.Declared.{units_fit}
+use Rattle.session_steps.specs.Finish.{IsFinish}
+use Rattle.session_steps.specs.Performs.{state_of}
+use Rattle.session_steps.specs.Steps.{IsTellingStep}
 use Rattle.execution_session.proofs.Entries.{did_tell}
-use Rattle.execution_session.proofs.Standing.{stands, can_step}
+use Rattle.session_steps.proofs.Declared.{stands, can_step}
 use Rattle.execution_session.proofs.session.Session.emit.Goals as goal
 
 pub check_places-requires : goal.check_places-requires

@@ -1,12 +1,12 @@
 use Rattle.std.proofs.Common.{◌≡◌, refl, ap, sym, subst, ◌∙◌, rules, slice_get}
 use Rattle.session_model.specs.State.{plain_history}
 use Rattle.session_model.specs.declared.entry.Event.TheVariants as event
-use Rattle.execution_session.specs.Gives.{MayFail}
-use Rattle.execution_session.specs.Performs.{state_of}
+use Rattle.session_steps.specs.Gives.{MayFail}
+use Rattle.session_steps.specs.Performs.{state_of}
 use Rattle.execution_session.proofs.Entries.{did_fire}
 use Rattle.execution_session.proofs.GivingUp.{can_fail, did_fail, holder_has_place}
 use Rattle.execution_session.proofs.Entries.{was_full}
-use Rattle.execution_session.proofs.Standing.{stands}
+use Rattle.session_steps.proofs.Declared.{stands}
 use Rattle.execution_session.proofs.session.Session.fail.Goals as goal
 
 pub check_places-requires : goal.check_places-requires

@@ -1,8 +1,8 @@
 use Rattle.std.proofs.Common.{◌≡◌, ap, ◌∙◌, refl, arith, rules}
 use Rattle.session_model.specs.declared.entry.Event.TheVariants as event
 use Rattle.session_model.specs.State.{plain_history}
-use Rattle.closure_laws.proofs.Unspent.{unspent_have_trackers}
-use Rattle.execution_session.proofs.Standing.{stands, can_step, did_step}
+use Rattle.closure_laws.proofs.Declared.{unspent_have_trackers}
+use Rattle.session_steps.proofs.Declared.{stands, can_step, did_step}
 use Rattle.execution_session.proofs.session.Session.generate.Goals as goal
 
 pub check_places-requires : goal.check_places-requires

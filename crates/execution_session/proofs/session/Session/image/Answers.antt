@@ -1,5 +1,5 @@
 use Rattle.std.proofs.Common.{refl, arith, rules}
-use Rattle.execution_session.proofs.Standing.{stands}
+use Rattle.session_steps.proofs.Declared.{stands}
 use Rattle.execution_session.proofs.session.Session.image.Goals as goal
 
 pub check_places-requires : goal.check_places-requires

@@ -1,5 +1,5 @@
 -- The event finds the session that the journal led to.
-use Rattle.execution_session.specs.Performs.{state_of}
+use Rattle.session_steps.specs.Performs.{state_of}
 use Rattle.execution_session.proofs.session.Session.image.Given as goal
 
 abbrev pub ghost-check_places : goal.ghost-check_places

@@ -1,7 +1,6 @@
 use Rattle.std.proofs.Common.{◌≡◌, refl, arith, rules}
 use Rattle.session_model.specs.declared.entry.Event.TheVariants as event
-use Rattle.execution_session.proofs.Counting.{counted}
-use Rattle.execution_session.proofs.Standing.{stands, can_step, did_step}
+use Rattle.session_steps.proofs.Declared.{counted, stands, can_step, did_step}
 use Rattle.execution_session.proofs.session.Session.link_telling.Goals as goal
 
 pub check_places-requires : goal.check_places-requires

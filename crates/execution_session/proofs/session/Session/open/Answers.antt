@@ -1,6 +1,6 @@
 use Rattle.std.proofs.Common.{◌≡◌, ◌≤◌, [], sym, subst, rules}
 use Rattle.std.specs.Vec.{vec_capacity}
-use Rattle.execution_session.specs.Rest.{IsAtRest}
+use Rattle.session_steps.specs.Rest.{IsAtRest}
 use Rattle.execution_session.proofs.Opening.{opens}
 use Rattle.execution_session.proofs.session.Session.open.Goals as goal
 

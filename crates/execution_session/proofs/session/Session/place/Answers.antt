@@ -2,8 +2,8 @@ use Rattle.std.proofs.Common.{◌≡◌, refl, arith, rules, subst, Some}
 use Rattle.session_model.specs.Answer.{Right, called, can_place}
 use Rattle.session_model.specs.Plain.{UnitRow, unit_shape}
 use Rattle.session_model.specs.declared.entry.Event.TheVariants as event
-use Rattle.execution_session.specs.Performs.{state_of}
-use Rattle.execution_session.proofs.Standing.{stands, can_step, did_step}
+use Rattle.session_steps.specs.Performs.{state_of}
+use Rattle.session_steps.proofs.Declared.{stands, can_step, did_step}
 use Rattle.execution_session.proofs.session.Session.place.Goals as goal
 
 pub check_places-requires : goal.check_places-requires

@@ -1,7 +1,7 @@
 use Rattle.std.proofs.Common.{◌≡◌, refl, ap, arith, rules, ◌∙◌}
 use Rattle.session_model.specs.declared.entry.Event.TheVariants as event
 use Rattle.execution_session.proofs.Entries.{did_tell, did_fire}
-use Rattle.execution_session.proofs.Standing.{stands, can_step}
+use Rattle.session_steps.proofs.Declared.{stands, can_step}
 use Rattle.execution_session.proofs.session.Session.remove.Goals as goal
 
 pub check_places-requires : goal.check_places-requires

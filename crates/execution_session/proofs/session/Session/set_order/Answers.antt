@@ -1,8 +1,8 @@
 use Rattle.std.proofs.Common.{◌≡◌, ◌++◌, ◌∷◌, [], ap, sym, subst, ◌∙◌, refl, arith, rules}
 use Rattle.session_model.specs.declared.entry.Event.TheVariants as event
-use Rattle.execution_session.specs.Performs.{state_of}
-use Rattle.execution_session.specs.Steps.{IsStep}
-use Rattle.execution_session.proofs.Standing.{stands, can_step, did_step}
+use Rattle.session_steps.specs.Performs.{state_of}
+use Rattle.session_steps.specs.Steps.{IsStep}
+use Rattle.session_steps.proofs.Declared.{stands, can_step, did_step}
 use Rattle.execution_session.proofs.session.Session.set_order.Goals as goal
 
 pub check_places-requires : goal.check_places-requires

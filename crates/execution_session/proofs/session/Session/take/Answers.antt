@@ -1,11 +1,10 @@
 use Rattle.std.proofs.Common.{◌≡◌, ap, ◌∙◌, refl, arith, rules, subst, sym, slice_get, Ok, Some, None, ◌++◌, ◌∷◌, []}
 use Rattle.session_model.specs.declared.entry.Event.TheVariants as event
 use Rattle.session_model.specs.declared.entry.Reply.TheVariants as reply
-use Rattle.execution_session.specs.declared.live.Live.{Live}
-use Rattle.execution_session.specs.Performs.{state_of, Takes}
-use Rattle.execution_session.specs.Taken.{GivesUnit, BindsUnit}
-use Rattle.execution_session.proofs.Standing.{stands, can_step, did_step}
-use Rattle.execution_session.proofs.TakenJobs.{can_hand_out, first_of, gives_after, binds_after, take_entry, takes_none, takes_entered}
+use Rattle.session_steps.specs.declared.live.Live.{Live}
+use Rattle.session_steps.specs.Performs.{state_of, Takes}
+use Rattle.session_steps.specs.Taken.{GivesUnit, BindsUnit}
+use Rattle.session_steps.proofs.Declared.{stands, can_step, did_step, can_hand_out, first_of, gives_after, binds_after, take_entry, takes_none, takes_entered}
 use Rattle.execution_session.proofs.session.Session.take.Goals as goal
 
 pub next_job-requires : goal.next_job-requires

@@ -1,9 +1,19 @@
 -- One unit is changed, and no job.
-use Rattle.std.proofs.Common.{refl}
+use Rattle.std.proofs.Common.{arith, ◌<◌, length, sym, subst, refl}
 use Rattle.mat_unit.specs.Changes.{linking}
 use Rattle.mat_unit.specs.Roster.{Roster}
-use Rattle.mat_unit.proofs.Kept.{roster_write}
+use Rattle.mat_unit.proofs.Kept.{roster_write, kept_same}
 use Rattle.mat_unit.proofs.units.Units.resolve.Goals as goal
+
+pub index_mut-requires : goal.index_mut-requires
+index_mut-requires g c =
+    let less : c.args.u.0 < length c.self.inside.units.items = subst (λ (r : Roster g.row.U.Denot). c.args.u.0 < length r.units) (sym c.self.view_is) c.requires in
+    omega (arith, less, c.self.inside.units.ok.0)
+
+pub invariant_of-self : goal.invariant_of-self
+invariant_of-self g c =
+    let less : c.args.u.0 < length c.self.inside.units.items = subst (λ (r : Roster g.row.U.Denot). c.args.u.0 < length r.units) (sym c.self.view_is) c.requires in
+    kept_same c.self.inside.units.items c.self.inside.jobs _ _ _ c.args.u.0 c.index_mut.result.now (linking c.index_mut.result.now) c.self.invariant less c.index_mut.ensures.value refl refl
 
 pub returns : goal.returns
 returns g c =

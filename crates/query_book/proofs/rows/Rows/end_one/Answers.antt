@@ -54,3 +54,17 @@ returns-clause-fires g c =
     fired_same c.args.at (g.T.Standing.stand c.args.standing.now) c.args.query (record { queries = c.self.inside.queries.items; ends = map end_of c.self.inside.states.items; armed = c.self.inside.armed.items; due = c.self.inside.due.items })
     c.index-q.result.now c.index_mut-2.result.now c.args.fires.now c.fire.new.fires _ q a (ap (λ e. record { query = record { 0 = c.args.query }; end = e }) c.end_state-end.ensures.told) c.fire.ensures.fires
     ∙ ap (λ a. c.args.fires.now ++ fired_one c.args.at (g.T.Standing.stand c.args.standing.now) c.args.query a) c.self.view_is
+
+pub index-q-requires : goal.index-q-requires
+index-q-requires g c =
+    let is : slice_get (map end_of c.self.inside.states.items) c.args.query ≡ Some None = ap (λ a. slice_get a.ends c.args.query) c.self.view_is ∙ c.requires in
+    let o = open_state c.self.inside.states.items c.args.query is in
+    let less : c.args.query < length c.self.inside.states.items = slice_get_within c.self.inside.states.items c.args.query o.0 o.1 in
+    omega (arith, less, c.self.invariant.states_of, c.self.inside.queries.ok.0)
+
+pub index_mut-requires : goal.index_mut-requires
+index_mut-requires g c =
+    let is : slice_get (map end_of c.self.inside.states.items) c.args.query ≡ Some None = ap (λ a. slice_get a.ends c.args.query) c.self.view_is ∙ c.requires in
+    let o = open_state c.self.inside.states.items c.args.query is in
+    let less : c.args.query < length c.self.inside.states.items = slice_get_within c.self.inside.states.items c.args.query o.0 o.1 in
+    omega (arith, less, c.self.inside.states.ok.0)

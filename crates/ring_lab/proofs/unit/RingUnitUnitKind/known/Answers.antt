@@ -4,9 +4,9 @@ use Rattle.std.specs.List.{All}
 use Rattle.std.proofs.lemmas.List.{length-replicate}
 use Rattle.std.proofs.lemmas.List.Elements.{All-contains_itself}
 use Rattle.std.proofs.lemmas.List.Sorted.{IsPermutation-refl}
+use Rattle.list_laws.proofs.Lists.{first_place}
 use Rattle.orc_ids.specs.declared.ids.InstId.{InstId}
 use Rattle.session_model.specs.Meaning.{bound_instances}
-use Rattle.ring_lab.proofs.RingUnits.{first_place}
 use Rattle.ring_lab.proofs.unit.RingUnitUnitKind.known.Goals as goal
 
 pub returns : goal.returns

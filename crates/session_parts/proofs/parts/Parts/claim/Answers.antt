@@ -1,6 +1,6 @@
 use Rattle.std.proofs.Common.{ap, ◌∙◌, Some}
 use Rattle.std.specs.Prelude.{option_map}
-use Rattle.session_laws.proofs.Elements.{changed_length}
+use Rattle.session_laws.proofs.Declared.{changed_length}
 use Rattle.session_parts.specs.Parts.{kept_of}
 use Rattle.session_parts.proofs.Steps.{with_claim}
 use Rattle.session_parts.proofs.Ties.{claim_tied, kept_unit, phase_of_kept}

@@ -5,7 +5,7 @@ use Rattle.session_model.specs.Change.{emitted}
 use Rattle.code_memory.specs.Places.{with_bytes}
 use Rattle.mat_unit.specs.Changes as one
 use Rattle.session_parts.specs.Tied.{IsTied}
-use Rattle.session_laws.proofs.Elements.{changed_length}
+use Rattle.session_laws.proofs.Declared.{changed_length}
 use Rattle.session_parts.specs.Parts.{kept_of, is_ranged}
 use Rattle.session_parts.proofs.Steps.{with_graph, unit_below, ranged_image_fits, emitted_either}
 use Rattle.session_parts.proofs.Ties.{kept_unit}

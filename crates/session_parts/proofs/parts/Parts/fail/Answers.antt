@@ -3,7 +3,7 @@ use Rattle.session_model.specs.Lists.{changed_at}
 use Rattle.session_model.specs.Change.{failed}
 use Rattle.mat_unit.specs.Changes as one
 use Rattle.session_parts.specs.Tied.{IsTied}
-use Rattle.session_laws.proofs.Elements.{changed_length}
+use Rattle.session_laws.proofs.Declared.{changed_length}
 use Rattle.session_parts.specs.Parts.{kept_of}
 use Rattle.session_parts.proofs.Steps.{with_graph, unit_below, ranged_has_range, failed_either}
 use Rattle.session_parts.proofs.Ties.{kept_unit}

@@ -1,7 +1,7 @@
 use Rattle.std.proofs.Common.{ap, sym, ◌∙◌, drop}
 use Rattle.session_model.specs.Lists.{changed_at}
 use Rattle.mat_unit.specs.Changes as one
-use Rattle.session_laws.proofs.Elements.{changed_length}
+use Rattle.session_laws.proofs.Declared.{changed_length}
 use Rattle.session_parts.specs.Parts.{kept_of}
 use Rattle.session_parts.proofs.Steps.{with_units, unit_below}
 use Rattle.session_parts.proofs.Ties.{finish_tied}

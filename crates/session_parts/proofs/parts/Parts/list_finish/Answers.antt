@@ -1,6 +1,6 @@
 use Rattle.std.proofs.Common.{ap, ◌∙◌, Some}
 use Rattle.std.specs.Prelude.{option_map}
-use Rattle.session_laws.proofs.Elements.{changed_length}
+use Rattle.session_laws.proofs.Declared.{changed_length}
 use Rattle.session_parts.specs.Parts.{kept_of}
 use Rattle.session_parts.specs.Units.{is_unlinked}
 use Rattle.session_parts.proofs.Steps.{with_units}

@@ -1,4 +1,4 @@
-use Rattle.session_laws.proofs.Elements.{changed_length}
+use Rattle.session_laws.proofs.Declared.{changed_length}
 use Rattle.session_parts.specs.Parts.{kept_of}
 use Rattle.session_parts.proofs.Steps.{with_memory, unit_below, unplaced}
 use Rattle.session_parts.proofs.Ties.{place_tied}

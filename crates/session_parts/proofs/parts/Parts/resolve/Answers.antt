@@ -1,6 +1,6 @@
 use Rattle.std.proofs.Common.{sym, subst, rules}
 use Rattle.instance_graph.specs.Graph.{NoneEmitted}
-use Rattle.session_laws.proofs.RowStages.{resolvable_held}
+use Rattle.session_laws.proofs.Declared.{resolvable_held}
 use Rattle.session_parts.proofs.Resolved.{resolved_parts}
 use Rattle.session_parts.proofs.Unemitted.{unemitted_held}
 use Rattle.session_parts.proofs.parts.Parts.resolve.Goals as goal

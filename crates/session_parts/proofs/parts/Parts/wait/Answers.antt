@@ -1,4 +1,4 @@
-use Rattle.session_laws.proofs.Elements.{changed_length}
+use Rattle.session_laws.proofs.Declared.{changed_length}
 use Rattle.session_parts.specs.Parts.{kept_of}
 use Rattle.session_parts.proofs.Steps.{with_units, unit_below}
 use Rattle.session_parts.proofs.Whole.{unit_waits}

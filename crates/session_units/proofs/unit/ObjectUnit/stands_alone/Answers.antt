@@ -1,4 +1,4 @@
-use Rattle.std.proofs.Common.{Bool, List, sym, subst}
+use Rattle.std.proofs.Common.{sym, subst}
 use Rattle.std.specs.Prelude.{IfOk, IsTrue, ◌↔◌}
 use Rattle.session_units.specs.declared.unit.ObjectUnit.{ObjectUnit}
 use Rattle.session_units.specs.Units.{StandsAlone}

@@ -1,6 +1,5 @@
 -- The generator has a home in the tree of its tracker.
-use Rattle.std.proofs.Common.{◌≡◌, ◌∙◌, ◌<◌, length, set, Some, sym, subst, ap, refl, rules, arith}
-use Rattle.tracker.specs.Holders.{AreHeld, IsHomed}
+use Rattle.std.proofs.Common.{◌∙◌, ◌<◌, length, set, Some, refl, arith}
 use Rattle.tracker.proofs.Holding.{held_as, held_generator, homed_at}
 use Rattle.tracker.proofs.trackers.Trackers.add_generator.Goals as goal
 

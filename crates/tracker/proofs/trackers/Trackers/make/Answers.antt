@@ -1,5 +1,5 @@
 -- The next tracker has a tree.
-use Rattle.std.proofs.Common.{◌≡◌, ◌++◌, ◌∷◌, [], length, None, Some, refl, rules}
+use Rattle.std.proofs.Common.{◌≡◌, ◌++◌, ◌∷◌, [], length, None, Some, rules}
 use Rattle.tracker.specs.Owners.{empty}
 use Rattle.tracker.proofs.Holding.{held_as, held_tracker}
 use Rattle.tracker.proofs.trackers.Trackers.make.Goals as goal

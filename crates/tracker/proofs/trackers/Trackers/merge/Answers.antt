@@ -1,5 +1,5 @@
 -- The two trees are one.
-use Rattle.std.proofs.Common.{◌≡◌, slice_get, IsSome, refl, rules}
+use Rattle.std.proofs.Common.{slice_get, IsSome, refl, rules}
 use Rattle.tracker.specs.Owners.{within}
 use Rattle.tracker.proofs.Holding.{held_as}
 use Rattle.tracker.proofs.Joining.{held_merged}

@@ -1,4 +1,4 @@
-use Rattle.std.proofs.Common.{ℕ, List, refl, subst, sym, ◌∙◌, append-nil, arith, rules}
+use Rattle.std.proofs.Common.{ℕ, ◌+◌, List, refl, subst, sym, ◌∙◌, append-nil, arith, rules}
 use Rattle.std.specs.Prelude.{IsPermutation}
 use Rattle.std.proofs.lemmas.List.{length-replicate}
 use Rattle.std.proofs.lemmas.List.Sorted.{IsPermutation-refl}
@@ -12,6 +12,6 @@ returns c = record {
   members = λ live base bound own fits. subst (λ (xs : List InstId). IsPermutation xs own) (sym (append-nil own)) (IsPermutation-refl own);
   deps = λ live base bound own fits. search rules;
   shape = λ live. ((omega arith), (4, refl));
-  image = λ live base bound. length-replicate {A = ℕ} 48 7;
+  image = λ live base bound. length-replicate {A = ℕ} (c.args.self.now.more + 1) 7;
   alias = tt;
 }

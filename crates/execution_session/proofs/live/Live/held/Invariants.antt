@@ -1,5 +1,0 @@
--- The units are of the session.
-use Rattle.execution_session.proofs.live.Live.held.Given as goal
-
-abbrev pub ghost-kept : goal.ghost-kept
-ghost-kept g a = g.m

@@ -1,8 +1,0 @@
--- The query is lodged in the session.
-use Rattle.execution_session.proofs.live.Live.lodge_link.Given as goal
-
-abbrev pub ghost-lodged_reply : goal.ghost-lodged_reply
-ghost-lodged_reply g a = g.m
-
-abbrev pub ghost-link : goal.ghost-link
-ghost-link g a = g.m

@@ -1,0 +1,9 @@
+use Rattle.session_steps.proofs.Standing.{refused_step}
+use Rattle.session_steps.proofs.live.Live.move_all.Goals as goal
+
+pub returns-in-Some-clause-step : goal.returns-in-Some-clause-step
+returns-in-Some-clause-step g c = λ s. refused_step g.U.UnitKind.meaning g.m s _ _ c.args.self.now.parts c.requires.1.1 c.in-Some.ensures.refused
+
+pub move_all-requires : goal.move_all-requires
+move_all-requires g c κs within = let a = c.in_default.ensures.accepted in
+    (within.0, (within.1, (c.requires.1.1.parts, (a.from, (a.into, a.dylib)))))

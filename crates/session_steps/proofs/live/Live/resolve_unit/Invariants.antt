@@ -1,0 +1,11 @@
+-- The unit is resolved in the session.
+use Rattle.session_steps.proofs.live.Live.resolve_unit.Given as goal
+
+abbrev pub ghost-turn_away : goal.ghost-turn_away
+ghost-turn_away g a = g.m
+
+abbrev pub ghost-step_away : goal.ghost-step_away
+ghost-step_away g a = g.m
+
+abbrev pub ghost-resolve : goal.ghost-resolve
+ghost-resolve g a = g.m

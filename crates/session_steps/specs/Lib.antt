@@ -1,0 +1,15 @@
+pub mod Log
+pub mod Performs
+pub mod Fires
+pub mod Rest
+pub mod Stands
+pub mod Moved
+pub mod Steps
+pub mod Away
+pub mod Given
+pub mod Taken
+pub mod Finish
+pub mod Gives
+pub mod Handed
+pub mod Lookups
+pub mod Generated
