@@ -16,7 +16,8 @@ use Rattle.session_model.specs.declared.entry.Why.{Why}
 use Rattle.session_laws.proofs.Declared.{holder_can_fail}
 use Rattle.session_parts.specs.declared.parts.Parts.{Parts}
 use Rattle.session_steps.specs.declared.live.Live.{Live}
-use Rattle.session_steps.specs.Gives.{MayFail, GivesUp}
+use Rattle.session_steps.specs.Allowed.{MayFail}
+use Rattle.session_steps.specs.Gives.{GivesUp}
 use Rattle.session_steps.specs.Moved.{CanEnter}
 use Rattle.session_steps.specs.Performs.{state_of, lacks_places, Performs}
 use Rattle.session_steps.specs.Rest.{Rests}

@@ -4,7 +4,7 @@ ghost use Rattle.std.specs.Prelude.{◌≡◌, false};
 ghost use Rattle.session_model.specs.Answer.{HasSource};
 ghost use Rattle.session_model.specs.declared.entry.Event.TheVariants as event;
 ghost use Rattle.session_steps.specs.Given.{HandsBackGenerator};
-ghost use Rattle.session_steps.specs.Performs.{lacks_places, state_of, Performs};
+ghost use Rattle.session_steps.specs.Performs.{lacks_places, state_of, Performs, PerformsWith};
 ghost use Rattle.session_steps.specs.Rest.{Rests};
 
 use crate::entering::enter_quietly;
@@ -46,7 +46,7 @@ impl<U: UnitKind, N: Notify, const JMAX: usize> Session<U, N, JMAX> {
     /// generator is made of it the unit is handed back.
     pub fn attach(&mut self, s: SeatNo, d: DylibId, t: TrackId, unit: U) -> Offered<U>
         requires source { HasSource (state_of U.meaning self.old.journal) (U.meaning unit) }
-        ensures performs { (share : U) × (U.meaning share ≡ U.meaning unit) × Performs U.meaning JMAX self.old.journal self.new.journal s (event.Attach d t share) result.answer }
+        ensures performs { PerformsWith U.meaning JMAX self.old.journal self.new.journal s (λ share. event.Attach d t share) unit result.answer }
         ensures back { HandsBackGenerator U.meaning unit result.answer result.back }
         ensures armed { self.new.armed ≡ self.old.armed }
     {

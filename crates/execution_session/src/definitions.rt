@@ -4,7 +4,7 @@ ghost use Rattle.std.specs.Prelude.{◌≡◌, false};
 ghost use Rattle.session_model.specs.Answer.{HasSource};
 ghost use Rattle.session_model.specs.declared.entry.Event.TheVariants as event;
 ghost use Rattle.session_steps.specs.Given.{HandsBack};
-ghost use Rattle.session_steps.specs.Performs.{state_of, lacks_places, Performs};
+ghost use Rattle.session_steps.specs.Performs.{state_of, lacks_places, Performs, PerformsWith};
 ghost use Rattle.session_steps.specs.Rest.{Rests};
 
 use crate::entering::enter_quietly;
@@ -50,7 +50,7 @@ impl<U: UnitKind, N: Notify, const JMAX: usize> Session<U, N, JMAX> {
     /// handed back.
     pub fn define(&mut self, s: SeatNo, d: DylibId, t: TrackId, unit: U) -> Offered<U>
         requires source { HasSource (state_of U.meaning self.old.journal) (U.meaning unit) }
-        ensures performs { (share : U) × (U.meaning share ≡ U.meaning unit) × Performs U.meaning JMAX self.old.journal self.new.journal s (event.Define d t share) result.answer }
+        ensures performs { PerformsWith U.meaning JMAX self.old.journal self.new.journal s (λ share. event.Define d t share) unit result.answer }
         ensures back { HandsBack U.meaning unit result.answer result.back }
         ensures armed { self.new.armed ≡ self.old.armed }
     {

@@ -1,10 +1,7 @@
 //! Units whose bytes are put into memory.
 
-ghost use Rattle.std.specs.Prelude.{◌≡◌};
-ghost use Rattle.session_model.specs.Plain.{UnitRow};
-ghost use Rattle.session_model.specs.Answer.{Right, called, can_emit};
 ghost use Rattle.session_model.specs.declared.entry.Event.TheVariants as event;
-ghost use Rattle.session_steps.specs.Finish.{IsFinish};
+ghost use Rattle.session_steps.specs.Allowed.{MayEmit};
 ghost use Rattle.session_steps.specs.Fires.{FiresBy};
 ghost use Rattle.session_steps.specs.Performs.{Performs, state_of};
 
@@ -20,7 +17,7 @@ impl<U: UnitKind, N: Notify, const JMAX: usize> Session<U, N, JMAX> {
     /// and the bytes are the unit's for its live names, its base and its bindings, and no edge of it is
     /// out of range.
     pub fn emit(&mut self, s: SeatNo, u: UnitId, groups: Groups, bytes: Bytes) -> Told<N>
-        requires finish { (x : UnitRow) → called (state_of U.meaning self.old.journal) s.0 u can_emit ≡ Right x → IsFinish (state_of U.meaning self.old.journal) u x groups bytes }
+        requires finish { MayEmit (state_of U.meaning self.old.journal) s.0 u groups bytes }
         ensures performs { Performs U.meaning JMAX self.old.journal self.new.journal s (event.Emit u groups) result.answer }
         ensures fires { FiresBy U.meaning result.answer self.old self.new result.fires }
     {

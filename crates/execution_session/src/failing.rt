@@ -1,11 +1,11 @@
 //! Units that are given up.
 
-ghost use Rattle.std.specs.Prelude.{◌≡◌, true, slice_get, Some, Err, IsOk};
+ghost use Rattle.std.specs.Prelude.{◌≡◌, slice_get, Some, Err, IsOk};
 ghost use Rattle.orc_ids.specs.declared.lookup.Stop.TheVariants.{NoMemory};
 ghost use Rattle.session_model.specs.Plain.{UnitRow};
-ghost use Rattle.session_model.specs.Answer.{HasCause, Right, called};
 ghost use Rattle.session_model.specs.State.{plain_history};
 ghost use Rattle.session_model.specs.declared.entry.Event.TheVariants as event;
+ghost use Rattle.session_steps.specs.Allowed.{MayFail};
 ghost use Rattle.session_steps.specs.Fires.{FiresBy};
 ghost use Rattle.session_steps.specs.Performs.{Performs, state_of};
 
@@ -20,7 +20,7 @@ impl<U: UnitKind, N: Notify, const JMAX: usize> Session<U, N, JMAX> {
     /// Gives the unit up, for this cause (ORC: `failMaterialization`). Takes no memory, and the seat that
     /// holds the unit is never stopped.
     pub fn fail(&mut self, s: SeatNo, u: UnitId, why: Why) -> Told<N>
-        requires cause { (x : UnitRow) → called (state_of U.meaning self.old.journal) s.0 u (λ x. true) ≡ Right x → HasCause JMAX (plain_history U.meaning self.old.journal) (state_of U.meaning self.old.journal) u.0 x why }
+        requires cause { MayFail JMAX (plain_history U.meaning self.old.journal) (state_of U.meaning self.old.journal) s.0 u why }
         ensures performs { Performs U.meaning JMAX self.old.journal self.new.journal s (event.Fail u why) result.answer }
         ensures fires { FiresBy U.meaning result.answer self.old self.new result.fires }
         ensures memory { result.answer ≡ Err NoMemory → ⊥ }

@@ -1,9 +1,8 @@
 //! Units that get a range of code memory.
 
-ghost use Rattle.std.specs.Prelude.{◌≡◌, Some, IfOk};
-ghost use Rattle.session_model.specs.Plain.{UnitRow, unit_shape};
-ghost use Rattle.session_model.specs.Answer.{Right, called, can_place};
+ghost use Rattle.std.specs.Prelude.{◌≡◌, IfOk};
 ghost use Rattle.session_model.specs.declared.entry.Event.TheVariants as event;
+ghost use Rattle.session_steps.specs.Allowed.{MayPlace};
 ghost use Rattle.session_steps.specs.Performs.{Performs, state_of};
 ghost use Rattle.session_steps.specs.Handed.{IsLowest};
 
@@ -17,7 +16,7 @@ use session_model::{Event, Reply, UnitKind};
 impl<U: UnitKind, N: Notify, const JMAX: usize> Session<U, N, JMAX> {
     /// Places the unit at the lowest free base for its shape (ORC: `JITLinkMemoryManager::allocate`).
     pub fn place(&mut self, s: SeatNo, u: UnitId, shape: Shape) -> Result<Reply, Stop>
-        requires { (x : UnitRow) → called (state_of U.meaning self.old.journal) s.0 u can_place ≡ Right x → unit_shape x ≡ Some shape }
+        requires { MayPlace (state_of U.meaning self.old.journal) s.0 u shape }
         ensures performs { Performs U.meaning JMAX self.old.journal self.new.journal s (event.Place u shape) result }
         ensures lowest { IfOk result (λ r. IsLowest (state_of U.meaning self.old.journal) shape r) }
         ensures armed { self.new.armed ≡ self.old.armed }

@@ -1,26 +1,16 @@
--- What a seat must know to make a call, and that it still does after entries of other seats.
-use Rattle.std.specs.Prelude.{◌≡◌, ℕ, List, ◌++◌, Some}
+-- That what a seat knows, as it must to make a call, stays so after entries of other seats.
+use Rattle.std.specs.Prelude.{ℕ, List, ◌++◌}
 use Rattle.orc_ids.specs.declared.groups.Group.{Group}
 use Rattle.orc_ids.specs.declared.ids.UnitId.{UnitId}
 use Rattle.orc_ids.specs.declared.place.Shape.{Shape}
 use Rattle.session_model.specs.Meaning.{Meaning}
-use Rattle.session_model.specs.Plain.{Plain, UnitRow, unit_shape}
 use Rattle.session_model.specs.State.{state}
-use Rattle.session_model.specs.Answer.{HasSource, Right, called, can_place, can_emit}
+use Rattle.session_model.specs.Answer.{HasSource}
 use Rattle.session_model.specs.History.{IsLegal, HasPlaces}
 use Rattle.session_model.specs.declared.entry.Entry.{Entry}
 use Rattle.session_model.specs.declared.entry.Why.{Why}
 use Rattle.session_laws.specs.Holding.{AllOthers}
-use Rattle.session_steps.specs.Finish.{IsFinish}
-use Rattle.session_steps.specs.Gives.{MayFail}
-
--- the shape is that of the unit, if the seat may place it
-abbrev pub MayPlace : Plain → ℕ → UnitId → Shape → Type 0
-MayPlace m s u shape = (x : UnitRow) → called m s u can_place ≡ Right x → unit_shape x ≡ Some shape
-
--- the groups and bytes are those of the unit, if the seat may emit it
-abbrev pub MayEmit : Plain → ℕ → UnitId → List Group → List ℕ → Type 0
-MayEmit m s u groups bytes = (x : UnitRow) → called m s u can_emit ≡ Right x → IsFinish m u x groups bytes
+use Rattle.session_steps.specs.Allowed.{MayPlace, MayEmit, MayFail}
 
 -- a condition on a seat and a history that entries of other seats leave as it is
 abbrev pub Stays : ℕ → ℕ → (List (Entry Meaning) → Type 0) → Type 0

@@ -21,11 +21,11 @@ use Rattle.session_model.specs.declared.rows.InstRow.{InstRow}
 use Rattle.session_laws.specs.Holding.{AllOthers}
 use Rattle.session_laws.proofs.Declared.{state_from_push, changed_some, same_element, call_cases, sound_changed, settled_rows}
 use Rattle.closure_laws.proofs.Declared.{OneMore, one_more, lawful_alias}
+use Rattle.session_steps.specs.Allowed.{MayEmit}
 use Rattle.session_steps.specs.Finish.{IsFinish}
 use Rattle.execution_session.specs.Holding.{IsFinished}
 use Rattle.session_steps.specs.Performs.{state_of}
 use Rattle.execution_session.specs.declared.holding.Finished.{Finished}
-use Rattle.holder_laws.specs.Conditions.{MayEmit}
 use Rattle.holder_laws.specs.Holders.{Holds, WasHeld}
 use Rattle.holder_laws.proofs.Calling.{own_list, owned_same, right_parts}
 use Rattle.holder_laws.proofs.Giving.{others_give_none}

@@ -22,7 +22,7 @@ use Rattle.session_model.specs.declared.entry.Why.TheVariants as why
 use Rattle.session_model.specs.declared.rows.UnitPhase.TheVariants as phase
 use Rattle.session_laws.proofs.Declared.{same_element}
 use Rattle.closure_laws.proofs.Declared.{OneMore, one_more, units_fit}
-use Rattle.session_steps.specs.Gives.{MayFail}
+use Rattle.session_steps.specs.Allowed.{MayFail}
 use Rattle.session_steps.specs.Performs.{state_of}
 use Rattle.session_steps.specs.Taken.{IsUnitOf}
 use Rattle.session_steps.specs.declared.jobs.TakenUnit.{TakenUnit}

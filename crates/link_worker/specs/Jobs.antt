@@ -16,13 +16,12 @@ use Rattle.session_model.specs.declared.entry.Reply.TheVariants as reply
 use Rattle.session_model.specs.declared.entry.Why.TheVariants as why
 use Rattle.notifiers.specs.declared.notice.Notice.{Notice}
 use Rattle.turn_lock.specs.declared.view.View.{View}
-use Rattle.session_steps.specs.Gives.{MayFail}
+use Rattle.session_steps.specs.Allowed.{MayEmit, MayFail}
 use Rattle.execution_session.specs.Holding.{IsFinished}
 use Rattle.session_steps.specs.Performs.{state_of}
 use Rattle.session_steps.specs.Taken.{IsUnitOf}
 use Rattle.execution_session.specs.declared.holding.Finished.{Finished}
 use Rattle.session_steps.specs.declared.jobs.TakenUnit.{TakenUnit}
-use Rattle.holder_laws.specs.Conditions.{MayEmit}
 use Rattle.materialization.specs.Laws.{HasReason}
 use Rattle.materialization.specs.Rest.{Has, Rest}
 use Rattle.materialization.specs.Stages.{first, next, stopped}

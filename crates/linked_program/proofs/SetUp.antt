@@ -24,9 +24,9 @@ use Rattle.session_model.specs.declared.entry.Reply.{Reply}
 use Rattle.session_model.specs.declared.entry.Reply.TheVariants as reply
 use Rattle.session_model.specs.declared.rows.Verdict.{Verdict}
 use Rattle.session_model.specs.declared.rows.Verdict.TheVariants.{Clashes}
-use Rattle.session_steps.specs.Performs.{Performs, state_of}
+use Rattle.session_steps.specs.Performs.{Performs, PerformsWith, state_of}
 use Rattle.turn_lock.specs.declared.view.View.{View}
-use Rattle.shared_session.specs.Does.{Keeps, seat}
+use Rattle.shared_session.specs.Does.{seat}
 use Rattle.link_worker.proofs.Turning.{TurnOf}
 use Rattle.program_names.specs.Programs.{first_dylib, first_tracker, is_done}
 use Rattle.linked_program.specs.SetUps.{AreDone, HasDefined, IsAt, IsRefusedIn, IsStoppedIn, define_of, is_defined}
@@ -189,5 +189,5 @@ module _ {U : Type 0} (means : U → Meaning) (jmax : ℕ) where
   define_stopped v w evs unit st at d = event_stopped v w evs (event.Define first_dylib first_tracker d.0) st at refl d.2
 
   -- the share stands in the history
-  pub define_of_turn : (v w : View (Entry U)) (unit : U) (answer : Result Reply Stop) (Back : Type 0) → TurnOf means jmax v w (λ old new. Keeps means jmax v.number old new (λ share. event.Define first_dylib first_tracker share) unit answer × Back) → DefineOf v w unit answer
+  pub define_of_turn : (v w : View (Entry U)) (unit : U) (answer : Result Reply Stop) (Back : Type 0) → TurnOf means jmax v w (λ old new. PerformsWith means jmax old new (seat v.number) (λ share. event.Define first_dylib first_tracker share) unit answer × Back) → DefineOf v w unit answer
   define_of_turn v w unit answer Back t = (t.did.0.0, t.did.0.1, record { old = t.old; new = t.new; passed = t.passed; did = t.did.0.2 })

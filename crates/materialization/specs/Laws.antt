@@ -15,7 +15,7 @@ use Rattle.session_model.specs.declared.entry.Reply.TheVariants as reply
 use Rattle.session_model.specs.declared.entry.Why.{Why}
 use Rattle.session_model.specs.declared.entry.Why.TheVariants as why
 use Rattle.session_laws.specs.Holding.{AllOthers}
-use Rattle.session_steps.specs.Gives.{MayFail}
+use Rattle.session_steps.specs.Allowed.{MayFail}
 use Rattle.materialization.specs.Stages.{first, next, stopped}
 use Rattle.materialization.specs.Rest.{IsCall, Has, HoldsNone, Rest}
 use Rattle.materialization.specs.declared.stage.Stage.{Stage}

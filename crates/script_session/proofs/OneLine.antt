@@ -25,14 +25,14 @@ use Rattle.session_model.specs.declared.entry.Event.TheVariants as event
 use Rattle.session_model.specs.declared.entry.Reply.{Reply}
 use Rattle.session_model.specs.declared.entry.Reply.TheVariants as reply
 use Rattle.session_steps.specs.Handed.{IsMemory}
-use Rattle.session_steps.specs.Performs.{Performs, state_of}
+use Rattle.session_steps.specs.Performs.{Performs, PerformsWith, state_of}
 use Rattle.notifiers.specs.Notices.{AreHeard, Told}
 use Rattle.notifiers.specs.declared.notice.Notice.{Notice}
 use Rattle.notifiers.specs.declared.notice.Unheard.{Unheard}
 use Rattle.note_laws.specs.Laws.{may_settle}
 use Rattle.note_laws.specs.Notes.{AreTold}
 use Rattle.note_laws.proofs.Unlodged.{unstirred}
-use Rattle.shared_session.specs.Does.{Keeps, Tells, seat}
+use Rattle.shared_session.specs.Does.{Tells, seat}
 use Rattle.turn_lock.specs.declared.view.View.{View}
 use Rattle.seat_calls.specs.Did.{Did, Nothing, Promise}
 use Rattle.seat_calls.proofs.Doing.{less_is_done, nothing_is_done}
@@ -197,7 +197,7 @@ module _ {U N : Type 0} (means : U → Meaning) (heard : N → Option Outcome) (
 -- a definition, of which the entry has a share of the unit
 module _ {U : Type 0} (means : U → Meaning) (jmax : ℕ) (v w : View (Entry U)) (d : DylibId) (t : TrackId) (unit : U) (answer : Result Reply Stop) (Back : List (Entry U) → List (Entry U) → Type 0) where
   abbrev pub Defines : Type 0
-  Defines = TurnOf means jmax v w (λ old new. Keeps means jmax v.number old new (λ share. event.Define d t share) unit answer × Back old new)
+  Defines = TurnOf means jmax v w (λ old new. PerformsWith means jmax old new (seat v.number) (λ share. event.Define d t share) unit answer × Back old new)
 
   pub free_defined : IsFree means v → Defines → IsFree means w
   free_defined free turn = free_stays means jmax v w (event.Define d t turn.did.0.0) answer (record { old = turn.old; new = turn.new; passed = turn.passed; did = turn.did.0.2 }) refl free

@@ -14,10 +14,10 @@ use Rattle.session_model.specs.State.{plain_entry, plain_event, plain_history}
 use Rattle.session_model.specs.declared.entry.Entry.{Entry}
 use Rattle.session_model.specs.declared.entry.Event.{Event}
 use Rattle.session_model.specs.declared.entry.Reply.{Reply}
-use Rattle.session_steps.specs.Performs.{Performs, state_of}
+use Rattle.session_steps.specs.Performs.{Performs, PerformsWith, state_of}
 use Rattle.session_laws.proofs.Declared.{appended_at}
 use Rattle.turn_lock.specs.declared.view.View.{View}
-use Rattle.shared_session.specs.Does.{Keeps, seat}
+use Rattle.shared_session.specs.Does.{seat}
 use Rattle.link_worker.proofs.Telling.{is_placing}
 use Rattle.link_worker.proofs.Turning.{TurnOf}
 use Rattle.seat_work.proofs.FirstSeat.{one_place}
@@ -58,7 +58,7 @@ module _ {U : Type 0} (means : U → Meaning) (jmax : ℕ) (v w : View (Entry U)
 
   -- a call with a unit, of which the entry has a share
   pub unit_called : (event_of : U → Event U) (plain_of : Meaning → Event Meaning) (unit : U) (answer : Result Reply Stop) (Back : List (Entry U) → List (Entry U) → Type 0) → ((u : U) → plain_event means (event_of u) ≡ plain_of (means u)) → ((u : U) → places (state_of means v.seen) v.number (plain_event means (event_of u)) ≡ 1) →
-      TurnOf means jmax v w (λ old new. Keeps means jmax v.number old new event_of unit answer × Back old new) → Called (plain_of (means unit)) answer
+      TurnOf means jmax v w (λ old new. PerformsWith means jmax old new (seat v.number) event_of unit answer × Back old new) → Called (plain_of (means unit)) answer
   unit_called event_of plain_of unit answer Back plain needs t =
       let share = t.did.0.0 in
       subst (λ e. Called e answer) (plain share ∙ ap plain_of t.did.0.1) (one_called (event_of share) answer (needs share) (record { old = t.old; new = t.new; passed = t.passed; did = t.did.0.2 }))

@@ -1,14 +1,13 @@
 -- What the session asks of each call, where it is made.
-use Rattle.std.specs.Prelude.{◌≡◌, ◌≤◌, ⊤, ℕ, true, List, [], ◌∷◌, length, Some, Ok}
+use Rattle.std.specs.Prelude.{◌≤◌, ⊤, ℕ, List, [], ◌∷◌, length, Ok}
 use Rattle.orc_ids.specs.declared.ids.SeatNo.{SeatNo}
 use Rattle.orc_ids.specs.declared.limits.TheConstants.{ORDER_LIMIT, WANTED_LIMIT}
-use Rattle.session_model.specs.Answer.{HasCause, HasSource, Right, called, can_emit, can_place}
+use Rattle.session_model.specs.Answer.{HasSource}
 use Rattle.session_model.specs.Meaning.{Meaning}
-use Rattle.session_model.specs.Plain.{UnitRow, unit_shape}
 use Rattle.session_model.specs.State.{plain_history}
 use Rattle.session_model.specs.declared.entry.Entry.{Entry}
 use Rattle.session_model.specs.declared.entry.Reply.{Reply}
-use Rattle.session_steps.specs.Finish.{IsFinish}
+use Rattle.session_steps.specs.Allowed.{MayPlace, MayEmit, MayFail}
 use Rattle.session_steps.specs.Performs.{state_of}
 use Rattle.session_player.specs.Plays.{Does}
 use Rattle.session_player.specs.declared.call.Call.{Call}
@@ -22,9 +21,9 @@ Fits means jmax h s (call.SetOrder d order) = length order ≤ ORDER_LIMIT
 Fits means jmax h s (call.Attach d t unit) = HasSource (state_of means h) (means unit)
 Fits means jmax h s (call.Define d t unit) = HasSource (state_of means h) (means unit)
 Fits means jmax h s (call.Ask order wanted level) = (length order ≤ ORDER_LIMIT) × (length wanted ≤ WANTED_LIMIT)
-Fits means jmax h s (call.Place u shape) = (x : UnitRow) → called (state_of means h) s.0 u can_place ≡ Right x → unit_shape x ≡ Some shape
-Fits means jmax h s (call.Emit u groups bytes) = (x : UnitRow) → called (state_of means h) s.0 u can_emit ≡ Right x → IsFinish (state_of means h) u x groups bytes
-Fits means jmax h s (call.Fail u why) = (x : UnitRow) → called (state_of means h) s.0 u (λ x. true) ≡ Right x → HasCause jmax (plain_history means h) (state_of means h) u.0 x why
+Fits means jmax h s (call.Place u shape) = MayPlace (state_of means h) s.0 u shape
+Fits means jmax h s (call.Emit u groups bytes) = MayEmit (state_of means h) s.0 u groups bytes
+Fits means jmax h s (call.Fail u why) = MayFail jmax (plain_history means h) (state_of means h) s.0 u why
 Fits means jmax h s c = ⊤
 
 -- each call does, wherever the calls before it may have led

@@ -8,7 +8,7 @@ use Rattle.session_model.specs.declared.entry.Entry.{Entry}
 use Rattle.session_model.specs.declared.entry.Event.TheVariants as event
 use Rattle.session_model.specs.declared.entry.Reply.{Reply}
 use Rattle.session_steps.specs.Handed.{IsLowest}
-use Rattle.session_steps.specs.Performs.{state_of, Performs, Collects, Takes}
+use Rattle.session_steps.specs.Performs.{state_of, Performs, PerformsWith, Collects, Takes}
 use Rattle.session_player.specs.declared.call.Call.{Call}
 use Rattle.session_player.specs.declared.call.Call.TheVariants as call
 use Rattle.session_player.specs.declared.call.SeatCall.{SeatCall}
@@ -17,8 +17,8 @@ use Rattle.session_player.specs.declared.call.SeatCall.{SeatCall}
 abbrev pub Does : {U : Type 0} → (U → Meaning) → ℕ → List (Entry U) → List (Entry U) → SeatNo → Call U → Result Reply Stop → Type 0
 Does means jmax old new s (call.Dylib name) r = Performs means jmax old new s (event.Dylib name) r
 Does means jmax old new s (call.SetOrder d order) r = Performs means jmax old new s (event.SetOrder d order) r
-Does {U} means jmax old new s (call.Attach d t unit) r = (share : U) × (means share ≡ means unit) × Performs means jmax old new s (event.Attach d t share) r
-Does {U} means jmax old new s (call.Define d t unit) r = (share : U) × (means share ≡ means unit) × Performs means jmax old new s (event.Define d t share) r
+Does means jmax old new s (call.Attach d t unit) r = PerformsWith means jmax old new s (λ share. event.Attach d t share) unit r
+Does means jmax old new s (call.Define d t unit) r = PerformsWith means jmax old new s (λ share. event.Define d t share) unit r
 Does means jmax old new s (call.Generate g) r = Performs means jmax old new s (event.Generate g) r
 Does means jmax old new s (call.Ask order wanted level) r = Performs means jmax old new s (event.Ask order wanted level None) r
 Does means jmax old new s (call.Collect q) r = Collects means jmax old new s q r

@@ -1,12 +1,13 @@
 //! Calls that are fitted to a session: what its events ask of their arguments is found by the plain session.
 
-ghost use Rattle.std.specs.Prelude.{◌≡◌, ℕ, List, true, false, length, Some, None, IfOk, IfSome, unwrap_or, []};
+ghost use Rattle.std.specs.Prelude.{◌≡◌, ℕ, List, false, length, Some, None, IfOk, IfSome, unwrap_or, []};
 ghost use Rattle.std.specs.Bool.{OnTrue};
-ghost use Rattle.session_model.specs.Answer.{HasCause, Right, called, can_emit, can_place};
+ghost use Rattle.session_model.specs.Answer.{Right, called, can_place};
 ghost use Rattle.session_model.specs.Plain.{UnitRow, own_rows, unit_shape};
 ghost use Rattle.session_model.specs.State.{plain_history};
 ghost use Rattle.session_model.specs.Memory.{unit_image};
 ghost use Rattle.session_model.specs.declared.entry.Entry.{Entry};
+ghost use Rattle.session_steps.specs.Allowed.{MayEmit, MayFail};
 ghost use Rattle.session_steps.specs.Finish.{IsFinish};
 ghost use Rattle.session_check.specs.Known.{Known, known_meaning};
 ghost use Rattle.session_plain.specs.Meant.{meant, unit_row, IsSmall, LiveFit};
@@ -107,7 +108,7 @@ fn to_emit(
     u: UnitId,
 ) -> Result<Option<(Groups, Bytes)>, AllocError>
     requires { IsShadow shadow.now }
-    ensures { IfOk result (λ made. IfSome made (λ p. (x : UnitRow) → called (meant known_meaning shadow.now.plain) s.0 u can_emit ≡ Right x → IsFinish (meant known_meaning shadow.now.plain) u x p.0 p.1)) }
+    ensures { IfOk result (λ made. IfSome made (λ p. MayEmit (meant known_meaning shadow.now.plain) s.0 u p.0 p.1)) }
 {
     shadow.suits();
     let nothing = (Items::new(alloc), Bytes::new(alloc));
@@ -130,7 +131,7 @@ fn may_fail(
     why: Why,
 ) -> bool
     requires { Follows journal.now shadow.now }
-    ensures { OnTrue result ((x : UnitRow) → called (meant known_meaning shadow.now.plain) s.0 u (λ x. true) ≡ Right x → HasCause jmax (plain_history known_meaning journal.now) (meant known_meaning shadow.now.plain) u.0 x why) }
+    ensures { OnTrue result (MayFail jmax (plain_history known_meaning journal.now) (meant known_meaning shadow.now.plain) s.0 u why) }
 {
     shadow.suits();
     let Some(x) = unit_there(&shadow.plain, u) else {

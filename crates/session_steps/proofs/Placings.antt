@@ -31,11 +31,11 @@ use Rattle.session_steps.proofs.FreeRanges.{distinct_among, free_here, free_ther
 use Rattle.session_steps.proofs.Standing.{goes_by}
 
 -- the place is right, and of the unit's shape
-abbrev pub MayPlace : Plain → ℕ → UnitId → Shape → Type 0
-MayPlace m s u shape = (x : UnitRow) × (called m s u can_place ≡ Right x) × (unit_shape x ≡ Some shape)
+abbrev pub RightPlace : Plain → ℕ → UnitId → Shape → Type 0
+RightPlace m s u shape = (x : UnitRow) × (called m s u can_place ≡ Right x) × (unit_shape x ≡ Some shape)
 
 -- its unit
-pub place_unit : {U N : Type 0} (means : U → Meaning) (m : Plain) (p : Parts U N) (s : ℕ) (u : UnitId) (shape : Shape) → Stands means m p → MayPlace m s u shape →
+pub place_unit : {U N : Type 0} (means : U → Meaning) (m : Plain) (p : Parts U N) (s : ℕ) (u : UnitId) (shape : Shape) → Stands means m p → RightPlace m s u shape →
     (x : UnitRow) × (slice_get m.units u.0 ≡ Some x) × (x.phase ≡ stage.Started) × (x.base ≡ None) × (unit_shape x ≡ Some shape)
 place_unit means m p s u shape at may =
     let its = right_unit m s u can_place may.0 may.1 in
@@ -43,7 +43,7 @@ place_unit means m p s u shape at may =
     (may.0, its.0, phase, (at.sound.units_fit u.0 may.0 its.0).early (ap is_early phase), may.2)
 
 -- the shape of a lawful unit
-pub shape_right : {U N : Type 0} (means : U → Meaning) (m : Plain) (p : Parts U N) (s : ℕ) (u : UnitId) (shape : Shape) → Stands means m p → MayPlace m s u shape → (0 < shape.need) × IsPowerOfTwo shape.align
+pub shape_right : {U N : Type 0} (means : U → Meaning) (m : Plain) (p : Parts U N) (s : ℕ) (u : UnitId) (shape : Shape) → Stands means m p → RightPlace m s u shape → (0 < shape.need) × IsPowerOfTwo shape.align
 shape_right means m p s u shape at may =
     let its = right_unit m s u can_place may.0 may.1 in
     let lawful : IsLawful (may.0).meaning = at.lawful.units u.0 may.0 its.0 in
@@ -52,11 +52,11 @@ shape_right means m p s u shape at may =
     (λ b h. subst (λ o. IfSome o (λ (s : Shape). (0 < s.need) × ((k : ℕ) × (s.align ≡ 2 ^ k)))) h (lawful.shape (may.0).live)) may.2 in
     (fits.0, fits.1)
 
-place_answered : (m : Plain) (s : ℕ) (u : UnitId) (shape : Shape) (r : Reply) → MayPlace m s u shape → AnswersPlace m shape r → (jmax : ℕ) (past : List (Entry Meaning)) → Answers jmax past m s (event.Place u shape) r
+place_answered : (m : Plain) (s : ℕ) (u : UnitId) (shape : Shape) (r : Reply) → RightPlace m s u shape → AnswersPlace m shape r → (jmax : ℕ) (past : List (Entry Meaning)) → Answers jmax past m s (event.Place u shape) r
 place_answered m s u shape r may a jmax past = subst (λ c. AnswersCall c u (λ x. (unit_shape x ≡ Some shape) × AnswersPlace m shape r) r) (sym may.1) (may.2, a)
 
 -- it gets the lowest free range
-pub placed_step : {U N : Type 0} (means : U → Meaning) (m : Plain) (s : ℕ) (u : UnitId) (shape : Shape) (base : ℕ) (old new : Parts U N) → Stands means m old → MayPlace m s u shape → IsLowestFree old.space shape base →
+pub placed_step : {U N : Type 0} (means : U → Meaning) (m : Plain) (s : ℕ) (u : UnitId) (shape : Shape) (base : ℕ) (old new : Parts U N) → Stands means m old → RightPlace m s u shape → IsLowestFree old.space shape base →
     AreParts means new (placed u.0 base m) → new ≡ record old { units = new.units; space = new.space } → IsQuietStep means m s (event.Place u shape) (reply.Placed base) old new
 placed_step {U} {N} means m s u shape base old new at may lowest parts rest = record {
   step = record {
@@ -72,7 +72,7 @@ pub placed_lowest : {U N : Type 0} (means : U → Meaning) (m : Plain) (u : Unit
 placed_lowest means m u shape base p at laid lowest = λ other free. lowest.lowest other (free_here m.units p.space shape other at.parts.kept.memory (distinct_among (record { unit = u; base = base; shape = shape; bytes = None }) p.space laid.distinct) free)
 
 -- no base is free for it
-pub full_step : {U N : Type 0} (means : U → Meaning) (m : Plain) (s : ℕ) (u : UnitId) (shape : Shape) (need : ℕ) (why : SpaceError) (old new : Parts U N) → Stands means m old → MayPlace m s u shape → why ≡ space.NoRoom need → IsRefused old.space shape why → new ≡ old → AreLaidOut new.space →
+pub full_step : {U N : Type 0} (means : U → Meaning) (m : Plain) (s : ℕ) (u : UnitId) (shape : Shape) (need : ℕ) (why : SpaceError) (old new : Parts U N) → Stands means m old → RightPlace m s u shape → why ≡ space.NoRoom need → IsRefused old.space shape why → new ≡ old → AreLaidOut new.space →
     IsQuietStep means m s (event.Place u shape) (reply.NoRoom need) old new
 full_step {U} {N} means m s u shape need why old new at may is refused same laid = record {
   step = record {

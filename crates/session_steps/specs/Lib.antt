@@ -9,6 +9,7 @@ pub mod Away
 pub mod Given
 pub mod Taken
 pub mod Finish
+pub mod Allowed
 pub mod Gives
 pub mod Handed
 pub mod Lookups

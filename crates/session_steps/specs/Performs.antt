@@ -45,6 +45,10 @@ abbrev pub Performs : {U : Type 0} → (U → Meaning) → ℕ → List (Entry U
 Performs means jmax old new s e (Ok r) = Enters means jmax old new (record { seat = s; event = e; reply = r })
 Performs means jmax old new s e (Err stop) = IsStopped means jmax old new s e stop
 
+-- the same of an event that is handed a unit, of which its entry has a share
+abbrev pub PerformsWith : {U : Type 0} → (U → Meaning) → ℕ → List (Entry U) → List (Entry U) → SeatNo → (U → Event U) → U → Result Reply Stop → Type 0
+PerformsWith {U} means jmax old new s event_of unit result = (share : U) × (means share ≡ means unit) × Performs means jmax old new s (event_of share) result
+
 -- a query that is there and hasn't settled
 pub record HasOpen {U : Type 0} (means : U → Meaning) (h : List (Entry U)) (q : QueryId) : Type 0 where
   pub query : Query

@@ -1,10 +1,10 @@
 //! A unit's bytes that are put into memory.
 
 ghost use Rattle.std.specs.Prelude.{◌≡◌, IfOk, OnErr};
-ghost use Rattle.session_model.specs.Plain.{Plain, UnitRow};
-ghost use Rattle.session_model.specs.Answer.{Right, called, can_emit};
+ghost use Rattle.session_model.specs.Plain.{Plain};
 ghost use Rattle.session_model.specs.declared.entry.Event.TheVariants as event;
-ghost use Rattle.session_steps.specs.Finish.{IsFinish, UnitFits};
+ghost use Rattle.session_steps.specs.Allowed.{MayEmit};
+ghost use Rattle.session_steps.specs.Finish.{UnitFits};
 ghost use Rattle.session_steps.specs.Moved.{IsStill};
 ghost use Rattle.session_steps.specs.Stands.{Stands};
 ghost use Rattle.session_steps.specs.Steps.{IsTellingStep};
@@ -29,7 +29,7 @@ impl<U: UnitKind, N: Notify> Live<U, N> {
         ghost m: { Plain }
         requires stands { Stands U.meaning m self.old.parts }
         requires fits { UnitFits m u }
-        requires finish { (x : UnitRow) → called m s.0 u can_emit ≡ Right x → IsFinish m u x groups.now bytes }
+        requires finish { MayEmit m s.0 u groups.now bytes }
         ensures step { IfOk result (λ r. IsTellingStep U.meaning m s.0 (event.Emit u groups.now) r self.old.parts self.new.parts) }
         ensures still { OnErr result (IsStill U.meaning m self.old.parts self.new.parts) }
         ensures rest { self.new ≡ record self.old { parts = self.new.parts } }

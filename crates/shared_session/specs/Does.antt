@@ -27,10 +27,6 @@ charge (Ok (reply.Finish u how)) = Some u
 charge answer = None
 
 module _ {U : Type 0} (means : U → Meaning) (jmax s : ℕ) (old new : List (Entry U)) where
-  -- an event that is handed a unit, of which its entry has a share
-  abbrev pub Keeps : (U → Event U) → U → Result Reply Stop → Type 0
-  Keeps event_of unit answer = (share : U) × (means share ≡ means unit) × Performs means jmax old new (seat s) (event_of share) answer
-
   -- an event that has told the notes of the queries that it settled
   pub record Tells {N : Type 0} (e : Event U) (answer : Result Reply Stop) (fires : List (Notice N)) : Type 0 where
     pub performs : Performs means jmax old new (seat s) e answer

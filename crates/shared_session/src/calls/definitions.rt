@@ -18,9 +18,9 @@ pub struct Define<U> {
 impl<U: UnitKind, N: Notify, const JMAX: usize> Call<Home<U, N, JMAX>> for Define<U> {
     ghost use Rattle.session_model.specs.Answer.{HasSource};
     ghost use Rattle.session_model.specs.declared.entry.Event.TheVariants as event;
-    ghost use Rattle.session_steps.specs.Performs.{state_of};
+    ghost use Rattle.session_steps.specs.Performs.{state_of, PerformsWith};
     ghost use Rattle.session_steps.specs.Given.{HandsBack};
-    ghost use Rattle.shared_session.specs.Does.{Keeps};
+    ghost use Rattle.shared_session.specs.Does.{seat};
     ghost use Rattle.shared_session.specs.Single.{performed_once};
     ghost use Rattle.shared_session.specs.Carried.{source_is_carried};
 
@@ -28,7 +28,7 @@ impl<U: UnitKind, N: Notify, const JMAX: usize> Call<Home<U, N, JMAX>> for Defin
 
     ghost may = { λ c s h. HasSource (state_of U.meaning h) (U.meaning c.unit) };
 
-    ghost does = { λ c s old new a. Keeps U.meaning JMAX s old new (λ share. event.Define c.dylib c.tracker share) c.unit a.answer × HandsBack U.meaning c.unit a.answer a.back };
+    ghost does = { λ c s old new a. PerformsWith U.meaning JMAX old new (seat s) (λ share. event.Define c.dylib c.tracker share) c.unit a.answer × HandsBack U.meaning c.unit a.answer a.back };
 
     fn make(self, home: &mut Home<U, N, JMAX>, seat: u32) -> Offered<U> {
         home.session
@@ -51,9 +51,9 @@ pub struct Attach<U> {
 impl<U: UnitKind, N: Notify, const JMAX: usize> Call<Home<U, N, JMAX>> for Attach<U> {
     ghost use Rattle.session_model.specs.Answer.{HasSource};
     ghost use Rattle.session_model.specs.declared.entry.Event.TheVariants as event;
-    ghost use Rattle.session_steps.specs.Performs.{state_of};
+    ghost use Rattle.session_steps.specs.Performs.{state_of, PerformsWith};
     ghost use Rattle.session_steps.specs.Given.{HandsBackGenerator};
-    ghost use Rattle.shared_session.specs.Does.{Keeps};
+    ghost use Rattle.shared_session.specs.Does.{seat};
     ghost use Rattle.shared_session.specs.Single.{performed_once};
     ghost use Rattle.shared_session.specs.Carried.{source_is_carried};
 
@@ -61,7 +61,7 @@ impl<U: UnitKind, N: Notify, const JMAX: usize> Call<Home<U, N, JMAX>> for Attac
 
     ghost may = { λ c s h. HasSource (state_of U.meaning h) (U.meaning c.unit) };
 
-    ghost does = { λ c s old new a. Keeps U.meaning JMAX s old new (λ share. event.Attach c.dylib c.tracker share) c.unit a.answer × HandsBackGenerator U.meaning c.unit a.answer a.back };
+    ghost does = { λ c s old new a. PerformsWith U.meaning JMAX old new (seat s) (λ share. event.Attach c.dylib c.tracker share) c.unit a.answer × HandsBackGenerator U.meaning c.unit a.answer a.back };
 
     fn make(self, home: &mut Home<U, N, JMAX>, seat: u32) -> Offered<U> {
         home.session

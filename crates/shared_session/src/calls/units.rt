@@ -18,8 +18,8 @@ impl<U: UnitKind, N: Notify, const JMAX: usize> Call<Home<U, N, JMAX>> for Place
     ghost use Rattle.std.specs.Prelude.{IfOk};
     ghost use Rattle.session_model.specs.declared.entry.Event.TheVariants as event;
     ghost use Rattle.session_steps.specs.Performs.{Performs, state_of};
+    ghost use Rattle.session_steps.specs.Allowed.{MayPlace};
     ghost use Rattle.session_steps.specs.Handed.{IsLowest};
-    ghost use Rattle.holder_laws.specs.Conditions.{MayPlace};
     ghost use Rattle.shared_session.specs.Does.{seat};
     ghost use Rattle.shared_session.specs.Single.{performed_once};
     ghost use Rattle.shared_session.specs.Carried.{place_is_carried};
@@ -103,7 +103,7 @@ pub struct Emit {
 impl<U: UnitKind, N: Notify, const JMAX: usize> Call<Home<U, N, JMAX>> for Emit {
     ghost use Rattle.session_model.specs.declared.entry.Event.TheVariants as event;
     ghost use Rattle.session_steps.specs.Performs.{state_of};
-    ghost use Rattle.holder_laws.specs.Conditions.{MayEmit};
+    ghost use Rattle.session_steps.specs.Allowed.{MayEmit};
     ghost use Rattle.shared_session.specs.Does.{Tells};
     ghost use Rattle.shared_session.specs.Single.{performed_once};
     ghost use Rattle.shared_session.specs.Carried.{emit_is_carried};
@@ -136,7 +136,7 @@ impl<U: UnitKind, N: Notify, const JMAX: usize> Call<Home<U, N, JMAX>> for Fail 
     ghost use Rattle.session_model.specs.State.{plain_history};
     ghost use Rattle.session_model.specs.declared.entry.Event.TheVariants as event;
     ghost use Rattle.session_steps.specs.Performs.{state_of};
-    ghost use Rattle.session_steps.specs.Gives.{MayFail};
+    ghost use Rattle.session_steps.specs.Allowed.{MayFail};
     ghost use Rattle.shared_session.specs.Does.{TellsAlways, HolderIsAnswered};
     ghost use Rattle.shared_session.specs.Single.{performed_once};
     ghost use Rattle.shared_session.specs.Carried.{fail_is_carried};

@@ -1,10 +1,8 @@
 use Rattle.std.proofs.Common.{◌≡◌, refl, sym, subst, arith, rules}
-use Rattle.session_model.specs.Plain.{UnitRow}
-use Rattle.session_model.specs.Answer.{Right, called, can_emit}
 use Rattle.session_model.specs.State.{plain_history}
 use Rattle.session_model.specs.declared.entry.Event.TheVariants as event
 use Rattle.closure_laws.proofs.Declared.{units_fit}
-use Rattle.session_steps.specs.Finish.{IsFinish}
+use Rattle.session_steps.specs.Allowed.{MayEmit}
 use Rattle.session_steps.specs.Performs.{state_of}
 use Rattle.session_steps.specs.Steps.{IsTellingStep}
 use Rattle.execution_session.proofs.Entries.{did_tell}
@@ -25,8 +23,8 @@ emit_unit-requires g c κs within =
           stands g.U.UnitKind.meaning g.row.JMAX c.self.inside.live.parts c.self.inside.live.journal.items _ c.self.invariant,
           (
             units_fit g.row.JMAX (plain_history g.U.UnitKind.meaning c.self.inside.live.journal.items) c.self.invariant.legal c.args.u.0,
-            λ x right. subst (λ gs. IsFinish (state_of g.U.UnitKind.meaning c.self.inside.live.journal.items) c.args.u x gs c.args.bytes) same
-                (subst (λ h. (y : UnitRow) → called (state_of g.U.UnitKind.meaning h) c.args.s.0 c.args.u can_emit ≡ Right y → IsFinish (state_of g.U.UnitKind.meaning h) c.args.u y c.args.groups c.args.bytes) seen c.requires.finish x right),
+            subst (λ gs. MayEmit (state_of g.U.UnitKind.meaning c.self.inside.live.journal.items) c.args.s.0 c.args.u gs c.args.bytes) same
+                (subst (λ h. MayEmit (state_of g.U.UnitKind.meaning h) c.args.s.0 c.args.u c.args.groups c.args.bytes) seen c.requires.finish),
           ),
         ),
       ),

@@ -1,7 +1,7 @@
 use Rattle.std.proofs.Common.{◌≡◌, refl, ap, sym, subst, ◌∙◌, rules, slice_get}
 use Rattle.session_model.specs.State.{plain_history}
 use Rattle.session_model.specs.declared.entry.Event.TheVariants as event
-use Rattle.session_steps.specs.Gives.{MayFail}
+use Rattle.session_steps.specs.Allowed.{MayFail}
 use Rattle.session_steps.specs.Performs.{state_of}
 use Rattle.execution_session.proofs.Entries.{did_fire}
 use Rattle.execution_session.proofs.GivingUp.{can_fail, did_fail, holder_has_place}

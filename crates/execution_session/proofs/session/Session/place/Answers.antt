@@ -1,7 +1,6 @@
-use Rattle.std.proofs.Common.{◌≡◌, refl, arith, rules, subst, Some}
-use Rattle.session_model.specs.Answer.{Right, called, can_place}
-use Rattle.session_model.specs.Plain.{UnitRow, unit_shape}
+use Rattle.std.proofs.Common.{◌≡◌, refl, arith, rules, subst}
 use Rattle.session_model.specs.declared.entry.Event.TheVariants as event
+use Rattle.session_steps.specs.Allowed.{MayPlace}
 use Rattle.session_steps.specs.Performs.{state_of}
 use Rattle.session_steps.proofs.Declared.{stands, can_step, did_step}
 use Rattle.execution_session.proofs.session.Session.place.Goals as goal
@@ -17,7 +16,7 @@ place_unit-requires g c κs within =
         within.1,
         (
           stands g.U.UnitKind.meaning g.row.JMAX c.self.inside.live.parts c.self.inside.live.journal.items _ c.self.invariant,
-          subst (λ h. (x : UnitRow) → called (state_of g.U.UnitKind.meaning h) c.args.s.0 c.args.u can_place ≡ Right x → unit_shape x ≡ Some c.args.shape) seen c.requires,
+          subst (λ h. MayPlace (state_of g.U.UnitKind.meaning h) c.args.s.0 c.args.u c.args.shape) seen c.requires,
         ),
       ),
     )
