@@ -1,10 +1,8 @@
-mod objects;
-
 use object_files::{LoadError, ObjectWhy, distinct_files, load_files};
-use objects::{HELLO, TWO};
 use orc_ids::{Bytes, NameId, UnitName};
 use orc_io::{Files, MemFiles, SureFiles};
 use orc_names::{NameHasher, Names};
+use sample_objects::{HELLO, TWO};
 use session_model::UnitKind;
 use std::alloc::{AllocError, Global};
 use std::process::Abort;

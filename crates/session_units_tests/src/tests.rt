@@ -1,14 +1,13 @@
 //! Units, each with a table of what it is asked and what it answers.
 
-mod files;
 mod rows;
 
 use elf_read::read_object;
-use files::{HELLO, NOTHING, TWO};
 use link_graph::graph_of;
 use orc_ids::{DylibId, InstId, NameId, Shape, UnitName, Wanted};
 use orc_names::Names;
 use rows::{Emit, Row, first_wrong};
+use sample_objects::{HELLO, NOTHING, TWO};
 use session_units::ObjectUnit;
 use std::alloc::Global;
 use std::test::Fail;

@@ -1,12 +1,13 @@
 //! Assemblies of one file.
 
 use super::calls::{Call, Faults, NO_FAULTS, Reads};
-use super::contents::{Content, Files, HELLO};
+use super::contents::{Content, Files};
 use super::expected::Expected;
 use super::outside::{Outside, SureOutside};
 use super::playing::{expect, expect_each, expect_over, make_quietly};
 use orc_ids::Bytes;
 use orc_io::OpenGate;
+use sample_objects::HELLO;
 use std::random::RandomSource;
 use std::sync::Wait;
 use std::test::Fail;

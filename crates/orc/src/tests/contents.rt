@@ -1,13 +1,12 @@
 //! The files of these tests.
 
 mod common;
-mod hello;
 
 use common::COMMON;
 use elf_write::write_object;
-pub use hello::HELLO;
 use orc_ids::Bytes;
 use rv_asm::assemble;
+use sample_objects::HELLO;
 use std::alloc::{AllocError, Global};
 use std::test::Fail;
 

@@ -1,7 +1,7 @@
 //! What an output or a log is to be.
 
-use super::contents::HELLO;
 use super::texts::{all_in, is_in_order, is_like, last_line, results_of, text_of};
+use sample_objects::HELLO;
 
 /// What the bytes of a sink are to be.
 #[derive(Clone, Copy)]

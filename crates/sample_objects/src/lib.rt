@@ -1,7 +1,10 @@
-//! The files that the tests' units are made from.
+//! Objects that the tests of several crates read: what assemblers made of short sources, byte for byte.
+//!
+//! Nothing is proved of them. Read `elf_read_tests` first, which says what each part of `HELLO` is read as.
+#![tactic(auto)]
 
 /// What an assembler makes of `examples/hello.s`.
-pub(super) const HELLO: [u8; 776] = [
+pub const HELLO: [u8; 776] = [
     127, 69, 76, 70, 2, 1, 1, 0, 0, 0, 0, 0, 0, 0, 0, 0, 1, 0, 243, 0, 1, 0, 0, 0, 0, 0, 0, 0, 0,
     0, 0, 0, 0, 0, 0, 0, 0, 0, 0, 0, 72, 1, 0, 0, 0, 0, 0, 0, 0, 0, 0, 0, 64, 0, 0, 0, 0, 0, 64, 0,
     7, 0, 6, 0, 19, 5, 16, 0, 151, 5, 0, 0, 147, 133, 5, 0, 19, 6, 96, 0, 147, 8, 0, 4, 115, 0, 0,
@@ -32,7 +35,7 @@ pub(super) const HELLO: [u8; 776] = [
 ];
 
 /// What GNU as makes of `.globl m; m: tail f; .section .rodata; .globl t; t: .word 5`.
-pub(super) const TWO: [u8; 992] = [
+pub const TWO: [u8; 992] = [
     127, 69, 76, 70, 2, 1, 1, 0, 0, 0, 0, 0, 0, 0, 0, 0, 1, 0, 243, 0, 1, 0, 0, 0, 0, 0, 0, 0, 0,
     0, 0, 0, 0, 0, 0, 0, 0, 0, 0, 0, 160, 1, 0, 0, 0, 0, 0, 0, 0, 0, 0, 0, 64, 0, 0, 0, 0, 0, 64,
     0, 9, 0, 8, 0, 23, 3, 0, 0, 103, 0, 3, 0, 5, 0, 0, 0, 0, 0, 0, 0, 0, 0, 0, 0, 0, 0, 0, 0, 0, 0,
@@ -70,7 +73,7 @@ pub(super) const TWO: [u8; 992] = [
 ];
 
 /// An object of no section but the table of their names, as the format has it.
-pub(super) const NOTHING: [u8; 200] = [
+pub const NOTHING: [u8; 200] = [
     127, 69, 76, 70, 2, 1, 1, 0, 0, 0, 0, 0, 0, 0, 0, 0, 1, 0, 243, 0, 1, 0, 0, 0, 0, 0, 0, 0, 0,
     0, 0, 0, 0, 0, 0, 0, 0, 0, 0, 0, 72, 0, 0, 0, 0, 0, 0, 0, 0, 0, 0, 0, 64, 0, 0, 0, 0, 0, 64, 0,
     2, 0, 1, 0, 0, 0, 0, 0, 0, 0, 0, 0, 0, 0, 0, 0, 0, 0, 0, 0, 0, 0, 0, 0, 0, 0, 0, 0, 0, 0, 0, 0,
