@@ -204,6 +204,8 @@ def main():
     most = max(1, min(len(os.sched_getaffinity(0)), free_bytes() // BYTES_OF_A_PROVER))
     lanes = int(sys.argv[1]) if len(sys.argv) > 1 else most
     signal.signal(signal.SIGTERM, lambda *_: sys.exit(143))
+    if not os.access(f"{ROOT}/crates/{PROGRAM}/out/{PROGRAM}", os.X_OK):
+        print("orc: meanwhile tools/unproved.py runs the same words without a proof, in some two minutes", file=sys.stderr, flush=True)
     # (a second build waits here, and then finds everything made)
     with open(f"{ROOT}/crates.txt", encoding="utf-8") as held:
         fcntl.flock(held, fcntl.LOCK_EX)

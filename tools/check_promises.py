@@ -140,7 +140,7 @@ def check_sections(path, known, below, missing):
 
 def check_wrong_bodies(text, missing):
     """Each wrong body stands in a row of PROMISES.md."""
-    edits = (path.relative_to(TOP) for path in sorted((TOP / "crates").glob("*/must-fail/*.edit")))
+    edits = (path.relative_to(TOP) for path in [*sorted((TOP / "crates").glob("*/must-fail/*.edit")), *sorted((TOP / "tools" / "wrong_bodies").glob("*/*.edit"))])
     missing += [f"a row of {edit}" for edit in edits if f"(../{edit})" not in text]
 
 

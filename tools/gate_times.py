@@ -90,7 +90,7 @@ def main():
         begun, checks = time.monotonic(), {}
         with open(f"{room}/said", "w", encoding="utf-8") as to:
             gate = subprocess.Popen(
-                ["rt", "ci", "--anew"],
+                ["rt", "ci"],
                 cwd=f"{room}/orc",
                 stdin=subprocess.DEVNULL,
                 stdout=to,
