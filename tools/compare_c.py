@@ -3,7 +3,7 @@
 of code, links and runs the objects with orc, alone and with 4 workers, and compares output and exit status with
 qemu-riscv64 on the same objects, linked statically with a start that calls main. Says how long each run took.
 
-    tools/compare_c.py [ORC] [--only WORD] [--levels LEVEL,..] [--keep FOLDER] [--fuel N]
+    tools/compare_c.py [ORC] [--only WORD] [--levels O0,O2,..] [--keep FOLDER] [--fuel N]
 
 A C file there is a program, and so is a folder: its C files are the objects of one program. A file of
 tools/library_programs/ is a program of its object and of those members of picolibc's and libgcc's archives that the
@@ -120,7 +120,7 @@ def main():
     parser = argparse.ArgumentParser(description=__doc__, formatter_class=argparse.RawDescriptionHelpFormatter)
     parser.add_argument("orc", nargs="?", default=TOP / "orc", type=pathlib.Path)
     parser.add_argument("--only", default="", metavar="WORD")
-    parser.add_argument("--levels", default=",".join(it[1:] for it in LEVELS), metavar="LEVEL,..")
+    parser.add_argument("--levels", default=",".join(it[1:] for it in LEVELS), metavar="O0,O2,..")
     parser.add_argument("--keep", type=pathlib.Path, metavar="FOLDER")
     parser.add_argument("--fuel", default=1 << 40, type=int, metavar="N")
     arguments = parser.parse_args()
