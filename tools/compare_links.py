@@ -231,7 +231,8 @@ fn {name}(rt: HostRuntime) -> Result<(), Failed> {{
 
 HEAD = """use got_stubs::synthesise;
 use link_model::{Block, Edge, GPlace, GSym, LinkGraph};
-use orc_ids::{Bytes, Items, NameId, SymFlags};
+use orc_ids::{Items, NameId, SymFlags};
+use shared_bytes::SharedBytes;
 use std::alloc::{AllocError, AllocFailed, Global};
 use unit_fixups::fix;
 
@@ -251,7 +252,7 @@ impl<T: Drop> From<AllocFailed<T>> for Failed {
 }
 
 fn block(alloc: Global, bytes: &[u8], align: u64) -> Result<Block, Failed> {
-    Ok(Block { bytes: Bytes::copy_of(alloc, bytes)?, size: bytes.len() as u64, align })
+    Ok(Block { bytes: SharedBytes::copy_of(alloc, bytes)?, size: bytes.len() as u64, align })
 }
 
 fn graph(alloc: Global, blocks: Vec<Block>, places: &[(GPlace, bool)], edges: &[(u32, u64, u32, u32, i64)]) -> Result<LinkGraph, Failed> {
@@ -281,7 +282,8 @@ def assembled(assembler, work, name, text):
 def main(seeds):
     work = pathlib.Path(tempfile.mkdtemp(prefix="compare_links_"))
     shutil.copytree(ROOT / "crates", work / "crates", ignore=shutil.ignore_patterns("out"))
-    shutil.copy(ROOT / "crates.txt", work)
+    lines = (ROOT / "crates.txt").read_text()
+    (work / "crates.txt").write_text(lines.replace("unit_fixups_tests:", "unit_fixups_tests: shared_bytes"))
     kinds, tests, cells, stubs = set(), [HEAD], 0, 0
     for seed in seeds:
         for assembler in ("gnu", "clang"):
