@@ -1,10 +1,12 @@
 #!/usr/bin/env python3
 """Proves and builds the program `orc`: crates that don't need each other at the same time.
 
-    tools/build_orc.py [JOBS]
+    tools/build_orc.py [--anew] [JOBS]
 
-`./orc` calls it where there is no program yet, or a source is newer. JOBS is how many crates are proved
-at once: as many as there are processors, and 4 GB of free memory for each, where it is left out.
+`./orc` calls it where there is no program yet, or a source isn't as it was. Where `release/` has the program of
+these very sources, and this is the machine that it is for, that is taken, and nothing proved; with --anew it is
+proved and built all the same. JOBS is how many crates are proved at once: as many as there are processors and
+memory for, where it is left out.
 
 Standard error has one line that renews itself on a terminal, and a line for each crate elsewhere. What
 the prover says is kept, and printed whole for a crate that fails. What was proved stays in the crates'
@@ -23,11 +25,14 @@ import tempfile
 import time
 from concurrent.futures import FIRST_COMPLETED, ThreadPoolExecutor, wait
 
+import release
+
 ROOT = os.path.dirname(os.path.dirname(os.path.realpath(__file__)))
 PROGRAM = "orc"
 # Seconds of one processor that a line of code takes to prove, as measured over the whole repository.
 PACE = 0.12
-BYTES_OF_A_PROVER = 4_000_000_000
+# What a prover takes of the memory, which fits all that were measured: so much, and for each line of code.
+BYTES, BYTES_OF_A_LINE = 1_000_000_000, 700_000
 # What a check reads and makes.
 SOURCES, MADE = ("src", "specs", "proofs"), ("rlib", "incremental")
 
@@ -160,6 +165,16 @@ def build(crates, lanes):
     chain = {it: work[it] + max((work[up] for up in crates if it in below[up]), default=0) for it in crates}
     copies, telling = Copies(crates), Telling(work)
     running, left, failed = {}, sorted(libraries, key=lambda it: -chain[it]), None
+    memory = 0.85 * free_bytes()
+
+    def need(name):
+        return BYTES + BYTES_OF_A_LINE * work[name]
+
+    def jobs_for(name):
+        """Two for the crate that most others wait for, while its chain is longer than the rest is wide."""
+        rest = sum(work[it] for it in [*left, *(it for it, _ in running.values())])
+        is_head = not any(chain[it] > chain[name] for it, _ in running.values())
+        return 2 if is_head and chain[name] > rest / lanes and len(running) < lanes - 1 else 1
 
     def prove(name, copy, jobs):
         begun = time.monotonic()
@@ -171,11 +186,12 @@ def build(crates, lanes):
     try:
         while (left and not failed) or running:
             ready = [it for it in left if all(under in telling.done for under in below[it])] if not failed else []
-            for name in ready[: lanes - len(running)]:
-                left.remove(name)
-                copy = copies.take(name, below[name])
-                jobs = max(1, (lanes - len(running)) // max(1, len(ready)))
-                running[pool.submit(prove, name, copy, jobs)] = name, copy
+            for name in ready:
+                held = sum(need(it) for it, _ in running.values())
+                if len(running) < lanes and (not running or held + need(name) <= memory):
+                    left.remove(name)
+                    copy = copies.take(name, below[name])
+                    running[pool.submit(prove, name, copy, jobs_for(name))] = name, copy
             telling.renew([name for name, _ in running.values()], lanes)
             for it in wait(running, timeout=1, return_when=FIRST_COMPLETED).done:
                 name, copy = running.pop(it)
@@ -188,6 +204,7 @@ def build(crates, lanes):
                     telling.end_of(name, seconds, lanes)
         if not failed:
             telling.renew([PROGRAM], lanes)
+            release.BUILT.unlink(missing_ok=True)
             # (`rt run` has no form that only builds: the new program runs once, without words)
             told = subprocess.run(["rt", "run"], cwd=f"{ROOT}/crates/{PROGRAM}", stdin=subprocess.DEVNULL, stdout=subprocess.PIPE, stderr=subprocess.STDOUT, text=True, errors="replace")
             if not os.access(f"{ROOT}/crates/{PROGRAM}/out/{PROGRAM}", os.X_OK):
@@ -199,16 +216,41 @@ def build(crates, lanes):
     return failed
 
 
-def main():
+def is_there():
+    """Whether the program stands ready: built of the sources as they are, or taken from release/. Says why not, where a build is to come."""
+    origin = release.BUILT.with_name(f"{PROGRAM}.origin")
+    if os.access(release.BUILT, os.X_OK):
+        sum, _, word = origin.read_text().strip().partition(" ") if origin.is_file() else ("", "", "")
+        if sum == release.sum_of_all(release.sources()):
+            release.note(word)
+            return True
+        if not sum and not release.is_older():
+            # (the gate leaves a program, and no note)
+            release.note("built here")
+            return True
+    why = release.why_not()
+    if why:
+        print(f"orc: {why}; so it is proved and built here", file=sys.stderr, flush=True)
+        return False
+    release.take()
+    return True
+
+
+def main(words):
+    is_anew = "--anew" in words
+    given = [it for it in words if it != "--anew"]
     crates = crates_below(PROGRAM)
-    most = max(1, min(len(os.sched_getaffinity(0)), free_bytes() // BYTES_OF_A_PROVER))
-    lanes = int(sys.argv[1]) if len(sys.argv) > 1 else most
+    lanes = int(given[0]) if given else len(os.sched_getaffinity(0))
     signal.signal(signal.SIGTERM, lambda *_: sys.exit(143))
-    if not os.access(f"{ROOT}/crates/{PROGRAM}/out/{PROGRAM}", os.X_OK):
-        print("orc: meanwhile tools/unproved.py runs the same words without a proof, in some two minutes", file=sys.stderr, flush=True)
     # (a second build waits here, and then finds everything made)
     with open(f"{ROOT}/crates.txt", encoding="utf-8") as held:
         fcntl.flock(held, fcntl.LOCK_EX)
+        if not is_anew and is_there():
+            return 0
+        if not shutil.which("rt"):
+            print("orc: rt, the command of the toolchain, is not on the path, and a build needs it", file=sys.stderr)
+            return 1
+        print("orc: meanwhile tools/unproved.py runs the same words without a proof, in some two minutes", file=sys.stderr, flush=True)
         try:
             failed = build(crates, lanes)
         except KeyboardInterrupt:
@@ -217,10 +259,9 @@ def main():
         if failed:
             print(f"{failed[1]}orc: {failed[0]} was not proved and built", file=sys.stderr)
             return 1
-        with open(f"{ROOT}/crates/{PROGRAM}/out/{PROGRAM}.crates", "w", encoding="utf-8") as it:
-            it.write("\n".join(crates) + "\n")
+        release.note("built here")
     return 0
 
 
 if __name__ == "__main__":
-    sys.exit(main())
+    sys.exit(main(sys.argv[1:]))

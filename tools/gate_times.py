@@ -8,8 +8,11 @@ of its proof, of its tests' proof and of its wrong bodies (and of the check that
 time from its first check to its last, and the most memory that one of its checks held. What is read are
 the prover's processes, looked at each second, so a check of less than a second may be missing.
 
+The last lines say how many wrong bodies the gate tries, and how many stand in tools/wrong_bodies beside it.
+
 Nothing is kept of the run: other checkouts on the machine find no proof of it.
 """
+import glob
 import os
 import re
 import shutil
@@ -81,6 +84,13 @@ def table(checks):
     print(f"{'all':{width}}  " + "  ".join(f"{sums[kind]:7.0f}" for kind in KINDS))
 
 
+def bodies():
+    """How many wrong bodies the gate tries, and how many are tried beside it."""
+    inside = len(glob.glob(f"{ROOT}/crates/*/must-fail/*.edit"))
+    outside = len(glob.glob(f"{ROOT}/tools/wrong_bodies/*/*.edit"))
+    return f"wrong bodies: {inside} in the gate, {outside} beside it, {inside + outside} in all"
+
+
 def main():
     most = int(sys.argv[1]) if len(sys.argv) > 1 else len(os.sched_getaffinity(0))
     processors = sorted(os.sched_getaffinity(0))[:most]
@@ -104,6 +114,7 @@ def main():
         table(checks)
         refused = [it for it in said if re.search(r"NOT PROVED|NOT REFUSED|FAILED|BAD EDIT", it)]
         print("\n".join(refused), end="\n" * bool(refused))
+        print(bodies())
         print(f"{said[-1] if said else 'the gate said nothing'}; {(time.monotonic() - begun) / 60:.0f} minutes on {len(processors)} processors")
         return gate.returncode
     finally:

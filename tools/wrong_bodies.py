@@ -1,28 +1,80 @@
 #!/usr/bin/env python3
 """Wrong bodies that the gate doesn't try each time: those of `tools/wrong_bodies/CRATE/`.
 
-    tools/wrong_bodies.py                 looks whether each can still be applied, in a second
-    tools/wrong_bodies.py CRATE[/NAME] .. tries these: the prover has to refuse each
-    tools/wrong_bodies.py --all           tries all of them
+    tools/wrong_bodies.py                   looks, in seconds, whether each was refused by the contracts that stand
+    tools/wrong_bodies.py CRATE[/NAME] ..   tries these: the prover has to refuse each
+    tools/wrong_bodies.py --stale | --all   tries those of all crates that changed, or all
+    tools/wrong_bodies.py --sample HASH MINUTES      tries whole crates that the hash picks, for about so long
 
-They are as those of `crates/CRATE/must-fail/`, of which a crate has the ten or so that say most. To be tried they
-stand in the place of the crate's own for as long as that takes. Ends with 1 where one can't be applied or isn't
-refused.
+  --after-gate      takes the libraries that the gate has just built here
+  --beside DIR      takes those of another checkout's gate, where the texts are the same
+
+A wrong body is a file as those of `crates/CRATE/must-fail/`. The prover judges each function by the contracts of
+what it calls, so all bodies of a crate that touch different functions stand in one text, and one check tries them: a
+round. A body whose function calls one that was refused waits for the next round. One that seems to be let through is
+tried once more by itself.
+
+What came of it stands in `tools/wrong_bodies/CRATE/verdicts`, with a sum of what it depends on: the crate's texts, its
+wrong bodies, and the definitions and contracts of all crates below (a body or a comment there changes no refusal). Without
+words a crate whose sum is another fails, as does a body that can't be applied or wasn't refused.
 """
+import argparse
+import functools
+import hashlib
 import re
 import shutil
 import subprocess
 import sys
+import tempfile
+import time
 from pathlib import Path
 
-TOP = Path(__file__).resolve().parent.parent
+from prover import PARTS, TOP, Crates, Prover
+
 HOME = TOP / "tools" / "wrong_bodies"
+# What a refusal of a function by itself looks like, and what it looks like where only a callee was refused.
+JUDGED = re.compile(r"^fn (\S+): (.*)$", re.M)
+WAITS = re.compile(r"no proof: it calls")
+# A text that the prover can't read tries no contract.
+UNREAD = re.compile(r"^(?:\./)?(?:src|specs)/\S+?:\d+:\d+: error: .*(?:is not in scope|has no field|is no name|operand is missing|expected the end|cannot continue)", re.M)
+REFUSED, LET_THROUGH, BAD = "refused", "LET THROUGH", "can't be tried"
 
 
-def changes(edit):
+class Body:
+    """A wrong body: the texts that it changes, and the functions that they stand in."""
+
+    def __init__(self, path):
+        self.path, self.name, self.changes = path, path.stem, list(changes(path.read_text()))
+
+    def applied(self, texts, folder):
+        """The texts of a crate's files with this change in them, or why it can't be made. `texts` are files changed already."""
+        texts = dict(texts)
+        for file, old, new in self.changes:
+            if file not in texts and not (folder / file).is_file():
+                return None, f"there is no file {file}"
+            text = texts.get(file) or (folder / file).read_text()
+            if text.count(old) != 1:
+                return None, f"its text is in {file} {text.count(old)} times, and not once"
+            texts[file] = text.replace(old, new)
+        return (texts, None) if self.changes else (None, "it changes nothing")
+
+    def functions(self, crate, folder):
+        """The functions that it changes, as the prover names them; none where it changes something else too."""
+        found = set()
+        for file, old, _ in self.changes:
+            text = (folder / file).read_text()
+            place = function_at(text, text.count("\n", 0, text.find(old))) if file.startswith("src/") else None
+            if not place:
+                return set()
+            parts = [it for it in Path(file).with_suffix("").parts[1:] if it not in ("lib", "main", "mod")]
+            found.add(("::".join([crate, *parts]), *place))
+        return found
+
+
+def changes(text):
     """The changes of a wrong body: the file, what stands there, and what stands there in its place."""
     file = old = None
-    for line in edit.read_text().splitlines():
+    for line in text.splitlines():
         if line.startswith("file: "):
             file = line[6:].strip()
         elif line.startswith("old: "):
@@ -32,58 +84,243 @@ def changes(edit):
             old = None
 
 
-def why_not(edit):
-    """Why the wrong body can't be applied, or None."""
-    crate, texts, count = TOP / "crates" / edit.parent.name, {}, 0
-    for file, old, new in changes(edit):
-        path = crate / file
-        if not path.is_file():
-            return f"there is no file {file}"
-        text = texts.get(file) or path.read_text()
-        if text.count(old) != 1:
-            return f"its text is in {file} {text.count(old)} times, and not once"
-        texts[file] = text.replace(old, new)
-        count += 1
-    return None if count else "it changes nothing"
+def function_at(text, line):
+    """The type and the name of the function that a line stands in, by the layout that the gate asks for, or None."""
+    lines, depth = text.split("\n"), None
+    for at in range(line, -1, -1):
+        it = lines[at]
+        indent = len(it) - len(it.lstrip())
+        named = re.match(r"\s*(?:pub(?:\([^)]*\))? )?(?:const )?(?:unsafe )?fn (\w+)", it)
+        if depth is None:
+            if named:
+                name, depth = named[1], indent
+                if indent == 0:
+                    return "", name
+            elif it.startswith("}") and at < line:
+                return None
+        elif indent < depth:
+            owner = re.match(r"\s*(?:pub )?(?:impl\b.*?(?:\bfor )?(\w+)(?:<[^{]*)?\s*(?:where\b.*)?\{?$|trait (\w+)|mod (\w+))", it)
+            if owner and not it.strip().startswith("//"):
+                return owner[1] or owner[2] or "", name
+    return None
 
 
-def are_refused(crate, edits):
-    """Tries wrong bodies of one crate, and says what the prover said of each."""
-    beside = TOP / "crates" / crate / "must-fail"
-    own, aside = list(beside.glob("*.edit")), TOP / "crates" / crate / "out" / "own-wrong-bodies"
-    was_there = beside.is_dir()
-    aside.mkdir(parents=True, exist_ok=True)
-    beside.mkdir(exist_ok=True)
-    try:
-        for it in own:
-            shutil.move(it, aside / it.name)
-        for it in edits:
-            shutil.copy(it, beside / it.name)
-        return subprocess.run(["rt", "must-fail", crate], cwd=TOP, check=False).returncode == 0
-    finally:
-        for it in edits:
-            (beside / it.name).unlink(missing_ok=True)
-        for it in own:
-            shutil.move(aside / it.name, it)
-        aside.rmdir()
-        if not was_there:
-            beside.rmdir()
+def is_of(function, named):
+    """Whether a name of the prover's is that of a function."""
+    module, owner, name = function
+    rest = named.removeprefix(module + "::")
+    if rest == named:
+        return False
+    return rest == name if not owner else bool(re.fullmatch(rf"{re.escape(owner)}\w*::{re.escape(name)}", rest))
 
 
-def main(words):
-    every = sorted(HOME.glob("*/*.edit"))
-    asked = every if words == ["--all"] else [it for it in every if {it.parent.name, f"{it.parent.name}/{it.stem}"} & set(words)]
-    lost = [word for word in words if word != "--all" and not any(word in (it.parent.name, f"{it.parent.name}/{it.stem}") for it in every)]
-    for word in lost:
-        print(f"{word}: there is no such wrong body, and no crate that has one here")
-    bad = [(it, why) for it in every if (why := why_not(it))]
-    for it, why in bad:
-        print(f"{it.relative_to(TOP)}: can't be applied: {why}")
-    if lost or bad:
-        return 1
-    refused = [are_refused(crate, [it for it in asked if it.parent.name == crate]) for crate in sorted({it.parent.name for it in asked})]
-    print(f"{len(every)} wrong bodies, each of which can be applied" if not asked else f"{len(asked)} tried: {'each refused' if all(refused) else 'not each refused'}")
-    return int(not all(refused))
+def contract_of(text):
+    """The text of a file without bodies of functions, comments and attributes: what a crate above can know of it."""
+    kept, closing = [], None
+    for line in text.split("\n"):
+        indent, it = len(line) - len(line.lstrip()), line.strip()
+        if closing is not None:
+            if line == closing:
+                closing = None
+            continue
+        if it.startswith(("//", "#[", "#![", "use ", "mod ")) or not it:
+            continue
+        kept.append(line)
+        begins = it == "{" or re.search(r"\bfn \w+.*[^{]\{$", it)
+        if begins and (it != "{" or is_header(kept, indent)):
+            closing = " " * indent + "}"
+    return "\n".join(kept)
 
 
-sys.exit(main(sys.argv[1:]))
+def is_header(kept, indent):
+    """Whether a brace that stands alone opens the body of a function: what stands above it at its depth begins one."""
+    above = next((it for it in reversed(kept[:-1]) if len(it) - len(it.lstrip()) <= indent), "")
+    return bool(re.search(r"\bfn \w+|^\s*\)", above))
+
+
+@functools.lru_cache(maxsize=None)
+def sum_of_contracts(crates, name):
+    """A sum of a crate's definitions, and of what its files say to a crate above."""
+    it = hashlib.sha256(name.encode())
+    for file in crates.files(name, ("specs",)):
+        it.update(repr((file.name, file.read_bytes())).encode())
+    for file in crates.files(name, ("src",)):
+        it.update(repr((file.name, contract_of(file.read_text()))).encode())
+    return it.hexdigest()
+
+
+class Room:
+    """A crate's wrong bodies, and a copy of the crate to try them in."""
+
+    def __init__(self, crates, name):
+        self.crates, self.name, self.folder = crates, name, crates.folder(name)
+        self.home = HOME / name
+        self.bodies = [Body(it) for it in sorted(self.home.glob("*.edit"))]
+
+    def sum(self):
+        """A sum of what the verdicts depend on."""
+        it = hashlib.sha256(repr(self.crates.uses[self.name]).encode())
+        for file in [*self.crates.files(self.name), *(body.path for body in self.bodies)]:
+            it.update(repr((file.name, file.read_bytes())).encode())
+        for below in self.crates.below(self.name):
+            it.update(sum_of_contracts(self.crates, below).encode())
+        return it.hexdigest()
+
+    def recorded(self):
+        """The sum and the verdicts of the last try."""
+        file = self.home / "verdicts"
+        lines = file.read_text().splitlines() if file.is_file() else []
+        rows = dict(it.split(": ", 1) for it in lines if ": " in it)
+        return rows.pop("sum", None), rows
+
+    def wrong(self):
+        """What is wrong with what was recorded, a line each."""
+        bad = [f"{self.name}/{it.name}: can't be applied: {why}" for it in self.bodies for why in [it.applied({}, self.folder)[1]] if why]
+        sum, rows = self.recorded()
+        if bad:
+            return bad
+        if sum != self.sum():
+            return [f"{self.name}: changed since its wrong bodies were tried: call tools/wrong_bodies.py {self.name}"]
+        return [f"{self.name}/{it.name}: {rows.get(it.name, 'was not tried')}" for it in self.bodies if not rows.get(it.name, "").startswith(REFUSED)]
+
+    def record(self, verdicts):
+        rows = [f"{name}: {verdict}" for name, verdict in sorted(verdicts.items())]
+        (self.home / "verdicts").write_text("\n".join([f"sum: {self.sum()}", *rows]) + "\n")
+
+    def tried(self, prover, bodies):
+        """What came of these wrong bodies, by name."""
+        verdicts, left, rounds = {}, list(bodies), 0
+        with tempfile.TemporaryDirectory(prefix="wrong-bodies-") as room:
+            kept = Path(room) / "kept"
+            own = self.folder / "out" / "incremental"
+            shutil.copytree(own, kept) if own.is_dir() else kept.mkdir()
+            while left:
+                rounds += 1
+                taken, texts = self.round(left)
+                said = self.check(prover, texts, kept)
+                found = {it.name: self.verdict(it, said) if len(taken) > 1 else self.alone(said) for it in taken}
+                for it in taken:
+                    # (what a round doesn't refuse is tried by itself, as is the first where all wait)
+                    waits = found[it.name] is None and (it is not taken[0] or any(found.values()))
+                    if not waits and not (found[it.name] or "").startswith(REFUSED) and len(taken) > 1:
+                        found[it.name] = self.alone(self.check(prover, it.applied({}, self.folder)[0], kept))
+                verdicts |= {name: verdict for name, verdict in found.items() if verdict}
+                left = [it for it in left if it.name not in verdicts]
+        return verdicts, rounds
+
+    def round(self, left):
+        """As many wrong bodies as touch different functions, and the texts with all of them."""
+        taken, held, texts = [], set(), {}
+        for it in left:
+            functions = it.functions(self.name, self.folder)
+            if taken and (not functions or functions & held):
+                continue
+            changed, why = it.applied(texts, self.folder)
+            if why and taken:
+                continue
+            taken, held, texts = [*taken, it], held | functions, changed or {}
+            if not functions:
+                break
+        return taken, texts
+
+    def check(self, prover, texts, kept):
+        """Checks the crate with these texts in place of its own, and gives the status and what was said."""
+        with tempfile.TemporaryDirectory(prefix="wrong-bodies-") as room:
+            for part in PARTS:
+                if (self.folder / part).is_dir():
+                    shutil.copytree(self.folder / part, f"{room}/{part}")
+            for file, text in (texts or {}).items():
+                (Path(room) / file).write_text(text)
+            ran = prover.check(self.name, room, kept)
+            return ran.returncode, ran.stdout
+
+    def verdict(self, body, said):
+        """What a round's check says of one of its bodies, or None where it has to wait."""
+        status, text = said
+        if status not in (0, 1) or UNREAD.search(text) or not text.rstrip().split("\n")[-1].startswith("logic="):
+            return BAD
+        functions = body.functions(self.name, self.folder)
+        rows = [(named, how) for named, how in JUDGED.findall(text) if any(is_of(it, named) for it in functions)]
+        own = [named for named, how in rows if how != "proved" and not WAITS.match(how)]
+        if own:
+            return f"{REFUSED} by {own[0]}"
+        return None if any(WAITS.match(how) for _, how in rows) else LET_THROUGH
+
+    @staticmethod
+    def alone(said):
+        """What the check of one body by itself says."""
+        status, text = said
+        last = text.rstrip().split("\n")[-1]
+        unread = UNREAD.search(text)
+        if unread or status not in (0, 1) or status == 1 and not last.startswith("logic=not-proved"):
+            return f"{BAD}: {(unread[0] if unread else last)[:150]}"
+        if status == 0:
+            return LET_THROUGH
+        named = next((named for named, how in JUDGED.findall(text) if how != "proved" and not WAITS.match(how)), None)
+        return f"{REFUSED} by {named}" if named else REFUSED
+
+
+def try_crates(prover, rooms, only=()):
+    """Tries the wrong bodies of crates, one after the other, while there is time, and gives whether each was refused."""
+    well, count = True, 0
+    for room in rooms:
+        begun = time.monotonic()
+        bodies = [it for it in room.bodies if f"{room.name}/{it.name}" in only] or room.bodies
+        try:
+            verdicts, rounds = room.tried(prover, bodies)
+        except subprocess.TimeoutExpired:
+            print(f"{room.name}: not tried to its end in the time that was left")
+            break
+        for name, verdict in sorted(verdicts.items()):
+            if not verdict.startswith(REFUSED):
+                print(f"{room.name}/{name}: {verdict}", flush=True)
+        if len(bodies) == len(room.bodies) and not prover.until:
+            room.record(verdicts)
+        refused = sum(it.startswith(REFUSED) for it in verdicts.values())
+        print(f"{room.name}: {refused} of {len(bodies)} refused, in {rounds} checks, {time.monotonic() - begun:.0f} s", flush=True)
+        well, count = well and refused == len(bodies), count + len(bodies)
+    print(f"{count} wrong bodies tried: {'each refused' if well else 'not each refused'}")
+    return well
+
+
+def look(rooms):
+    """Looks at what was recorded, and gives whether each wrong body was refused by the contracts that stand."""
+    bad = [it for room in rooms for it in room.wrong()]
+    print("\n".join(bad), end="\n" * bool(bad))
+    if not bad:
+        print(f"{sum(len(it.bodies) for it in rooms)} wrong bodies in {len(rooms)} crates, each refused by the contracts that stand")
+    return not bad
+
+
+def main():
+    words = argparse.ArgumentParser(description="Tries wrong bodies that the gate doesn't try each time.", epilog="without words: looks whether each was refused by the contracts that stand")
+    words.add_argument("names", nargs="*", metavar="CRATE[/NAME]")
+    words.add_argument("--stale", action="store_true")
+    words.add_argument("--all", action="store_true")
+    words.add_argument("--sample", nargs=2, metavar=("HASH", "MINUTES"))
+    words.add_argument("--after-gate", action="store_true")
+    words.add_argument("--beside", metavar="DIR")
+    asked = words.parse_args()
+    crates = Crates()
+    rooms = [Room(crates, it) for it in crates.uses if (HOME / it).is_dir()]
+    unknown = [it for it in asked.names if not any(it in (room.name, *(f"{room.name}/{body.name}" for body in room.bodies)) for room in rooms)]
+    for it in unknown:
+        print(f"{it}: there is no such wrong body, and no crate that has one here")
+    if unknown:
+        return 2
+    if not (asked.names or asked.stale or asked.all or asked.sample):
+        return int(not look(rooms))
+    prover = Prover(crates, asked.beside, asked.after_gate)
+    if asked.sample:
+        key, minutes = asked.sample
+        prover.until = time.monotonic() + 60 * float(minutes)
+        rooms.sort(key=lambda it: hashlib.sha256(f"{key} {it.name}".encode()).digest())
+    elif asked.stale:
+        rooms = [it for it in rooms if it.wrong()]
+    elif asked.names:
+        rooms = [it for it in rooms if any(name.split("/")[0] == it.name for name in asked.names)]
+    return int(not try_crates(prover, rooms, set(asked.names)))
+
+
+if __name__ == "__main__":
+    sys.exit(main())
