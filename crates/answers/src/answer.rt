@@ -9,7 +9,7 @@ use session_script::ScriptWhy;
 ///
 /// A file is numbered by its place among the distinct names of the command line or of the script, by first mention,
 /// from 0.
-#[derive(Debug, Drop)]
+#[derive(Drop)]
 pub enum Answer {
     /// The session, or the assembled object, was written whole.
     Done,

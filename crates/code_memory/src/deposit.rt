@@ -8,14 +8,14 @@ use std::marker::Model;
 use std::mem;
 
 /// Who has the bytes of a deposit: the placement alone, as no image was made since, or images too.
-#[derive(Debug, Drop)]
+#[derive(Drop)]
 enum Held {
     Owned(Bytes),
     Shared(DepositBytes),
 }
 
 /// The bytes that were deposited in a range. Contracts see the list, and not who has them.
-#[derive(Debug, Drop)]
+#[derive(Drop)]
 pub struct Deposit {
     held: Held,
 }

@@ -6,7 +6,7 @@ use std::marker::Model;
 use std::sync::Arc;
 
 /// Bytes that a space and its images have together, and how many they are. Contracts see the list.
-#[derive(Debug, Drop)]
+#[derive(Drop)]
 pub struct DepositBytes {
     bytes: Arc<Bytes, Global>,
     len: usize,

@@ -9,14 +9,14 @@ use std::sync::Arc;
 
 /// A range of memory with its bytes, of which there is at least one. The space and its images share
 /// them.
-#[derive(Debug, Drop)]
+#[derive(Drop)]
 pub struct Segment {
     pub base: u64,
     pub bytes: DepositBytes,
 }
 
 /// The deposited ranges as they were once, in rising order. It stays as it is. Contracts see the list.
-#[derive(Debug, Drop)]
+#[derive(Drop)]
 pub struct Image {
     segments: Arc<Vec<Segment>, Global>,
 }

@@ -5,7 +5,7 @@ use orc_ids::{Shape, UnitId};
 use std::alloc::{AllocError, Global};
 
 /// The range that a unit was given. It has bytes from their deposit on.
-#[derive(Debug, Drop)]
+#[derive(Drop)]
 pub struct Placement {
     pub unit: UnitId,
     pub base: u64,

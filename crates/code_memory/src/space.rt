@@ -12,14 +12,11 @@ use orc_ids::{Bytes, CODE_START, Shape, UnitId};
 use std::alloc::{AllocError, Global};
 use std::collections::{BTreeMap, HashMap, VecDeque};
 use std::marker::Model;
-use thiserror::Error;
 
 /// Why a unit got no range: no base is free for that many bytes, or memory ran out.
-#[derive(Debug, Drop, Error)]
+#[derive(Drop)]
 pub enum SpaceError {
-    #[error("no room for {0} bytes")]
     NoRoom(u64),
-    #[error("out of memory")]
     NoMemory,
 }
 

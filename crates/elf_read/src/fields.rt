@@ -5,7 +5,7 @@ use crate::object::Reloc;
 use orc_words::{get_le, sign_extend};
 
 /// The fields of the file header (`Elf64_Ehdr`) that a relocatable object depends on.
-#[derive(Clone, Copy, Debug)]
+#[derive(Clone, Copy)]
 pub(crate) struct FileHeader {
     pub magic: u32,
     pub class: u8,
@@ -20,7 +20,7 @@ pub(crate) struct FileHeader {
 }
 
 /// The fields of an entry of the section table (`Elf64_Shdr`), all but the address.
-#[derive(Clone, Copy, Debug)]
+#[derive(Clone, Copy)]
 pub(crate) struct SectionHeader {
     pub name: u32,
     pub kind: u32,
@@ -34,7 +34,7 @@ pub(crate) struct SectionHeader {
 }
 
 /// An entry of the symbol table (`Elf64_Sym`), with the parts of `st_info` and `st_other`.
-#[derive(Clone, Copy, Debug)]
+#[derive(Clone, Copy)]
 pub(crate) struct SymbolEntry {
     pub name: u32,
     pub bind: u8,

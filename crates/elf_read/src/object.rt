@@ -6,7 +6,7 @@ use std::marker::Model;
 
 /// A relocation of a kept section (`Elf64_Rela`): `at` is the offset in that section, `kind` the
 /// type of the RISC-V ELF psABI, and `symbol` a number in the object's list of symbols.
-#[derive(Clone, Copy, Debug, PartialEq, Eq)]
+#[derive(Clone, Copy, PartialEq, Eq)]
 pub struct Reloc {
     pub at: u64,
     pub kind: u32,
@@ -15,7 +15,7 @@ pub struct Reloc {
 }
 
 /// The relocations of one section, in the order of its table. Contracts see the list.
-#[derive(Debug, Drop)]
+#[derive(Drop)]
 pub struct Relocs {
     items: Vec<Reloc>,
 }
@@ -56,7 +56,7 @@ impl Relocs {
 /// A section that is placed in memory (`Elf64_Shdr`). `kind` and `flags` are `sh_type` and
 /// `sh_flags`; `align` is at least 1; `bytes` is empty for `SHT_NOBITS`, whose `size` zeros are not
 /// in the file, and else has `size` bytes.
-#[derive(Debug, Drop)]
+#[derive(Drop)]
 pub struct Section {
     pub name: SharedBytes,
     pub kind: u32,
@@ -68,7 +68,7 @@ pub struct Section {
 }
 
 /// The kept sections of an object, in the order of its table. Contracts see the list.
-#[derive(Debug, Drop)]
+#[derive(Drop)]
 pub struct Sections {
     items: Vec<Section>,
 }
@@ -107,7 +107,7 @@ impl Sections {
 }
 
 /// Where a symbol lies (`st_shndx`).
-#[derive(Clone, Copy, Debug, PartialEq, Eq)]
+#[derive(Clone, Copy, PartialEq, Eq)]
 pub enum SymPlace {
     /// Defined by another object.
     Undef,
@@ -123,7 +123,7 @@ pub enum SymPlace {
 
 /// An entry of the symbol table (`Elf64_Sym`). `bind` and `kind` are the two halves of `st_info`,
 /// and `vis` is the visibility of `st_other`.
-#[derive(Debug, Drop)]
+#[derive(Drop)]
 pub struct Symbol {
     pub name: SharedBytes,
     pub bind: u8,
@@ -135,7 +135,7 @@ pub struct Symbol {
 }
 
 /// The symbols of an object, from symbol 0 on. Contracts see the list.
-#[derive(Debug, Drop)]
+#[derive(Drop)]
 pub struct Symbols {
     items: Vec<Symbol>,
 }
@@ -174,7 +174,7 @@ impl Symbols {
 }
 
 /// A relocatable object: what is placed, and what it names.
-#[derive(Debug, Drop)]
+#[derive(Drop)]
 pub struct ElfObject {
     pub sections: Sections,
     pub symbols: Symbols,

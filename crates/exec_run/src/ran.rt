@@ -12,7 +12,7 @@ pub enum RunEnd {
 }
 
 /// The end of a run, and what it wrote to descriptor 1.
-#[derive(Debug, Drop)]
+#[derive(Drop)]
 pub struct Ran {
     pub end: RunEnd,
     pub output: Bytes,

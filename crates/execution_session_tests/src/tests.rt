@@ -8,6 +8,7 @@
 
 mod calls;
 mod endings;
+mod entries;
 mod few_places;
 mod handed_back;
 mod items;

@@ -4,7 +4,7 @@ use elf_read::read_object;
 use elf_write::write_object;
 use generated_objects::{graph_of_function, next, object_of};
 use link_graph::graph_of;
-use link_model::LinkGraph;
+use link_model::{Block, Edge, GSym, LinkGraph};
 use orc_ids::Bytes;
 use orc_names::Names;
 use rv_asm::assemble;
@@ -91,18 +91,72 @@ fn read_graph(alloc: Global, k: u32, names: &mut Names) -> Result<LinkGraph, Fai
     Ok(graph_of(alloc, &object, names)?)
 }
 
-/// All parts of a graph.
-fn shown(alloc: Global, graph: &LinkGraph) -> Result<String, Fail> {
-    Ok(format!(in alloc; "{graph:?}")?)
+/// Two blocks are the same.
+fn is_same_block(a: &Block, b: &Block) -> bool {
+    a.bytes.as_slice() == b.bytes.as_slice() && a.size == b.size && a.align == b.align
+}
+
+/// Two lists of blocks are the same.
+fn are_same_blocks(a: &[Block], b: &[Block]) -> bool {
+    for (a, b) in a.iter().zip(b) {
+        if !is_same_block(a, b) {
+            return false;
+        }
+    }
+    a.len() == b.len()
+}
+
+/// Two symbols are the same.
+fn is_same_symbol(a: &GSym, b: &GSym) -> bool {
+    a.name == b.name
+        && a.place == b.place
+        && a.flags == b.flags
+        && a.global == b.global
+}
+
+/// Two lists of symbols are the same.
+fn are_same_symbols(a: &[GSym], b: &[GSym]) -> bool {
+    for (a, b) in a.iter().zip(b) {
+        if !is_same_symbol(a, b) {
+            return false;
+        }
+    }
+    a.len() == b.len()
+}
+
+/// Two edges are the same.
+fn is_same_edge(a: &Edge, b: &Edge) -> bool {
+    a.block == b.block
+        && a.offset == b.offset
+        && a.kind == b.kind
+        && a.target == b.target
+        && a.addend == b.addend
+}
+
+/// Two lists of edges are the same.
+fn are_same_edges(a: &[Edge], b: &[Edge]) -> bool {
+    for (a, b) in a.iter().zip(b) {
+        if !is_same_edge(a, b) {
+            return false;
+        }
+    }
+    a.len() == b.len()
+}
+
+/// All parts of two graphs are the same.
+fn is_same_graph(a: &LinkGraph, b: &LinkGraph) -> bool {
+    are_same_blocks(a.blocks.as_slice(), b.blocks.as_slice())
+        && are_same_symbols(a.symbols.as_slice(), b.symbols.as_slice())
+        && are_same_edges(a.edges.as_slice(), b.edges.as_slice())
 }
 
 /// The graph of function `k` of eight is that of its file.
 fn is_read_back(alloc: Global, k: u32, names: &mut Names) -> Result<bool, Fail>
     requires { k < 8 }
 {
-    let read = shown(alloc, &read_graph(alloc, k, names)?)?;
-    let made = shown(alloc, &graph_of_function(alloc, 8, k)?)?;
-    Ok(made.as_str() == read.as_str())
+    let read = read_graph(alloc, k, names)?;
+    let made = graph_of_function(alloc, 8, k)?;
+    Ok(is_same_graph(&made, &read))
 }
 
 #[test]

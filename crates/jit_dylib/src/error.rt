@@ -3,15 +3,12 @@ ghost use Rattle.jit_dylib.specs.declared.error.DefineError.TheVariants.{NoMemor
 
 use orc_ids::{InstId, NameId};
 use std::alloc::{AllocError, AllocFailed};
-use thiserror::Error;
 
 /// Why nothing was defined.
-#[derive(Debug, Drop, Error)]
+#[derive(Drop)]
 pub enum DefineError {
     /// This offered name is the first that has a definition already, this instance.
-    #[error("{0:?} is defined already, by {1:?}")]
     Duplicate(NameId, InstId),
-    #[error("out of memory")]
     NoMemory,
 }
 

@@ -152,6 +152,25 @@ fn the_symbols_of_the_file(rt: HostRuntime) -> Result<(), Fail> {
     Ok(())
 }
 
+/// Two edges are the same.
+fn is_same_edge(a: &Edge, b: &Edge) -> bool {
+    a.block == b.block
+        && a.offset == b.offset
+        && a.kind == b.kind
+        && a.target == b.target
+        && a.addend == b.addend
+}
+
+/// Two lists of edges are the same.
+fn are_same_edges(a: &[Edge], b: &[Edge]) -> bool {
+    for (a, b) in a.iter().zip(b) {
+        if !is_same_edge(a, b) {
+            return false;
+        }
+    }
+    a.len() == b.len()
+}
+
 #[test]
 fn the_edges_of_the_file(rt: HostRuntime) -> Result<(), Fail> {
     let graph = graph(rt.alloc(), &HELLO, &[])?;
@@ -168,7 +187,7 @@ fn the_edges_of_the_file(rt: HostRuntime) -> Result<(), Fail> {
         target: 2,
         ..low
     };
-    assert_eq!(rt; graph.edges.as_slice(), [upper, low].as_slice());
+    assert!(rt; are_same_edges(graph.edges.as_slice(), &[upper, low]));
     Ok(())
 }
 
@@ -284,7 +303,7 @@ fn moves_what_follows_padding(rt: HostRuntime) -> Result<(), Fail> {
         addend: 0,
         ..align
     };
-    assert_eq!(rt; graph.edges.as_slice(), [align, jump].as_slice());
+    assert!(rt; are_same_edges(graph.edges.as_slice(), &[align, jump]));
     Ok(())
 }
 
@@ -300,9 +319,9 @@ fn target(alloc: Global, changes: &[(usize, u8)]) -> Result<Option<GPlace>, Fail
 
 #[test]
 fn moves_symbols_with_padding(rt: HostRuntime) -> Result<(), Fail> {
-    assert_eq!(rt; target(rt.alloc(), &[])?, Some(GPlace::In(0, 20)));
+    assert!(rt; target(rt.alloc(), &[])? == Some(GPlace::In(0, 20)));
     let inside = target(rt.alloc(), &[(TARGET_VALUE, 18)])?;
-    assert_eq!(rt; inside, Some(GPlace::In(0, 16)));
+    assert!(rt; inside == Some(GPlace::In(0, 16)));
     Ok(())
 }
 

@@ -2,7 +2,7 @@ use orc_ids::{Items, NameId, Shape, SymFlags};
 use shared_bytes::SharedBytes;
 
 /// A block: the contents of one section, or one common symbol. Empty bytes stand for zeros.
-#[derive(Debug, Drop)]
+#[derive(Drop)]
 pub struct Block {
     pub bytes: SharedBytes,
     /// In bytes; the bytes are this many, or none.
@@ -13,7 +13,7 @@ pub struct Block {
 
 /// Where a symbol is: at an offset in a block, at an address, or in another unit. The flag of an
 /// external says that it is weakly referenced.
-#[derive(Clone, Copy, Debug, PartialEq, Eq)]
+#[derive(Clone, Copy, PartialEq, Eq)]
 pub enum GPlace {
     In(u32, u64),
     Abs(u64),
@@ -21,7 +21,7 @@ pub enum GPlace {
 }
 
 /// A symbol. A local one has no name.
-#[derive(Debug, Drop)]
+#[derive(Drop)]
 pub struct GSym {
     pub name: Option<NameId>,
     pub place: GPlace,
@@ -30,7 +30,7 @@ pub struct GSym {
 }
 
 /// An edge: a relocation of some bytes of a block, by a symbol and an addend.
-#[derive(Clone, Copy, Debug, PartialEq, Eq)]
+#[derive(Clone, Copy)]
 pub struct Edge {
     pub block: u32,
     /// In bytes, in the block.
@@ -43,7 +43,7 @@ pub struct Edge {
 }
 
 /// A link graph (JITLink: `LinkGraph`): blocks in section order, symbols and edges in file order.
-#[derive(Debug, Drop)]
+#[derive(Drop)]
 pub struct LinkGraph {
     pub blocks: Items<Block>,
     pub symbols: Items<GSym>,
@@ -51,7 +51,7 @@ pub struct LinkGraph {
 }
 
 /// Where the parts of a unit lie, in bytes from its base.
-#[derive(Debug, Drop)]
+#[derive(Drop)]
 pub struct Layout {
     /// The offset of each block.
     pub blocks: Items<u64>,

@@ -45,7 +45,7 @@ pub const PLT32: u32 = 59;
 
 /// What the value of a relocation is, from the symbol's address S, the addend A and the address P of
 /// the patched place (RISC-V ELF psABI, "Calculation Symbols").
-#[derive(Clone, Copy, Debug, PartialEq, Eq)]
+#[derive(Clone, Copy)]
 pub enum Formula {
     /// The marks have no value; 0 stands for it.
     Zero,
@@ -58,7 +58,7 @@ pub enum Formula {
 }
 
 /// Which values a relocation takes.
-#[derive(Clone, Copy, Debug, PartialEq, Eq)]
+#[derive(Clone, Copy)]
 pub enum Span {
     Any,
     /// A word of 32 bits, signed or unsigned: -2^31 to 2^32 - 1.
@@ -74,7 +74,7 @@ pub enum Span {
 }
 
 /// What a relocation writes.
-#[derive(Clone, Copy, Debug, PartialEq, Eq)]
+#[derive(Clone, Copy)]
 pub enum Form {
     Unwritten,
     /// The low bits of the value.
@@ -100,7 +100,7 @@ pub enum Form {
 }
 
 /// The row of a relocation kind. The width is in bytes.
-#[derive(Clone, Copy, Debug, PartialEq, Eq)]
+#[derive(Clone, Copy)]
 pub struct Rule {
     pub formula: Formula,
     pub span: Span,

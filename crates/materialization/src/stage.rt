@@ -9,7 +9,7 @@ use orc_ids::{GenId, Stop};
 use session_model::{Finishing, Reply, Why};
 
 /// Which call a job makes next.
-#[derive(Clone, Copy, Debug, Drop, PartialEq, Eq)]
+#[derive(Clone, Copy, Drop)]
 pub enum Stage {
     /// Place the unit.
     Place,

@@ -1,5 +1,5 @@
 /// The flags of a symbol (ORC: `JITSymbolFlags`). A weak or common definition isn't strong.
-#[derive(Clone, Copy, Debug, PartialEq, Eq)]
+#[derive(Clone, Copy, PartialEq, Eq)]
 pub struct SymFlags {
     pub weak: bool,
     pub common: bool,

@@ -6,7 +6,7 @@ pub type InstList = Items<InstId>;
 
 /// Instances of one unit, and the instances that all of them depend on
 /// (ORC: `SymbolDependenceGroup`).
-#[derive(Debug, Drop)]
+#[derive(Drop)]
 pub struct Group {
     pub members: InstList,
     pub deps: InstList,

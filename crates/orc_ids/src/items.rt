@@ -5,7 +5,7 @@ use std::marker::Model;
 
 /// A list inside an answer, an event or an entry, in the order that its owner says. Contracts see
 /// the list.
-#[derive(Debug, Drop)]
+#[derive(Drop)]
 pub struct Items<T> {
     items: Vec<T>,
 }

@@ -6,7 +6,7 @@ pub struct Place {
 }
 
 /// The memory that a unit needs: a positive number of bytes, and an alignment that is a power of two.
-#[derive(Clone, Copy, Debug, PartialEq, Eq)]
+#[derive(Clone, Copy, PartialEq, Eq)]
 pub struct Shape {
     pub need: u64,
     pub align: u64,

@@ -5,36 +5,28 @@ ghost use Rattle.orc_io.specs.declared.errors.ReadError.TheVariants as read_erro
 
 use orc_ids::Bytes;
 use std::alloc::{AllocError, AllocFailed};
-use thiserror::Error;
 
 /// A read or a write that the outside refused; the count of faults of the thing that was called rose.
-#[derive(Clone, Copy, Debug, PartialEq, Eq, Error)]
-#[error("the outside refused a read or a write")]
+#[derive(Clone, Copy, PartialEq, Eq)]
 pub struct Failed;
 
 /// Why a file was not read.
-#[derive(Clone, Copy, Debug, PartialEq, Eq, Error)]
+#[derive(Clone, Copy, PartialEq, Eq)]
 pub enum FileError {
     /// The file has more than `FILE_LIMIT` bytes.
-    #[error("the file has more than 16 MiB")]
     TooLong,
     /// There is no such file, or reading it failed; the count of faults rose.
-    #[error("the file is missing, or reading it failed")]
     Failed,
-    #[error("out of memory")]
     NoMemory,
 }
 
 /// Why a source was not read whole.
-#[derive(Debug, Drop, Error)]
+#[derive(Drop)]
 pub enum ReadError {
     /// The source has more bytes than the limit; these are its first, one more than the limit.
-    #[error("the input is longer than its limit")]
     TooLong(Bytes),
     /// A read failed; the count of faults rose.
-    #[error("reading the input failed")]
     Failed,
-    #[error("out of memory")]
     NoMemory,
 }
 

@@ -10,7 +10,7 @@ pub trait Gate {
 }
 
 /// A gate that lets every worker pass at once.
-#[derive(Clone, Copy, Debug, PartialEq, Eq)]
+#[derive(Clone, Copy)]
 pub struct OpenGate;
 
 impl Gate for OpenGate {
@@ -28,7 +28,7 @@ pub trait Notify: Drop {
 }
 
 /// A notifier that keeps the outcome.
-#[derive(Debug, Drop)]
+#[derive(Drop)]
 pub struct Note {
     pub outcome: Option<Outcome>,
 }

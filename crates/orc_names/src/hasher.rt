@@ -4,7 +4,7 @@ use std::collections::hash_map::RandomState;
 use std::hash::{BuildHasher, DefaultHasher};
 
 /// How the texts are hashed.
-#[derive(Clone, Copy, Debug)]
+#[derive(Clone, Copy)]
 pub enum NameHasher {
     /// By a seed that strangers can't know.
     Seeded(RandomState),

@@ -9,11 +9,9 @@ use crate::parts::{low_bits, upper_part};
 use crate::table::rule;
 use link_model::{Form, Rule, Span};
 use orc_words::{Field, fits_signed, get_le, put_le, with_b, with_i, with_j, with_s, with_u};
-use thiserror::Error;
 
 /// A value that its relocation kind doesn't take.
-#[derive(Clone, Copy, Debug, PartialEq, Eq, Error)]
-#[error("relocation {kind} doesn't take the value {v}")]
+#[derive(Clone, Copy)]
 pub struct OutOfRange {
     pub kind: u32,
     pub v: i64,

@@ -1,6 +1,6 @@
 ghost use Rattle.std.specs.Prelude.{◌≡◌, None, All, length, IfOk};
 
-use orc_ids::{NameId, Outcome, UnitName};
+use orc_ids::{Level, NameId, Outcome, UnitName};
 use orc_io::Notify;
 use orc_names::NameHasher;
 use script_calls::{ClientCall, Lookup, Plan, SetUpCall};
@@ -75,6 +75,15 @@ fn two_units(alloc: Global) -> Result<Vec<ObjectUnit>, AllocError> {
     Ok(vec![in alloc; file_unit(alloc, 0)?, file_unit(alloc, 1)?]?)
 }
 
+/// Writes the name of a unit at the end of a line.
+fn write_name(text: &mut String, name: UnitName) -> Result<(), AllocError> {
+    match name {
+        UnitName::Object(k) => writeln!(text, "Object({k})"),
+        UnitName::Absolute(k) => writeln!(text, "Absolute({k})"),
+        UnitName::Alias(k) => writeln!(text, "Alias({k})"),
+    }
+}
+
 /// Writes a call of a set-up in a line.
 fn write_set_up<U: UnitKind>(text: &mut String, call: &SetUpCall<U>) -> Result<(), AllocError> {
     match call {
@@ -82,10 +91,12 @@ fn write_set_up<U: UnitKind>(text: &mut String, call: &SetUpCall<U>) -> Result<(
         SetUpCall::Order(d, order) => writeln!(text, "order d{} {}", d.0, order.len())?,
         SetUpCall::Tracker(d) => writeln!(text, "tracker d{}", d.0)?,
         SetUpCall::Define(d, t, unit) => {
-            writeln!(text, "define d{} t{} {:?}", d.0, t.0, unit.name())?;
+            write!(text, "define d{} t{} ", d.0, t.0)?;
+            write_name(text, unit.name())?;
         }
         SetUpCall::Attach(d, t, unit) => {
-            writeln!(text, "attach d{} t{} {:?}", d.0, t.0, unit.name())?;
+            write!(text, "attach d{} t{} ", d.0, t.0)?;
+            write_name(text, unit.name())?;
         }
     }
     Ok(())
@@ -98,11 +109,15 @@ fn write_lookup(
     note: &Option<(u32, Tagged)>,
 ) -> Result<(), AllocError> {
     let wanted = names.wanted.len();
+    let level = match names.level {
+        Level::Resolved => "Resolved",
+        Level::Ready => "Ready",
+    };
     match note {
         Some((note, what)) => {
-            writeln!(text, "{:?} {wanted} {note}: {}", names.level, what.tag)?;
+            writeln!(text, "{level} {wanted} {note}: {}", what.tag)?;
         }
-        None => writeln!(text, "{:?} {wanted}", names.level)?,
+        None => writeln!(text, "{level} {wanted}")?,
     }
     Ok(())
 }
@@ -114,7 +129,8 @@ fn write_call<U: UnitKind>(
 ) -> Result<(), AllocError> {
     match call {
         ClientCall::Define(d, t, unit) => {
-            writeln!(text, "define d{} t{} {:?}", d.0, t.0, unit.name())?;
+            write!(text, "define d{} t{} ", d.0, t.0)?;
+            write_name(text, unit.name())?;
         }
         ClientCall::LookUp(names, note) => write_lookup(text, names, note)?,
         ClientCall::Move(t, to) => writeln!(text, "move t{} t{}", t.0, to.0)?,

@@ -13,7 +13,7 @@ pub type WantedList = Items<Wanted>;
 pub type Matches = Items<Option<(InstId, u64)>>;
 
 /// One event of a session, with the caller's seat and the reply.
-#[derive(Debug, Drop)]
+#[derive(Drop)]
 pub struct Entry<U> {
     pub seat: SeatNo,
     pub event: Event<U>,
@@ -21,7 +21,7 @@ pub struct Entry<U> {
 }
 
 /// What a caller asks of a session. `U` is the kind of unit that is handed in.
-#[derive(Debug, Drop)]
+#[derive(Drop)]
 pub enum Event<U> {
     /// Make a dylib of this name.
     Dylib(NameId),
@@ -60,7 +60,7 @@ pub enum Event<U> {
 }
 
 /// What a session answers.
-#[derive(Debug, Drop)]
+#[derive(Drop)]
 pub enum Reply {
     /// A dylib of this name is there.
     NameTaken(DylibId),
@@ -139,7 +139,7 @@ pub enum Reply {
 }
 
 /// How a unit's link query ended.
-#[derive(Debug, Drop)]
+#[derive(Drop)]
 pub enum Finishing {
     /// Each external's instance and address, or none.
     Bound(Matches),
@@ -148,7 +148,7 @@ pub enum Finishing {
 }
 
 /// Why a unit is given up.
-#[derive(Clone, Copy, Debug, PartialEq, Eq)]
+#[derive(Clone, Copy)]
 pub enum Why {
     /// An edge of this place, kind and value is out of range.
     Refused(Place, u32, i64),

@@ -33,14 +33,14 @@ pub struct InstRow {
 }
 
 /// What matching sees of an instance.
-#[derive(Clone, Copy, Debug, PartialEq, Eq)]
+#[derive(Clone, Copy, PartialEq, Eq)]
 pub struct Row {
     pub inst: InstId,
     pub flags: SymFlags,
 }
 
 /// Work that a session has for its callers.
-#[derive(Clone, Copy, Debug, PartialEq, Eq)]
+#[derive(Clone, Copy, PartialEq, Eq)]
 pub enum Job {
     /// Place, resolve and link the unit.
     Start(UnitId),
@@ -49,7 +49,7 @@ pub enum Job {
 }
 
 /// How far a unit has come.
-#[derive(Clone, Copy, Debug, PartialEq, Eq)]
+#[derive(Clone, Copy, PartialEq, Eq)]
 pub enum UnitPhase {
     /// No lookup has asked for it.
     Unclaimed,
@@ -83,7 +83,7 @@ pub struct Dylib {
 }
 
 /// A tracker (ORC: `ResourceTracker`).
-#[derive(Clone, Copy, Debug, PartialEq, Eq)]
+#[derive(Clone, Copy)]
 pub struct Track {
     pub dylib: u32,
     pub gone: bool,
@@ -106,21 +106,21 @@ pub struct Query {
 }
 
 /// A range of code memory, in bytes.
-#[derive(Clone, Copy, Debug, PartialEq, Eq)]
+#[derive(Clone, Copy)]
 pub struct Range {
     pub base: u64,
     pub need: u64,
 }
 
 /// What a name matches in a search order: an instance, or a generator that offers a definition.
-#[derive(Clone, Copy, Debug, PartialEq, Eq)]
+#[derive(Clone, Copy)]
 pub enum Match {
     Instance(InstId),
     Offered(GenId),
 }
 
 /// What becomes of one offered name.
-#[derive(Clone, Copy, Debug, PartialEq, Eq)]
+#[derive(Clone, Copy)]
 pub enum Verdict {
     /// It gets an instance.
     Kept,

@@ -13,6 +13,7 @@ use session_model::UnitKind;
 use session_player::{Call, SeatCall, Stopped, play};
 use std::alloc::{AllocError, Global};
 use std::process::Abort;
+use test_words::write_stop;
 
 /// Ends a session that has no notifiers.
 fn end<U: UnitKind, const JMAX: usize>(rt: &impl Abort, session: Session<U, Note, JMAX>) {
@@ -34,7 +35,11 @@ fn ending(
 ) -> Result<String, AllocError> {
     match played {
         Ok(()) => format!(in alloc; "entries: {entries}"),
-        Err(Stopped { at, why }) => format!(in alloc; "entries: {entries}, call {at}: {why:?}"),
+        Err(Stopped { at, why }) => {
+            let mut text = format!(in alloc; "entries: {entries}, call {at}: ")?;
+            write_stop(&mut text, why)?;
+            Ok(text)
+        }
     }
 }
 

@@ -14,7 +14,7 @@ use session_model::{Reply, UnitKind, UnitPhase};
 use session_parts::Parts;
 
 /// A call on a unit by the seat that holds it.
-#[derive(Clone, Copy, Debug, PartialEq, Eq)]
+#[derive(Clone, Copy)]
 pub enum Call {
     Place,
     Resolve,

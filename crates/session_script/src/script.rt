@@ -33,7 +33,7 @@ pub enum SetupLine {
 }
 
 /// A symbol is defined to stand for the target in the source dylib.
-#[derive(Clone, Copy, Debug, PartialEq, Eq)]
+#[derive(Clone, Copy, PartialEq, Eq)]
 pub struct AliasLine {
     pub dylib: DylibId,
     pub tracker: TrackId,

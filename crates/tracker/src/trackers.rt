@@ -9,14 +9,11 @@ use orc_ids::{DylibId, GenId, TRACKER_LIMIT, TrackId, UnitId};
 use std::alloc::{AllocError, Global};
 use std::collections::LinkedList;
 use std::marker::Model;
-use thiserror::Error;
 
 /// Why no tracker was made.
-#[derive(Debug, Drop, Error)]
+#[derive(Drop)]
 pub enum TrackError {
-    #[error("too many trackers")]
     TooMany,
-    #[error("out of memory")]
     NoMemory,
 }
 

@@ -15,15 +15,12 @@ use orc_ids::Place;
 use reloc_table::{OutOfRange, patch_at};
 use std::alloc::AllocError;
 use std::collections::HashMap;
-use thiserror::Error;
 
 /// Why a unit can't be fixed.
-#[derive(Debug, Drop, Error)]
+#[derive(Drop)]
 pub enum FixError {
     /// The place, kind and value of the first edge, in file order, whose value is out of its range.
-    #[error("an edge of kind {1} is out of range")]
     OutOfRange(Place, u32, i64),
-    #[error("no memory")]
     NoMemory,
 }
 

@@ -14,6 +14,7 @@ use orc_ids::{
 use orc_io::Note;
 use session_model::{Finishing, Reply, Why};
 use std::alloc::{AllocError, Global};
+use test_words::{write_answer, write_heard};
 
 /// A session of the tests' units.
 pub(super) type Tried<const JMAX: usize> = Session<Named, Note, JMAX>;
@@ -79,9 +80,14 @@ impl Answer {
             beside,
             told,
         } = self;
+        write_answer(text, reply)?;
+        write!(text, "{beside}")?;
         match told {
-            None => write!(text, "{reply:?}{beside}"),
-            Some((note, heard)) => write!(text, "{reply:?}{beside}, {note} hears {heard:?}"),
+            None => Ok(()),
+            Some((note, heard)) => {
+                write!(text, ", {note} hears ")?;
+                write_heard(text, heard)
+            }
         }
     }
 }

@@ -4,6 +4,7 @@ ghost use Rattle.std.specs.Prelude.{◌≤◌};
 ghost use Rattle.execution_session.specs.declared.session.TheConstants.{JOURNAL_LIMIT};
 
 use super::calls::{Call, Tried, make};
+use super::entries::write_entry;
 use super::items::{Lookup, asks_each};
 use super::limits::{Kind, makes};
 use super::units::Named;
@@ -61,7 +62,7 @@ fn is_answered<const JMAX: usize>(
 /// The entry is printed so.
 fn is_printed(entry: &Entry<Named>, said: &str, text: &mut String) -> bool {
     text.clear();
-    let _written = write!(text, "{entry:?}");
+    let _written = write_entry(text, entry);
     text.as_str() == said
 }
 

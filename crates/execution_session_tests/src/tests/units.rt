@@ -10,7 +10,7 @@ use session_model::UnitKind;
 use std::alloc::{AllocError, Global};
 
 /// A unit with one name, at its start, and bytes that are all 7.
-#[derive(Clone, Copy, Debug)]
+#[derive(Clone, Copy)]
 pub(super) struct Named {
     pub(super) name: NameId,
     pub(super) weak: bool,

@@ -4,7 +4,7 @@ ghost use Rattle.orc_io.specs.Causes.{Rose};
 use crate::errors::Failed;
 
 /// Which calls of a form in memory fail, by their numbers, which count from 0.
-#[derive(Debug, Drop)]
+#[derive(Drop)]
 pub struct FaultPlan {
     /// The numbers of the calls that fail, in any order.
     pub failing: Vec<u64>,

@@ -11,7 +11,7 @@ use std::alloc::{AllocError, Global};
 
 /// A sink in memory. It tells its bytes, and fails at the calls of `write` that it is made with, and
 /// where it is full. The memory for all that it can hold is taken when it is made.
-#[derive(Debug, Drop)]
+#[derive(Drop)]
 pub struct MemSink {
     held: Vec<u8>,
     /// How many bytes it can hold.

@@ -11,7 +11,7 @@ use crate::source::Source;
 use orc_ids::Bytes;
 
 /// A source in memory. It tells its bytes, and fails at the calls of `read` that it is made with.
-#[derive(Debug, Drop)]
+#[derive(Drop)]
 pub struct MemSource {
     inner: SureSource,
     pub plan: FaultPlan,

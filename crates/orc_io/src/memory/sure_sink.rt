@@ -8,7 +8,7 @@ use std::alloc::Global;
 /// A sink in memory that takes every piece whole and never fails. A sink that tells its bytes has to
 /// keep all of them, and keeping more can want memory; so this one tells none through `Sink`, and
 /// `bytes` has them as long as memory sufficed.
-#[derive(Debug, Drop)]
+#[derive(Drop)]
 pub struct SureSink {
     kept: Vec<u8>,
     whole: bool,

@@ -5,7 +5,7 @@ use crate::source::Source;
 use orc_ids::Bytes;
 
 /// A source in memory that never fails. It tells its bytes.
-#[derive(Debug, Drop)]
+#[derive(Drop)]
 pub struct SureSource {
     bytes: Bytes,
     taken: usize,

@@ -54,8 +54,8 @@ fn a_real_file_is_read_up_to_its_limit(rt: HostRuntime) -> Result<(), Fail> {
 // Reading no bytes and writing none doesn't wait on a terminal.
 #[test]
 fn standard_streams_are_read_and_written(rt: HostRuntime) {
-    assert_eq!(rt; StdSource::new(rt.stdin()).read(&mut []), Ok(0));
-    assert_eq!(rt; write_all(&mut StdSink::new(rt.stdout()), b""), Ok(()));
+    assert!(rt; StdSource::new(rt.stdin()).read(&mut []) == Ok(0));
+    assert!(rt; write_all(&mut StdSink::new(rt.stdout()), b"").is_ok());
     let error = write_all(&mut StdSink::new(rt.stderr()), b"to standard error\n");
-    assert_eq!(rt; error, Ok(()));
+    assert!(rt; error.is_ok());
 }

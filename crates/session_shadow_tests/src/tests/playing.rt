@@ -16,6 +16,7 @@ use session_shadow::{Judged, Made};
 use std::alloc::{AllocError, Global};
 use std::process::Abort;
 use std::test::Fail;
+use test_words::write_answer;
 
 /// The names of the journals, from 0.
 fn names(alloc: Global) -> Result<Names, NameError> {
@@ -29,7 +30,11 @@ fn names(alloc: Global) -> Result<Names, NameError> {
 /// Whether the answer, which makes no entry, is the one of the table.
 fn is_silent(alloc: Global, answer: &Result<Reply, Stop>, says: &Says) -> Result<bool, AllocError> {
     match says {
-        Says::NoEntry(text) => Ok(format!(in alloc; "{answer:?}")?.as_str() == *text),
+        Says::NoEntry(text) => {
+            let mut words = String::new(alloc);
+            write_answer(&mut words, answer)?;
+            Ok(words.as_str() == *text)
+        }
         Says::Entry(_) => Ok(false),
     }
 }

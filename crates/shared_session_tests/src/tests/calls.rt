@@ -15,13 +15,12 @@ use shared_session::{
 };
 use std::alloc::{AllocError, Global};
 use std::sync::Wait;
+use test_words::write_answer;
 
 /// The answer is printed so.
 pub(super) fn reads(alloc: Global, answer: Result<Reply, Stop>, text: &str) -> bool {
-    let Ok(printed) = format!(in alloc; "{answer:?}") else {
-        return false;
-    };
-    printed.as_str() == text
+    let mut words = String::new(alloc);
+    write_answer(&mut words, &answer).is_ok() && words.as_str() == text
 }
 
 /// Another handle to the first unit, if there is one and it is no alias.

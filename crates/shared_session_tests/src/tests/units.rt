@@ -8,7 +8,7 @@ use session_model::UnitKind;
 use std::alloc::{AllocError, Global};
 
 /// A unit with one name, at its start, and 48 bytes that are all 7.
-#[derive(Debug, Drop)]
+#[derive(Drop)]
 pub(super) struct Named {
     name: NameId,
     weak: bool,
