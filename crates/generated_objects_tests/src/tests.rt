@@ -108,10 +108,7 @@ fn are_same_blocks(a: &[Block], b: &[Block]) -> bool {
 
 /// Two symbols are the same.
 fn is_same_symbol(a: &GSym, b: &GSym) -> bool {
-    a.name == b.name
-        && a.place == b.place
-        && a.flags == b.flags
-        && a.global == b.global
+    a.name == b.name && a.place == b.place && a.flags == b.flags && a.global == b.global
 }
 
 /// Two lists of symbols are the same.

@@ -11,6 +11,3 @@
 mod names;
 
 pub use names::GivenNames;
-
-#[cfg(test)]
-mod tests;

@@ -10,8 +10,6 @@
 mod error;
 mod matching;
 mod search;
-#[cfg(test)]
-mod tests;
 
 pub use error::MatchError;
 pub use matching::{match_all, match_names};

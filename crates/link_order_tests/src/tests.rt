@@ -1,6 +1,8 @@
 ghost use Rattle.std.specs.Prelude.{[], ◌∷◌, ◌≡◌};
 ghost use Rattle.link_order.specs.Shown.{shown, is_named};
 
+mod two_dylibs;
+
 use link_order::{MatchError, match_all, match_names};
 use orc_ids::{DylibId, GenId, InstId, NameId, OrderItem, Scope, SymFlags, UnitId, Wanted};
 use session_model::{InstRow, Matched, Phase, Row, RowSource};

@@ -4,6 +4,7 @@ mod items;
 mod objects;
 mod play;
 mod preparing;
+mod stages;
 mod units;
 
 use orc_ids::Level::Ready;

@@ -13,8 +13,6 @@
 
 mod laws;
 mod stage;
-#[cfg(test)]
-mod tests;
 
 pub use laws::{
     driven_job_is_one, full_is_cause, job_begins, job_goes_on, may_give_up, others_leave_a_job,

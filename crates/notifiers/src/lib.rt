@@ -14,8 +14,6 @@ mod armed;
 mod chain;
 mod fires;
 mod notice;
-#[cfg(test)]
-mod tests;
 
 pub use armed::{Armed, Fired};
 pub use fires::{FiredList, Fires};

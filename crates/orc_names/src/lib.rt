@@ -15,6 +15,3 @@ mod text;
 pub use error::NameError;
 pub use hasher::NameHasher;
 pub use names::{NAME_LIMIT, Names};
-
-#[cfg(test)]
-mod tests;

@@ -12,8 +12,6 @@ mod field;
 mod immediate;
 mod number;
 mod signed;
-#[cfg(test)]
-mod tests;
 
 pub use field::Field;
 pub use immediate::{

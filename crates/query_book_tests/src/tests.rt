@@ -1,3 +1,4 @@
+mod notices;
 mod steps;
 
 use orc_ids::{End, InstId, Level, Outcome, QueryId, UnitId};

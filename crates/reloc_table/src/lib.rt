@@ -9,8 +9,6 @@
 mod parts;
 mod patches;
 mod table;
-#[cfg(test)]
-mod tests;
 mod values;
 
 pub use parts::{low_bits, upper_part};

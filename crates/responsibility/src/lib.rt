@@ -6,7 +6,5 @@
 #![tactic(auto)]
 
 mod resp;
-#[cfg(test)]
-mod tests;
 
 pub use resp::Resp;

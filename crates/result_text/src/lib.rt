@@ -15,8 +15,6 @@ mod lists;
 mod lookups;
 mod results;
 mod stops;
-#[cfg(test)]
-mod tests;
 
 pub use clients::text_of_results;
 pub use known::are_known_ends;

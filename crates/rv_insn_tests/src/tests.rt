@@ -1,4 +1,5 @@
 //! Words from an assembler of the field, a format each.
+mod registers;
 
 use rv_insn::{Illegal, Insn, decode, encode};
 

@@ -4,7 +4,6 @@ ghost use Rattle.std.specs.Option.{option_map_or};
 
 use orc_ids::Bytes;
 use std::alloc::{AllocError, Global};
-use std::fmt;
 use std::marker::Model;
 use std::sync::Arc;
 
@@ -115,12 +114,5 @@ impl SharedBytes {
         ensures { IsTrue result ↔ (self.now ≡ []) }
     {
         self.len == 0
-    }
-}
-
-/// Prints these bytes alone, and not those round them.
-impl fmt::Debug for SharedBytes {
-    fn fmt<W: fmt::Write>(&self, f: &mut fmt::Formatter<W>) -> fmt::Result {
-        write!(f, "{:?}", self.as_slice())
     }
 }

@@ -1,6 +1,8 @@
 ghost use Rattle.std.specs.Prelude.{IfOk};
 ghost use Rattle.link_model.specs.Sound.{Sound, IsSized};
 
+mod relocations;
+
 use elf_read::read_object;
 use got_stubs::synthesise;
 use link_graph::graph_of;

@@ -1,11 +1,8 @@
 //! Words from an assembler of the field, and the widths of a number.
-use crate::field::Field;
-use crate::immediate::{
-    b_immediate, i_immediate, j_immediate, s_immediate, u_immediate, with_b, with_i, with_j,
-    with_s, with_u,
+use orc_words::{
+    Field, b_immediate, fits_signed, get_le, i_immediate, j_immediate, put_le, s_immediate,
+    sign_extend, u_immediate, with_b, with_i, with_j, with_s, with_u,
 };
-use crate::number::{get_le, put_le};
-use crate::signed::{fits_signed, sign_extend};
 
 #[test]
 fn reads_the_immediates_of_assembled_words(rt: HostRuntime) {

@@ -1,5 +1,5 @@
 //! Sources that are read to their end or past a limit.
-use crate::tests::sources::source_of;
+use crate::tests::outside::sources::source_of;
 use orc_ids::Bytes;
 use orc_io::{ReadError, SCRIPT_LIMIT, Source, SureSource, read_expected, read_source};
 use std::alloc::{AllocError, Global};

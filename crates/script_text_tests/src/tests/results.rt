@@ -1,10 +1,10 @@
 //! Lines that were written by hand from the forms of the results.
 
-use crate::{are_known_ends, text_of_results};
 use exec_run::RunEnd;
 use look_ends::LookEnd;
 use orc_ids::{Bytes, DylibId, InstId, Items, NameId, Stop, UnitId, Wanted};
 use orc_names::Names;
+use result_text::{are_known_ends, text_of_results};
 use rv_hart::Cause;
 use script_laws::LineEnd;
 use session_model::Reply;

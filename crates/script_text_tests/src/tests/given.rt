@@ -1,4 +1,6 @@
-use super::*;
+//! What lookups gave to names.
+
+use given_names::GivenNames;
 use orc_ids::{InstId, NameId, Wanted};
 use orc_names::NameHasher;
 use std::test::Fail;

@@ -1,9 +1,12 @@
-ghost use Rattle.std.specs.Prelude.{◌≡◌};
-ghost use Rattle.link_order.specs.Shown.{shown, is_named};
+//! Lookups in two dylibs, one of which hides a name and has one that failed.
 
-use crate::{MatchError, match_all, match_names};
+ghost use Rattle.std.specs.Prelude.{◌≡◌};
+ghost use Rattle.link_order.specs.Shown.{shown};
+
+use super::named;
+use link_order::{MatchError, match_all, match_names};
 use orc_ids::{DylibId, GenId, InstId, NameId, OrderItem, Scope, SymFlags, UnitId, Wanted};
-use session_model::{InstRow, Phase, Row, RowSource};
+use session_model::{InstRow, Matched, Phase, Row, RowSource};
 use std::alloc::Global;
 use std::marker::Model;
 use std::process::Abort;
@@ -23,12 +26,6 @@ impl Model for Listed {
     ghost view = { λ s. s.rows.items };
 
     ghost invariant = { λ s. length s.rows.items < 2 ^ 32 };
-}
-
-fn named(row: &InstRow, d: DylibId, name: NameId) -> bool
-    ensures { result ≡ is_named d.0 name.0 row.now }
-{
-    row.present && row.dylib.0 == d.0 && row.name.0 == name.0
 }
 
 impl RowSource for Listed {
@@ -119,6 +116,14 @@ fn wanted(name: NameId, weak: bool) -> Wanted {
     Wanted { name, weak }
 }
 
+/// The names have these matches.
+fn are_found(found: &Result<Matched, MatchError>, expected: &[Option<InstId>]) -> bool {
+    match found {
+        Ok(found) => found.as_slice() == expected,
+        Err(_) => false,
+    }
+}
+
 #[test]
 fn a_name_matches_in_the_first_dylib_that_shows_it(rt: HostRuntime) {
     let rows = two_dylibs(&rt, rt.alloc());
@@ -129,8 +134,7 @@ fn a_name_matches_in_the_first_dylib_that_shows_it(rt: HostRuntime) {
         &everything,
         &[wanted(G, false), wanted(F, false)],
     );
-    let found = found.expect(&rt, "matches");
-    assert!(rt; found.as_slice() == [Some(InstId(3)), Some(InstId(1))].as_slice());
+    assert!(rt; are_found(&found, &[Some(InstId(3)), Some(InstId(1))]));
     let exported = [of(0, Scope::Exported), of(1, Scope::Exported)];
     let found = match_names(
         rt.alloc(),
@@ -138,8 +142,7 @@ fn a_name_matches_in_the_first_dylib_that_shows_it(rt: HostRuntime) {
         &exported,
         &[wanted(F, false), wanted(H, true)],
     );
-    let found = found.expect(&rt, "matches");
-    assert!(rt; found.as_slice() == [Some(InstId(2)), None].as_slice());
+    assert!(rt; are_found(&found, &[Some(InstId(2)), None]));
 }
 
 #[test]

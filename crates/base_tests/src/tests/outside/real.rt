@@ -1,5 +1,5 @@
 //! The adapters over real files and streams.
-use crate::tests::files::reads;
+use crate::tests::outside::files::reads;
 use orc_ids::Bytes;
 use orc_io::{
     FILE_LIMIT, FileError, FolderFiles, ReadError, Source, StdSink, StdSource, read_source,
