@@ -19,6 +19,7 @@ fn a_note_keeps_what_it_was_told(rt: HostRuntime) {
         query: QueryId(3),
         end: End::Found(9),
     };
-    let note = tell(&OpenGate, Note::new(), outcome);
+    let note = tell(&OpenGate, Note::new(4), outcome);
+    assert!(rt; note.number == 4);
     assert!(rt; note.outcome == Some(outcome));
 }
