@@ -309,7 +309,7 @@ fn lodge(
         return Err(AllocError);
     }
     let mut then = match query.note {
-        Some(note) => Some(Armed::new(alloc, note, Note::new())?),
+        Some(note) => Some(Armed::new(alloc, note, Note::new(note))?),
         None => None,
     };
     let lodged = book.lodge(query, stages, &mut then);

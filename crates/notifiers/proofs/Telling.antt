@@ -1,10 +1,10 @@
 -- Lists of notices that grow, and what their objects have heard.
 use Rattle.std.proofs.Common.{◌≡◌, ℕ, suc, List, [], ◌∷◌, ◌++◌, Option, None, Some, All, sym, ap, ◌∙◌, subst, arith, append_assoc}
 use Rattle.std.proofs.lemmas.List.{map-append}
-use Rattle.std.proofs.lemmas.List.Elements.{All-push}
+use Rattle.std.proofs.lemmas.List.Elements.{All-head, All-push}
 use Rattle.orc_ids.specs.declared.lookup.Outcome.{Outcome}
 use Rattle.notifiers.specs.declared.notice.Notice.{Notice}
-use Rattle.notifiers.specs.Notices.{AreUnheard, AreHeard, outcomes, IsTold, Told}
+use Rattle.notifiers.specs.Notices.{AreUnheard, AreHeard, AreNumbered, outcomes, IsTold, Told}
 
 all_rest : {X : Type 0} (P : X → Type 0) (x : X) (xs : List X) → All P (x ∷ xs) → All P xs
 all_rest P x xs all = λ k d less. all (suc k) d (omega (arith, less))
@@ -15,6 +15,16 @@ heard_rest heard all rest n first h = all_rest (λ m. heard m.what ≡ Some m.ou
 
 pub unheard_rest : {N : Type 0} (heard : N → Option Outcome) (all rest : List (Notice N)) (n : Notice N) → all ≡ n ∷ rest → AreUnheard heard all → AreUnheard heard rest
 unheard_rest heard all rest n first h = all_rest (λ m. heard m.what ≡ None) n rest (subst (AreUnheard heard) first h)
+
+pub numbered_rest : {N : Type 0} (number : N → ℕ) (all rest : List (Notice N)) (n : Notice N) → all ≡ n ∷ rest → AreNumbered number all → AreNumbered number rest
+numbered_rest number all rest n first h = all_rest (λ m. number m.what ≡ m.note) n rest (subst (AreNumbered number) first h)
+
+pub numbered_first : {N : Type 0} (number : N → ℕ) (all rest : List (Notice N)) (n : Notice N) → all ≡ n ∷ rest → AreNumbered number all → number n.what ≡ n.note
+numbered_first number all rest n first h = All-head (λ m. number m.what ≡ m.note) n rest (subst (AreNumbered number) first h)
+
+-- a notice whose object has the number of another one's is added
+pub numbered_more : {N : Type 0} (number : N → ℕ) (old new : List (Notice N)) (n m : Notice N) → new ≡ old ++ m ∷ [] → AreNumbered number old → number n.what ≡ n.note → number m.what ≡ number n.what → m.note ≡ n.note → AreNumbered number new
+numbered_more number old new n m more h is same note = subst (AreNumbered number) (sym more) (All-push (λ x. number x.what ≡ x.note) old m h (same ∙ is ∙ sym note))
 
 outcomes-push : {N : Type 0} (a b : List (Notice N)) (m n : Notice N) → outcomes a ≡ outcomes b → m.note ≡ n.note → m.outcome ≡ n.outcome → outcomes (a ++ m ∷ []) ≡ outcomes (b ++ n ∷ [])
 outcomes-push {N} a b m n same note outcome =

@@ -1,4 +1,4 @@
--- What the objects of a list of notices have heard.
+-- What the objects of a list of notices have heard, and their numbers.
 use Rattle.std.specs.Prelude.{◌≡◌, ℕ, List, Option, None, Some, ◌++◌, All, map}
 use Rattle.orc_ids.specs.declared.lookup.Outcome.{Outcome}
 use Rattle.notifiers.specs.declared.notice.Notice.{Notice}
@@ -10,6 +10,10 @@ AreUnheard heard ns = All (λ n. heard n.what ≡ None) ns
 -- each has heard its own outcome
 abbrev pub AreHeard : {N : Type 0} → (N → Option Outcome) → List (Notice N) → Type 0
 AreHeard heard ns = All (λ n. heard n.what ≡ Some n.outcome) ns
+
+-- each has the number that its note says
+abbrev pub AreNumbered : {N : Type 0} → (N → ℕ) → List (Notice N) → Type 0
+AreNumbered number ns = All (λ n. number n.what ≡ n.note) ns
 
 -- their notes and outcomes
 abbrev pub outcomes : {N : Type 0} → List (Notice N) → List (ℕ × Outcome)

@@ -21,13 +21,14 @@ impl<N: Notify> Model for Armed<N> {
 
     ghost view = { λ a. a.unheard };
 
-    ghost invariant = { λ a. N.heard a.unheard.what ≡ None };
+    ghost invariant = { λ a. (N.heard a.unheard.what ≡ None) × (N.number a.unheard.what ≡ a.unheard.note) };
 }
 
 impl<N: Notify> Armed<N> {
-    /// Arms an object that has heard nothing; a refusal gives it up.
+    /// Arms an object that has heard nothing, with the note of its number; a refusal gives it up.
     pub fn new(alloc: Global, note: u32, what: N) -> Result<Armed<N>, AllocError>
-        requires { N.heard what ≡ None }
+        requires unheard { N.heard what ≡ None }
+        requires number { N.number what ≡ note }
         ensures { IfOk result (λ armed. armed ≡ record { note = note; what = what }) }
     {
         let room = Box::new(alloc, Link::End)?;
@@ -46,7 +47,8 @@ impl<N: Notify> Armed<N> {
 
     /// Tells the object how its lookup ended.
     pub fn fire(self, outcome: Outcome) -> Fired<N>
-        ensures { result.outcome ≡ outcome }
+        ensures note { result.note ≡ self.note }
+        ensures outcome { result.outcome ≡ outcome }
     {
         let Armed {
             unheard,
@@ -55,7 +57,11 @@ impl<N: Notify> Armed<N> {
         let mut what = unheard.what;
         what.told(outcome);
         Fired {
-            heard: Heard { what, outcome },
+            heard: Heard {
+                note: unheard.note,
+                what,
+                outcome,
+            },
         }
     }
 
@@ -63,6 +69,7 @@ impl<N: Notify> Armed<N> {
     pub fn back(self) -> N
         ensures object { result ≡ self.what }
         ensures unheard { N.heard result ≡ None }
+        ensures number { N.number result ≡ self.note }
     {
         let Armed {
             unheard,
@@ -72,7 +79,7 @@ impl<N: Notify> Armed<N> {
     }
 }
 
-/// A notifier that has heard one outcome.
+/// A notifier that has heard one outcome, with its note.
 #[derive(Drop)]
 pub struct Fired<N: Notify> {
     pub(crate) heard: Heard<N>,
@@ -86,7 +93,7 @@ impl<N: Notify> Model for Fired<N> {
 
     ghost view = { λ f. f.heard };
 
-    ghost invariant = { λ f. N.heard f.heard.what ≡ Some f.heard.outcome };
+    ghost invariant = { λ f. (N.heard f.heard.what ≡ Some f.heard.outcome) × (N.number f.heard.what ≡ f.heard.note) };
 }
 
 impl<N: Notify> Fired<N> {
@@ -94,6 +101,7 @@ impl<N: Notify> Fired<N> {
     pub fn object(self) -> N
         ensures object { result ≡ self.what }
         ensures heard { N.heard result ≡ Some self.outcome }
+        ensures number { N.number result ≡ self.note }
     {
         let Fired { heard } = self;
         heard.what

@@ -1,5 +1,5 @@
 ghost use Rattle.std.specs.Prelude.{◌≡◌, [], ◌∷◌, ◌++◌, Some, IfSome, IfNone};
-ghost use Rattle.notifiers.specs.Notices.{AreUnheard, Told, IsTold};
+ghost use Rattle.notifiers.specs.Notices.{AreNumbered, AreUnheard, Told, IsTold};
 
 use crate::armed::{Armed, Fired};
 use crate::chain::Queue;
@@ -16,19 +16,20 @@ pub struct Fires<N: Notify> {
 impl<N: Notify> Model for Fires<N> {
     ghost use Rattle.std.specs.Prelude.{List};
     ghost use Rattle.notifiers.specs.declared.notice.Notice.{Notice};
-    ghost use Rattle.notifiers.specs.Notices.{AreUnheard};
+    ghost use Rattle.notifiers.specs.Notices.{AreNumbered, AreUnheard};
 
     ghost Value = { List (Notice N) };
 
     ghost view = { λ f. f.queue };
 
-    ghost invariant = { λ f. AreUnheard N.heard f.queue };
+    ghost invariant = { λ f. AreUnheard N.heard f.queue × AreNumbered N.number f.queue };
 }
 
 /// Tells one object its outcome.
 fn tell<N: Notify>(notice: Notice<N>) -> Notice<N>
     requires { N.heard notice.what ≡ None }
-    ensures { IsTold N.heard notice result }
+    ensures told { IsTold N.heard notice result }
+    ensures same { N.number result.what ≡ N.number notice.what }
 {
     let mut notice = notice;
     notice.what.told(notice.outcome);
@@ -37,8 +38,11 @@ fn tell<N: Notify>(notice: Notice<N>) -> Notice<N>
 
 /// Tells each object its outcome, and moves it to another list, in the node that it stands in.
 fn tell_all<N: Notify>(from: &mut Queue<N>, to: &mut Queue<N>)
-    requires { AreUnheard N.heard from.old }
-    ensures { Told N.heard from.old to.old to.new }
+    requires unheard { AreUnheard N.heard from.old }
+    requires numbered { AreNumbered N.number from.old }
+    requires others { AreNumbered N.number to.old }
+    ensures told { Told N.heard from.old to.old to.new }
+    ensures numbered { AreNumbered N.number to.new }
 {
     while let Some((notice, node)) = from.pop() {
         to.push(tell(notice), node);
@@ -97,13 +101,13 @@ pub struct FiredList<N: Notify> {
 impl<N: Notify> Model for FiredList<N> {
     ghost use Rattle.std.specs.Prelude.{List};
     ghost use Rattle.notifiers.specs.declared.notice.Notice.{Notice};
-    ghost use Rattle.notifiers.specs.Notices.{AreHeard};
+    ghost use Rattle.notifiers.specs.Notices.{AreHeard, AreNumbered};
 
     ghost Value = { List (Notice N) };
 
     ghost view = { λ f. f.queue };
 
-    ghost invariant = { λ f. AreHeard N.heard f.queue };
+    ghost invariant = { λ f. AreHeard N.heard f.queue × AreNumbered N.number f.queue };
 }
 
 impl<N: Notify> FiredList<N> {
@@ -119,6 +123,7 @@ impl<N: Notify> FiredList<N> {
     /// Takes out the first one, with its note.
     pub fn pop(&mut self) -> Option<(u32, Fired<N>)>
         ensures first { IfSome result (λ p. self.old ≡ record { note = p.0; what = p.1.what; outcome = p.1.outcome } ∷ self.new) }
+        ensures note { IfSome result (λ p. p.1.note ≡ p.0) }
         ensures empty { IfNone result (self.old ≡ []) }
         ensures stays { IfNone result (self.new ≡ []) }
     {
@@ -127,6 +132,7 @@ impl<N: Notify> FiredList<N> {
             notice.note,
             Fired {
                 heard: Heard {
+                    note: notice.note,
                     what: notice.what,
                     outcome: notice.outcome,
                 },

@@ -7,9 +7,10 @@ pub struct Unheard<N> {
     pub what: N,
 }
 
-/// An object that has heard an outcome.
+/// An object that has heard an outcome, with its note.
 #[derive(Drop)]
 pub struct Heard<N> {
+    pub note: u32,
     pub what: N,
     pub outcome: Outcome,
 }

@@ -37,7 +37,7 @@ fn lodge_one(
         unit: Some(number),
         note: Some(number),
     };
-    let mut then = Some(Armed::new(alloc, number, Note::new())?);
+    let mut then = Some(Armed::new(alloc, number, Note::new(number))?);
     let lodged = book.lodge(query, standing, &mut then);
     let_go(then);
     lodged

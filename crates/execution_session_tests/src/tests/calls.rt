@@ -68,7 +68,7 @@ pub(super) struct Answer {
     pub(super) reply: Result<Reply, Stop>,
     /// What is handed out or handed back with the reply, in words.
     pub(super) beside: &'static str,
-    /// The note of the notifier that is told, and what it has heard, if one is told.
+    /// The number of the notifier that is told, and what it has heard, if one is told.
     told: Option<(u32, Option<Outcome>)>,
 }
 
@@ -84,8 +84,8 @@ impl Answer {
         write!(text, "{beside}")?;
         match told {
             None => Ok(()),
-            Some((note, heard)) => {
-                write!(text, ", {note} hears ")?;
+            Some((number, heard)) => {
+                write!(text, ", {number} hears ")?;
                 write_heard(text, heard)
             }
         }
@@ -112,7 +112,10 @@ fn telling(reply: Result<Reply, Stop>, beside: &'static str, fires: Fires<Note>)
     fires.fire_all(&mut heard);
     let told = match heard.pop() {
         None => None,
-        Some((note, fired)) => Some((note, fired.object().outcome)),
+        Some((_, fired)) => {
+            let object = fired.object();
+            Some((object.number, object.outcome))
+        }
     };
     if heard.pop().is_some() {
         return None;
@@ -160,7 +163,7 @@ fn asked(asked: Asked<Note>) -> Option<Answer> {
 /// A notifier of this note, if there is one.
 fn arm(alloc: Global, note: Option<u32>) -> Result<Option<Armed<Note>>, AllocError> {
     match note {
-        Some(note) => Ok(Some(Armed::new(alloc, note, Note::new())?)),
+        Some(note) => Ok(Some(Armed::new(alloc, note, Note::new(note))?)),
         None => Ok(None),
     }
 }

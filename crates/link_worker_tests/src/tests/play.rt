@@ -54,7 +54,7 @@ pub(super) enum Step<'a> {
 /// A notifier with this note, if there is to be one.
 fn arm(alloc: Global, note: Option<u32>) -> Result<Option<Armed<Note>>, AllocError> {
     match note {
-        Some(note) => Ok(Some(Armed::new(alloc, note, Note::new())?)),
+        Some(note) => Ok(Some(Armed::new(alloc, note, Note::new(note))?)),
         None => Ok(None),
     }
 }

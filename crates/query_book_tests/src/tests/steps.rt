@@ -80,7 +80,7 @@ pub(super) enum Step<'a> {
 /// The notifier of a lookup that has one.
 fn notifier(rt: &impl Abort, alloc: Global, note: Option<u32>) -> Option<Armed<Note>> {
     match note {
-        Some(note) => Some(Armed::new(alloc, note, Note::new()).expect(rt, "memory")),
+        Some(note) => Some(Armed::new(alloc, note, Note::new(note)).expect(rt, "memory")),
         None => None,
     }
 }
@@ -164,10 +164,11 @@ fn is_known(book: &Book<Note>, number: u32, known: &Known) -> bool {
     }
 }
 
-/// The note of the next who was told, and what was heard.
-fn told(done: &mut FiredList<Note>) -> Option<(u32, Option<Outcome>)> {
+/// The note of the next who was told, the number of the object, and what it has heard.
+fn told(done: &mut FiredList<Note>) -> Option<(u32, u32, Option<Outcome>)> {
     let (note, fired) = done.pop()?;
-    Some((note, fired.object().outcome))
+    let object = fired.object();
+    Some((note, object.number, object.outcome))
 }
 
 /// Whether the step is answered as it says.
@@ -176,7 +177,7 @@ fn is_answered(book: &mut Book<Note>, done: &mut FiredList<Note>, step: &Step) -
         Step::Lookup(number, known) => is_known(book, *number, known),
         Step::Unit(unit) => book.next_unit() == *unit,
         Step::GivenBack(there) => give_up(book.give_back()) == *there,
-        Step::Told(note, outcome) => told(done) == Some((*note, Some(*outcome))),
+        Step::Told(note, outcome) => told(done) == Some((*note, *note, Some(*outcome))),
         Step::NobodyTold => told(done).is_none(),
     }
 }

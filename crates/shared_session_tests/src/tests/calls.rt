@@ -113,7 +113,7 @@ pub(super) fn sets_order<U: UnitKind, R: Wait, const JMAX: usize>(
 /// A notifier with this note, if there is to be one.
 fn arm(alloc: Global, note: Option<u32>) -> Result<Option<Armed<Note>>, AllocError> {
     match note {
-        Some(note) => Ok(Some(Armed::new(alloc, note, Note::new())?)),
+        Some(note) => Ok(Some(Armed::new(alloc, note, Note::new(note))?)),
         None => Ok(None),
     }
 }

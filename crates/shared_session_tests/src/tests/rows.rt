@@ -44,7 +44,8 @@ fn has_heard(heard: &mut FiredList<Note>, note: u32, query: u32, entry: u64) -> 
         query: QueryId(query),
         end: End::Failed(entry, InstId(0)),
     };
-    given == note && fired.object().outcome == Some(outcome)
+    let object = fired.object();
+    given == note && object.number == note && object.outcome == Some(outcome)
 }
 
 /// While the first pass has the turn, a definition of the second is handed back.
