@@ -1,5 +1,5 @@
--- What notifiers have heard that came back.
-use Rattle.std.specs.Prelude.{◌≡◌, List, All, Option, None, IsSome}
+-- What notifiers have heard that came back, and which they are.
+use Rattle.std.specs.Prelude.{◌≡◌, ℕ, List, All, Option, None, IsSome, slice_get, Some}
 use Rattle.orc_ids.specs.declared.lookup.Outcome.{Outcome}
 use Rattle.noted.specs.declared.notes.Noted.{Noted}
 use Rattle.noted.specs.declared.notes.Noted.TheVariants.{Fired, Unfired}
@@ -12,3 +12,17 @@ module _ {N : Type 0} (heard : N → Option Outcome) where
 
   abbrev pub AllHaveHeard : List (Noted N) → Type 0
   AllHaveHeard notes = All HasHeard notes
+
+-- the notifier that came back
+abbrev pub object : {N : Type 0} → Noted N → N
+object (Fired what) = what
+object (Unfired what) = what
+
+module _ {N : Type 0} (number : N → ℕ) where
+  -- each that came back stands in the place of its number
+  abbrev pub ArePlaced : List (Option (Noted N)) → Type 0
+  ArePlaced places = (k : ℕ) (noted : Noted N) → slice_get places k ≡ Some (Some noted) → number (object noted) ≡ k
+
+  -- each has its place in the list as its number
+  abbrev pub AreInOrder : List (Noted N) → Type 0
+  AreInOrder notes = (k : ℕ) (noted : Noted N) → slice_get notes k ≡ Some noted → number (object noted) ≡ k

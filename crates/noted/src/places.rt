@@ -1,14 +1,15 @@
-ghost use Rattle.std.specs.Prelude.{◌≡◌, Some, None, replicate, slice_set, IfOk};
+ghost use Rattle.std.specs.Prelude.{◌≡◌, Some, None, length, replicate, slice_set, IfOk};
 ghost use Rattle.std.specs.List.{flat_map};
 ghost use Rattle.std.specs.Option.{option_to_list};
-ghost use Rattle.noted.specs.Heard.{AllHaveHeard, HasHeard};
+ghost use Rattle.noted.specs.Heard.{AllHaveHeard, AreInOrder, HasHeard, object};
 
 use crate::notes::{Noted, Notes};
 use orc_io::Notify;
 use std::alloc::{AllocError, Global};
 use std::marker::Model;
 
-/// A place for each notifier that was handed in, by its number. Those that came back have heard what they say.
+/// A place for each notifier that was handed in, by its number. Those that came back have heard what they say, and
+/// stand in the places of their numbers.
 #[derive(Drop)]
 pub struct NotePlaces<N: Notify> {
     places: Vec<Option<Noted<N>>>,
@@ -16,14 +17,14 @@ pub struct NotePlaces<N: Notify> {
 
 impl<N: Notify> Model for NotePlaces<N> {
     ghost use Rattle.std.specs.Prelude.{All, IfSome, List, Option};
-    ghost use Rattle.noted.specs.Heard.{HasHeard};
+    ghost use Rattle.noted.specs.Heard.{ArePlaced, HasHeard};
     ghost use Rattle.noted.specs.declared.notes.Noted.{Noted};
 
     ghost Value = { List (Option (Noted N)) };
 
     ghost view = { λ p. p.places.items };
 
-    ghost invariant = { λ p. All (λ o. IfSome o (HasHeard N.heard)) p.places.items };
+    ghost invariant = { λ p. All (λ o. IfSome o (HasHeard N.heard)) p.places.items × ArePlaced N.number p.places.items };
 }
 
 impl<N: Notify> NotePlaces<N> {
@@ -41,20 +42,29 @@ impl<N: Notify> NotePlaces<N> {
 
     /// The notifier of this number came back.
     pub fn put(&mut self, number: usize, noted: Noted<N>)
-        requires { HasHeard N.heard noted }
+        requires heard { HasHeard N.heard noted }
+        requires number { N.number (object noted) ≡ number }
         ensures { self.new ≡ slice_set self.old number (Some noted) }
     {
-        if let Some(place) = self.places.get_mut(number) {
-            *place = Some(noted);
-        }
+        fill(&mut self.places, number, noted);
     }
 
     /// Those that came back, in the order of their numbers.
     pub fn into_notes(self, alloc: Global) -> Result<Notes<N>, AllocError>
         ensures back { IfOk result (λ notes. notes ≡ flat_map option_to_list self) }
         ensures heard { IfOk result (AllHaveHeard N.heard) }
+        ensures in_order { IfOk result (λ notes. length notes ≡ length self → AreInOrder N.number notes) }
     {
         Ok(Notes::from_vec(those_back(alloc, self.places)?))
+    }
+}
+
+/// The place of this number, if there is one, holds this.
+fn fill<N: Notify>(places: &mut Vec<Option<Noted<N>>>, number: usize, noted: Noted<N>)
+    ensures { places.new.items ≡ slice_set places.old.items number (Some noted) }
+{
+    if let Some(place) = places.get_mut(number) {
+        *place = Some(noted);
     }
 }
 

@@ -1,7 +1,8 @@
-use Rattle.std.proofs.Common.{arith, ap, ◌∙◌, ◌≡◌, None, IfSome, replicate}
+use Rattle.std.proofs.Common.{arith, ap, sym, subst, ◌∙◌, ◌≡◌, None, IfSome, replicate}
 use Rattle.std.proofs.lemmas.List.{replicate_more}
 use Rattle.std.proofs.lemmas.List.Elements.{All-replicate}
-use Rattle.noted.specs.Heard.{HasHeard}
+use Rattle.noted.specs.Heard.{ArePlaced, HasHeard}
+use Rattle.noted.proofs.Back.{none_placed}
 use Rattle.noted.proofs.places.NotePlaces.new.Goals as goal
 
 -- src/places.rt:36:9
@@ -14,7 +15,11 @@ loop-place-preserved g c = rw (c.in_ok-push.ensures.items, c.loop-place.invarian
 
 -- src/places.rt:39:9
 pub invariant_of-result : goal.invariant_of-result
-invariant_of-result g c = rw c.loop-place.invariant (All-replicate (λ o. IfSome o (HasHeard g.N.Notify.heard)) c.loop-place._place None tt)
+invariant_of-result g c =
+    let empty = c.loop-place.invariant in (
+      rw empty (All-replicate (λ o. IfSome o (HasHeard g.N.Notify.heard)) c.loop-place._place None tt),
+      subst (ArePlaced g.N.Notify.number) (sym empty) (none_placed g.N.Notify.number c.loop-place._place),
+    )
 
 -- src/places.rt:31:5
 pub returns : goal.returns
