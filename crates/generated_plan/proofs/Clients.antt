@@ -67,8 +67,8 @@ lines_plain n =
 
 -- ---- its calls
 
-module _ {U N : Type 0} (means : U → Meaning) (heard : N → Option Outcome) where
-  can_call : (call : ClientCall U N) → IsPlain (line_of means call) → CanCall means heard call
+module _ {U N : Type 0} (means : U → Meaning) (heard : N → Option Outcome) (number : N → ℕ) where
+  can_call : (call : ClientCall U N) → IsPlain (line_of means call) → CanCall means heard number call
   can_call (client.Define d t unit) plain = plain
   can_call (client.LookUp names None) plain = (plain.0, plain.1, tt)
   can_call (client.LookUp names (Some w)) plain = absurd (let bad : Some w.0 ≡ None = plain.2 in cc)
@@ -76,9 +76,9 @@ module _ {U N : Type 0} (means : U → Meaning) (heard : N → Option Outcome) w
   can_call (client.Remove t) plain = tt
   can_call (client.Run name fuel args) plain = plain
 
-  can_call_each : (calls : List (ClientCall U N)) → AllByRecursion IsPlain (map (line_of means) calls) → All (CanCall means heard) calls
-  can_call_each [] plain = All-nil (CanCall means heard)
-  can_call_each (call ∷ calls) plain = All-cons (CanCall means heard) call calls (can_call call plain.0) (can_call_each calls plain.1)
+  can_call_each : (calls : List (ClientCall U N)) → AllByRecursion IsPlain (map (line_of means) calls) → All (CanCall means heard number) calls
+  can_call_each [] plain = All-nil (CanCall means heard number)
+  can_call_each (call ∷ calls) plain = All-cons (CanCall means heard number) call calls (can_call call plain.0) (can_call_each calls plain.1)
 
-  pub can_call_all : (n : ℕ) (calls : List (ClientCall U N)) → map (line_of means) calls ≡ client_lines n → All (CanCall means heard) calls
+  pub can_call_all : (n : ℕ) (calls : List (ClientCall U N)) → map (line_of means) calls ≡ client_lines n → All (CanCall means heard number) calls
   can_call_all n calls are = can_call_each calls (subst (AllByRecursion IsPlain) (sym are) (lines_plain n))

@@ -25,9 +25,9 @@ module _ {U N C : Type 0} (means : U → Meaning) (items : C → List (ClientCal
       IsGenerated n (record { set_up = map (event_of means) set_up; clients = map (λ c. map (line_of means) (items c)) clients })
   is_generated n set_up clients is are = (is.0, is.1, ap₂ script_with is.2 are)
 
-  pub clients_can_call : (heard : N → Option Outcome) (n : ℕ) (clients : List C) → map (λ c. map (line_of means) (items c)) clients ≡ client_lines n ∷ [] → All (λ c. All (CanCall means heard) (items c)) clients
-  clients_can_call heard n [] are = All-nil (λ c. All (CanCall means heard) (items c))
-  clients_can_call heard n (c ∷ []) are =
+  pub clients_can_call : (heard : N → Option Outcome) (number : N → ℕ) (n : ℕ) (clients : List C) → map (λ c. map (line_of means) (items c)) clients ≡ client_lines n ∷ [] → All (λ c. All (CanCall means heard number) (items c)) clients
+  clients_can_call heard number n [] are = All-nil (λ c. All (CanCall means heard number) (items c))
+  clients_can_call heard number n (c ∷ []) are =
       let lines : map (line_of means) (items c) ≡ client_lines n = cc in
-      All-cons (λ c. All (CanCall means heard) (items c)) c [] (can_call_all means heard n (items c) lines) (All-nil (λ c. All (CanCall means heard) (items c)))
-  clients_can_call heard n (c ∷ d ∷ cs) are = let count = ap length are in absurd (omega (arith, count))
+      All-cons (λ c. All (CanCall means heard number) (items c)) c [] (can_call_all means heard number n (items c) lines) (All-nil (λ c. All (CanCall means heard number) (items c)))
+  clients_can_call heard number n (c ∷ d ∷ cs) are = let count = ap length are in absurd (omega (arith, count))

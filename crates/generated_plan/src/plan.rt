@@ -15,7 +15,7 @@ use std::alloc::{AllocError, Global};
 pub fn plan_of<N: Notify>(alloc: Global, n: u32) -> Result<Plan<ObjectUnit, N>, AllocError>
     requires { n < 2 ^ 31 }
     ensures asked { IfOk result (λ plan. IsGenerated n (script_of meaning_of plan)) }
-    ensures can { IfOk result (λ plan. CanRun meaning_of N.heard plan) }
+    ensures can { IfOk result (λ plan. CanRun meaning_of N.heard N.number plan) }
 {
     let set_up = set_up_calls(alloc, n)?;
     let client = client_calls(alloc, n)?;

@@ -19,9 +19,9 @@ use Rattle.script_calls.specs.declared.calls.SetUpCall.TheVariants as set_up
 abbrev pub lookup_of : {N : Type 0} → Names → Option (ℕ × N) → Lookup
 lookup_of names watch = record { order = names.order; wanted = names.wanted; level = names.level; note = option_map (λ w. w.0) watch }
 
--- a note that has heard nothing, or none
-abbrev pub IsUnheard : {N : Type 0} → (N → Option Outcome) → Option (ℕ × N) → Type 0
-IsUnheard heard watch = IfSome watch (λ w. heard w.1 ≡ None)
+-- a notifier that has heard nothing, with the note of its number, or none
+abbrev pub IsUnheard : {N : Type 0} → (N → Option Outcome) → (N → ℕ) → Option (ℕ × N) → Type 0
+IsUnheard heard number watch = IfSome watch (λ w. (heard w.1 ≡ None) × (number w.1 ≡ w.0))
 
 module _ {U : Type 0} (means : U → Meaning) where
   abbrev pub event_of : SetUpCall U → Event Meaning
@@ -56,11 +56,11 @@ module _ {U : Type 0} (means : U → Meaning) where
   abbrev pub script_of : {N : Type 0} → Plan U N → Script
   script_of plan = record { set_up = map event_of plan.set_up.items; clients = map (λ lines. map line_of lines.items) plan.clients.items }
 
-  module _ {N : Type 0} (heard : N → Option Outcome) where
-    -- the order and the names are no more than may be, and the note is unheard; the unit is no alias; there are at most eight arguments
+  module _ {N : Type 0} (heard : N → Option Outcome) (number : N → ℕ) where
+    -- the order and the names are no more than may be, and the notifier is unheard; the unit is no alias; there are at most eight arguments
     abbrev pub CanCall : ClientCall U N → Type 0
     CanCall (client.Define d t unit) = (means unit).source ≡ None
-    CanCall (client.LookUp names watch) = (length names.order ≤ ORDER_LIMIT) × (length names.wanted ≤ WANTED_LIMIT) × IsUnheard heard watch
+    CanCall (client.LookUp names watch) = (length names.order ≤ ORDER_LIMIT) × (length names.wanted ≤ WANTED_LIMIT) × IsUnheard heard number watch
     CanCall (client.Move t to) = ⊤
     CanCall (client.Remove t) = ⊤
     CanCall (client.Run name fuel args) = length args ≤ 8

@@ -7,7 +7,7 @@ use Rattle.script_lab.specs.declared.note.LabNote.{LabNote}
 use Rattle.script_lab.specs.declared.unit.LabUnit.{LabUnit}
 
 abbrev pub IsCallable : ClientCall LabUnit LabNote → Type 0
-IsCallable line = CanCall lab_meaning (λ n. n.outcome) line
+IsCallable line = CanCall lab_meaning (λ n. n.outcome) (λ n. n.number) line
 
 abbrev pub IsRunnable : Plan LabUnit LabNote → Type 0
-IsRunnable plan = CanRun lab_meaning (λ n. n.outcome) plan
+IsRunnable plan = CanRun lab_meaning (λ n. n.outcome) (λ n. n.number) plan

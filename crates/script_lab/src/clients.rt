@@ -73,6 +73,7 @@ impl Maker {
     /// A note with its number, for half of the lookups.
     fn watch(&mut self, random: &mut Random) -> Option<(u32, LabNote)>
         ensures unheard { IfSome result (λ w. w.1.outcome ≡ None) }
+        ensures number { IfSome result (λ w. w.1.number ≡ w.0) }
         ensures set_up { self.new.set_up ≡ self.old.set_up }
     {
         if random.once_in(2) {

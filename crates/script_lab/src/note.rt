@@ -14,7 +14,8 @@ pub struct LabNote {
 impl LabNote {
     /// One that has heard nothing.
     pub fn new(number: u32) -> LabNote
-        ensures { result.outcome ≡ None }
+        ensures number { result.number ≡ number }
+        ensures unheard { result.outcome ≡ None }
     {
         LabNote {
             number,
@@ -25,6 +26,7 @@ impl LabNote {
 
 impl Notify for LabNote {
     ghost heard = { λ n. n.outcome };
+    ghost number = { λ n. n.number };
 
     fn told(&mut self, outcome: Outcome) {
         self.outcome = Some(outcome);

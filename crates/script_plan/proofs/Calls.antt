@@ -1,7 +1,7 @@
 -- Which calls can be made, by what they ask for.
 use Rattle.std.proofs.Common.{◌≡◌, ◌<◌, ◌≤◌, ℕ, List, [], ◌∷◌, ◌++◌, length, take, map, Option, Some, None, ap, ◌∙◌}
 use Rattle.std.specs.Prelude.{⊤, All, IfSome, flat_map, option_map, slice_get}
-use Rattle.std.proofs.lemmas.List.{map-append, take-map}
+use Rattle.std.proofs.lemmas.List.{take-map}
 use Rattle.std.proofs.lemmas.Option.{slice_get-map}
 use Rattle.std.proofs.lemmas.List.Elements.{All-nil, All-cons, All-head, All-tail}
 use Rattle.list_laws.proofs.Each.{all_front, all_back}
@@ -53,37 +53,32 @@ module _ {U : Type 0} (means : U → Meaning) where
       let there = slice_get-map (event_of means) calls k ∙ ap (option_map (event_of means)) at in
       can_set_up (length (dylib_names (map (event_of means) (take k calls)))) call (rw (← take-map (event_of means) k calls) (can k (event_of means call) there))
 
-  module _ {N : Type 0} (heard : N → Option Outcome) where
-    abbrev AreUnheard : List N → Type 0
-    AreUnheard notes = All (λ n. heard n ≡ None) notes
+  module _ {N : Type 0} (heard : N → Option Outcome) (number : N → ℕ) where
+    -- it has heard nothing, and has the number of its note
+    abbrev pub IsFresh : ℕ × N → Type 0
+    IsFresh w = (heard w.1 ≡ None) × (number w.1 ≡ w.0)
 
-    can_call : (call : ClientCall U N) → CanDo (line_of means call) → AreUnheard (map (λ w. w.1) (watch_of call)) → CanCall means heard call
-    can_call (client.Define d t unit) can unheard = can
-    can_call (client.LookUp names None) can unheard = (can.0, can.1, tt)
-    can_call (client.LookUp names (Some w)) can unheard = (can.0, can.1, All-head (λ n. heard n ≡ None) w.1 [] unheard)
-    can_call (client.Move t to) can unheard = can
-    can_call (client.Remove t) can unheard = can
-    can_call (client.Run name fuel args) can unheard = can
+    can_call : (call : ClientCall U N) → CanDo (line_of means call) → All IsFresh (watch_of call) → CanCall means heard number call
+    can_call (client.Define d t unit) can fresh = can
+    can_call (client.LookUp names None) can fresh = (can.0, can.1, tt)
+    can_call (client.LookUp names (Some w)) can fresh = (can.0, can.1, All-head IsFresh w [] fresh)
+    can_call (client.Move t to) can fresh = can
+    can_call (client.Remove t) can fresh = can
+    can_call (client.Run name fuel args) can fresh = can
 
-    -- what is unheard of two lists is so of each
-    parts : (first next : List (ℕ × N)) → AreUnheard (map (λ w. w.1) (first ++ next)) → AreUnheard (map (λ w. w.1) first) × AreUnheard (map (λ w. w.1) next)
-    parts first next unheard =
-        let both : AreUnheard (map (λ w. w.1) first ++ map (λ w. w.1) next) = rw (← map-append (λ (w : ℕ × N). w.1) first next) unheard in
-        (all_front (λ n. heard n ≡ None) _ _ both, all_back (λ n. heard n ≡ None) _ _ both)
+    can_call_all : (calls : List (ClientCall U N)) → All CanDo (map (line_of means) calls) → All IsFresh (flat_map watch_of calls) → All (CanCall means heard number) calls
+    can_call_all [] can fresh = All-nil (CanCall means heard number)
+    can_call_all (call ∷ calls) can fresh =
+        All-cons (CanCall means heard number) call calls
+        (can_call call (All-head CanDo (line_of means call) (map (line_of means) calls) can) (all_front IsFresh (watch_of call) (flat_map watch_of calls) fresh))
+        (can_call_all calls (All-tail CanDo (line_of means call) (map (line_of means) calls) can) (all_back IsFresh (watch_of call) (flat_map watch_of calls) fresh))
 
-    can_call_all : (calls : List (ClientCall U N)) → All CanDo (map (line_of means) calls) → AreUnheard (map (λ w. w.1) (flat_map watch_of calls)) → All (CanCall means heard) calls
-    can_call_all [] can unheard = All-nil (CanCall means heard)
-    can_call_all (call ∷ calls) can unheard =
-        let each = parts (watch_of call) (flat_map watch_of calls) unheard in
-        All-cons (CanCall means heard) call calls
-        (can_call call (All-head CanDo (line_of means call) (map (line_of means) calls) can) each.0)
-        (can_call_all calls (All-tail CanDo (line_of means call) (map (line_of means) calls) can) each.1)
-
-    pub can_all : {C : Type 0} (items : C → List (ClientCall U N)) (clients : List C) → All (All CanDo) (map (λ c. map (line_of means) (items c)) clients) → AreUnheard (map (λ w. w.1) (watches_of (map items clients))) → All (λ c. All (CanCall means heard) (items c)) clients
-    can_all items [] can unheard = All-nil (λ c. All (CanCall means heard) (items c))
-    can_all {C} items (c ∷ clients) can unheard =
+    pub can_all : {C : Type 0} (items : C → List (ClientCall U N)) (clients : List C) → All (All CanDo) (map (λ c. map (line_of means) (items c)) clients) → All IsFresh (watches_of (map items clients)) → All (λ c. All (CanCall means heard number) (items c)) clients
+    can_all items [] can fresh = All-nil (λ c. All (CanCall means heard number) (items c))
+    can_all {C} items (c ∷ clients) can fresh =
         let lines : C → List Line = λ c. map (line_of means) (items c) in
-        let each = parts (flat_map watch_of (items c)) (watches_of (map items clients)) unheard in
-        All-cons (λ c. All (CanCall means heard) (items c)) c clients
-        (can_call_all (items c) (All-head (All CanDo) (lines c) (map lines clients) can) each.0)
-        (can_all items clients (All-tail (All CanDo) (lines c) (map lines clients) can) each.1)
+        let first = flat_map watch_of (items c) in
+        let next = watches_of (map items clients) in
+        All-cons (λ c. All (CanCall means heard number) (items c)) c clients
+        (can_call_all (items c) (All-head (All CanDo) (lines c) (map lines clients) can) (all_front IsFresh first next fresh))
+        (can_all items clients (All-tail (All CanDo) (lines c) (map lines clients) can) (all_back IsFresh first next fresh))

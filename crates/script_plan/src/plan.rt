@@ -1,4 +1,5 @@
-ghost use Rattle.std.specs.Prelude.{◌≡◌, None, All, length, map, IfOk};
+ghost use Rattle.std.specs.Prelude.{◌≡◌, ◌-◌, None, All, length, map, IfOk};
+ghost use Rattle.orc_io.specs.Numbers.{AreNumberedFrom};
 ghost use Rattle.script_calls.specs.Plans.{CanRun, script_of};
 ghost use Rattle.session_units.specs.Units.{meaning_of};
 ghost use Rattle.script_plan.specs.Asked.{asked_script};
@@ -31,10 +32,12 @@ pub fn plan_of<N: Notify>(
     requires well { IsWellFormed (length notes.items) script.now }
     requires files { length units.now ≡ length script.now.files }
     requires unheard { All (λ n. N.heard n ≡ None) notes.items }
+    requires numbered { AreNumberedFrom N.number 0 notes.items }
     ensures asked { IfOk result (λ p. script_of meaning_of p.plan ≡ asked_script (map meaning_of units.now) script.now) }
-    ensures can { All (λ unit. (meaning_of unit).source ≡ None) units.now → IfOk result (λ p. CanRun meaning_of N.heard p.plan) }
+    ensures can { All (λ unit. (meaning_of unit).source ≡ None) units.now → IfOk result (λ p. CanRun meaning_of N.heard N.number p.plan) }
     ensures notes { IfOk result (λ p. AreHandedOut notes.items p.plan p.unused.items) }
     ensures unheard { IfOk result (λ p. All (λ n. N.heard n ≡ None) p.unused.items) }
+    ensures numbered { IfOk result (λ p. AreNumberedFrom N.number (length notes.items - length p.unused.items) p.unused.items) }
 {
     let set_up = plan_set_up(alloc, units, script.setup.as_slice())?;
     let mut notes = notes.into_iter();

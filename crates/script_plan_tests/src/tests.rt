@@ -1,7 +1,5 @@
-ghost use Rattle.std.specs.Prelude.{◌≡◌, None, All, length, IfOk};
-
-use orc_ids::{Level, NameId, Outcome, UnitName};
-use orc_io::Notify;
+use orc_ids::{Level, NameId, UnitName};
+use orc_io::Note;
 use orc_names::NameHasher;
 use script_calls::{ClientCall, Lookup, Plan, SetUpCall};
 use script_plan::{Planned, plan_of};
@@ -33,36 +31,6 @@ watch ready other:all last
 run start 1000 7 8
 remove u
 ";
-
-/// A note that can be told from others.
-#[derive(Drop)]
-struct Tagged {
-    tag: u32,
-    outcome: Option<Outcome>,
-}
-
-impl Notify for Tagged {
-    ghost heard = { λ n. n.outcome };
-
-    fn told(&mut self, outcome: Outcome) {
-        self.outcome = Some(outcome);
-    }
-}
-
-/// A note that has heard nothing.
-fn unheard(tag: u32) -> Tagged
-    ensures { result.outcome ≡ None }
-{
-    Tagged { tag, outcome: None }
-}
-
-/// Three notes that have heard nothing.
-fn three_notes(alloc: Global) -> Result<Vec<Tagged>, AllocError>
-    ensures heard { IfOk result (λ notes. All (λ n. n.outcome ≡ None) notes.items) }
-    ensures three { IfOk result (λ notes. length notes.items ≡ 3) }
-{
-    Ok(vec![in alloc; unheard(100), unheard(101), unheard(102)]?)
-}
 
 /// A stand-in for the unit of a file: it offers one name.
 fn file_unit(alloc: Global, file: u32) -> Result<ObjectUnit, AllocError> {
@@ -106,7 +74,7 @@ fn write_set_up<U: UnitKind>(text: &mut String, call: &SetUpCall<U>) -> Result<(
 fn write_lookup(
     text: &mut String,
     names: &Lookup,
-    note: &Option<(u32, Tagged)>,
+    note: &Option<(u32, Note)>,
 ) -> Result<(), AllocError> {
     let wanted = names.wanted.len();
     let level = match names.level {
@@ -115,7 +83,7 @@ fn write_lookup(
     };
     match note {
         Some((note, what)) => {
-            writeln!(text, "{level} {wanted} {note}: {}", what.tag)?;
+            writeln!(text, "{level} {wanted} {note}: {}", what.number)?;
         }
         None => writeln!(text, "{level} {wanted}")?,
     }
@@ -125,7 +93,7 @@ fn write_lookup(
 /// Writes a call of a client in a line.
 fn write_call<U: UnitKind>(
     text: &mut String,
-    call: &ClientCall<U, Tagged>,
+    call: &ClientCall<U, Note>,
 ) -> Result<(), AllocError> {
     match call {
         ClientCall::Define(d, t, unit) => {
@@ -145,7 +113,7 @@ fn write_call<U: UnitKind>(
 /// Writes a client's calls, below a line of their own.
 fn write_client<U: UnitKind>(
     text: &mut String,
-    calls: &[ClientCall<U, Tagged>],
+    calls: &[ClientCall<U, Note>],
 ) -> Result<(), AllocError> {
     writeln!(text, "client")?;
     for call in calls {
@@ -157,8 +125,8 @@ fn write_client<U: UnitKind>(
 /// Writes a plan and the notes that it doesn't use, a line each.
 fn write_plan<U: UnitKind>(
     text: &mut String,
-    plan: &Plan<U, Tagged>,
-    unused: &[Tagged],
+    plan: &Plan<U, Note>,
+    unused: &[Note],
 ) -> Result<(), AllocError> {
     for call in &plan.set_up {
         write_set_up(text, call)?;
@@ -167,13 +135,13 @@ fn write_plan<U: UnitKind>(
         write_client(text, calls.as_slice())?;
     }
     for note in unused {
-        writeln!(text, "unused {}", note.tag)?;
+        writeln!(text, "unused {}", note.number)?;
     }
     Ok(())
 }
 
 /// The lines of a plan and of the notes that it doesn't use.
-fn lines_of(alloc: Global, planned: Planned<Tagged>) -> Result<String, Fail> {
+fn lines_of(alloc: Global, planned: Planned<Note>) -> Result<String, Fail> {
     let mut text = String::new(alloc);
     write_plan(&mut text, &planned.plan, planned.unused.as_slice())?;
     Ok(text)
@@ -185,7 +153,7 @@ fn planned(alloc: Global, script: &str, units: &[ObjectUnit]) -> Result<String, 
     if units.len() != script.files.len() {
         return Err(Fail::from("other files"));
     }
-    let planned = plan_of(alloc, &script, units, three_notes(alloc)?)?;
+    let planned = plan_of(alloc, &script, units, Note::numbered(alloc, 3)?)?;
     lines_of(alloc, planned)
 }
 
@@ -208,14 +176,14 @@ define d1 t1 Absolute(1)
 define d1 t1 Alias(1)
 client
 Ready 1
-Resolved 2 0: 100
+Resolved 2 0: 0
 move t0 t1
 client
 define d1 t1 Object(1)
-Ready 1 1: 101
+Ready 1 1: 1
 run n4 1000 [7, 8]
 remove t1
-unused 102
+unused 2
 "
     );
     Ok(())
@@ -240,9 +208,9 @@ fn a_line_may_have_more_symbols_than_an_object(rt: HostRuntime) -> Result<(), Fa
         "dylib n0
 tracker d0
 define d0 t0 Absolute(0)
-unused 100
-unused 101
-unused 102
+unused 0
+unused 1
+unused 2
 "
     );
     Ok(())

@@ -15,6 +15,6 @@ returns-clause-can g c =
     let one : c.push.new.self.items ≡ c.in_ok-client.client ∷ [] = search rules in
     record {
       set_up = can_set_up_all meaning_of c.args.n c.in_ok-set_up.set_up.items c.in_ok-set_up.ensures;
-      clients = clients_can_call meaning_of (λ calls. calls.items) g.N.Notify.heard c.args.n c.push.new.self.items
+      clients = clients_can_call meaning_of (λ calls. calls.items) g.N.Notify.heard g.N.Notify.number c.args.n c.push.new.self.items
           (one_client meaning_of (λ calls. calls.items) c.args.n c.push.new.self.items c.in_ok-client.client one c.in_ok-client.ensures);
     }

@@ -11,7 +11,7 @@ use Rattle.session_units.specs.Units.{meaning_of}
 use Rattle.session_units.specs.declared.unit.ObjectUnit.{ObjectUnit}
 use Rattle.script_plan.specs.Asked.{asked_events, asked_line}
 use Rattle.script_plan.specs.Notes.{watches_of}
-use Rattle.script_plan.proofs.Plans.{IsMade, can_run, handed_out, unused_unheard}
+use Rattle.script_plan.proofs.Plans.{IsMade, can_run, handed_out, unused_numbered, unused_unheard}
 use Rattle.script_plan.proofs.plan.plan_of.Given as given
 use Rattle.script_plan.proofs.plan.plan_of.Goals as goal
 
@@ -35,7 +35,7 @@ is_made g c = record {
 pub returns-clause-can : goal.returns-clause-can
 returns-clause-can g c none =
     can_run meaning_of (map meaning_of c.args.units.now) c.args.script.now c.args.notes.items c.in_ok-unused.unused.items (plan g c) c.requires.well (is_made g c)
-    g.N.Notify.heard c.requires.unheard (length-map c.args.units.now meaning_of ∙ c.requires.files)
+    g.N.Notify.heard g.N.Notify.number c.requires.unheard c.requires.numbered (length-map c.args.units.now meaning_of ∙ c.requires.files)
     (All-map (λ unit. unit.source ≡ None) meaning_of c.args.units.now none)
 
 pub returns-clause-notes : goal.returns-clause-notes
@@ -45,4 +45,9 @@ returns-clause-notes g c =
 pub returns-clause-unheard : goal.returns-clause-unheard
 returns-clause-unheard g c =
     unused_unheard meaning_of (map meaning_of c.args.units.now) c.args.script.now c.args.notes.items c.in_ok-unused.unused.items (plan g c) c.requires.well (is_made g c)
-    g.N.Notify.heard c.requires.unheard
+    g.N.Notify.heard g.N.Notify.number c.requires.unheard c.requires.numbered
+
+pub returns-clause-numbered : goal.returns-clause-numbered
+returns-clause-numbered g c =
+    unused_numbered meaning_of (map meaning_of c.args.units.now) c.args.script.now c.args.notes.items c.in_ok-unused.unused.items (plan g c) c.requires.well (is_made g c)
+    g.N.Notify.heard g.N.Notify.number c.requires.unheard c.requires.numbered
