@@ -101,54 +101,54 @@ module _ {U N G : Type 0} where
       let e = ends_at workers ms c es (omega (arith, le)) (rest_roles workers m ms r) (subst (λ l. slice_get l c ≡ Some es) (ap (λ l. ends_of ms ++ l) none ∙ append-nil (ends_of ms)) at) in
       record { place = suc e.place; member = e.member; there = e.there; counts = omega (arith, e.counts); ends = e.ends }
 
-module _ {U N : Type 0} (means : U → Meaning) (heard : N → Option Outcome) where
-  can_be_client : (calls : List (ClientCall U N)) (role : Role U N) → All (CanCall means heard) calls → IsClientOf calls role → CanServe means heard role
-  can_be_client calls (Client its client) can (is, room) = (subst (All (CanCall means heard)) (sym is) can, subst (λ l. IsEmpty (length l) client) (sym is) room)
+module _ {U N : Type 0} (means : U → Meaning) (heard : N → Option Outcome) (numbers : N → ℕ) where
+  can_be_client : (calls : List (ClientCall U N)) (role : Role U N) → All (CanCall means heard numbers) calls → IsClientOf calls role → CanServe means heard numbers role
+  can_be_client calls (Client its client) can (is, room) = (subst (All (CanCall means heard numbers)) (sym is) can, subst (λ l. IsEmpty (length l) client) (sym is) room)
   can_be_client calls Worker can none = absurd none
 
   -- all members can begin
-  pub all_can : {G : Type 0} (clients : List (List (ClientCall U N))) (workers : ℕ) (ms : List (Member U N G)) → AreMembers clients workers ms → All (All (CanCall means heard)) clients → All (CanBegin means heard) ms
-  all_can {G} clients workers ms are can = all_from (CanBegin means heard) ms (λ k m at. record { role = by k m at (cases_lt k workers); fired = all_at (λ (x : Member U N G). x.fired ≡ []) ms k m are.untold at })
+  pub all_can : {G : Type 0} (clients : List (List (ClientCall U N))) (workers : ℕ) (ms : List (Member U N G)) → AreMembers clients workers ms → All (All (CanCall means heard numbers)) clients → All (CanBegin means heard numbers) ms
+  all_can {G} clients workers ms are can = all_from (CanBegin means heard numbers) ms (λ k m at. record { role = by k m at (cases_lt k workers); fired = all_at (λ (x : Member U N G). x.fired ≡ []) ms k m are.untold at })
     where
-      by : (k : ℕ) (m : Member U N G) → slice_get ms k ≡ Some m → (k < workers) ⊎ (workers ≤ k) → CanServe means heard m.role
-      by k m at (inl few) = subst (CanServe means heard) (sym (are.is_worker k m at few)) tt
+      by : (k : ℕ) (m : Member U N G) → slice_get ms k ≡ Some m → (k < workers) ⊎ (workers ≤ k) → CanServe means heard numbers m.role
+      by k m at (inl few) = subst (CanServe means heard numbers) (sym (are.is_worker k m at few)) tt
       by k m at (inr past) =
           let below = slice_get_within ms k m at in
           let c : ℕ = (workers + length clients) - (k + 1) in
           let a = are.is_client k c m at (omega (arith, below, are.count, past)) (omega (arith, below, are.count)) in
-          can_be_client a.0 m.role (all_at (All (CanCall means heard)) clients c a.0 can a.1) a.2
+          can_be_client a.0 m.role (all_at (All (CanCall means heard numbers)) clients c a.0 can a.1) a.2
 
 -- new seats may serve
-pub may_serve : {U N G : Type 0} (means : U → Meaning) (heard : N → Option Outcome) (jmax : ℕ) (v : View (Entry U)) (members : List (Member U N G)) → IsFirst means jmax v → All (CanBegin means heard) members → MayBegin (λ m w. IsFree means w × CanBegin means heard m) v members
-may_serve means heard jmax v members first can k m lt number w low high new = (may_begin means jmax v members first k m lt number w low high new, can k m lt)
+pub may_serve : {U N G : Type 0} (means : U → Meaning) (heard : N → Option Outcome) (numbers : N → ℕ) (jmax : ℕ) (v : View (Entry U)) (members : List (Member U N G)) → IsFirst means jmax v → All (CanBegin means heard numbers) members → MayBegin (λ m w. IsFree means w × CanBegin means heard numbers m) v members
+may_serve means heard numbers jmax v members first can k m lt number w low high new = (may_begin means jmax v members first k m lt number w low high new, can k m lt)
 
 -- what each role's work leaves, by the role that it was
-module _ {U N : Type 0} (means : U → Meaning) (heard : N → Option Outcome) (jmax : ℕ) where
-  left_none : (role other : Role U N) (v w : View (Entry U)) (told : List (Notice N)) → role ≡ Worker → HasServed means heard jmax role other v w told → (other ≡ Worker) × Does means heard v w [] told Jobs
-  left_none role other v w told is did = by other (subst (λ r. HasServed means heard jmax r other v w told) is did)
+module _ {U N : Type 0} (means : U → Meaning) (heard : N → Option Outcome) (numbers : N → ℕ) (jmax : ℕ) where
+  left_none : (role other : Role U N) (v w : View (Entry U)) (told : List (Notice N)) → role ≡ Worker → HasServed means heard numbers jmax role other v w told → (other ≡ Worker) × Does means heard v w [] told Jobs
+  left_none role other v w told is did = by other (subst (λ r. HasServed means heard numbers jmax r other v w told) is did)
     where
-      by : (r : Role U N) → HasServed means heard jmax Worker r v w told → (r ≡ Worker) × Does means heard v w [] told Jobs
+      by : (r : Role U N) → HasServed means heard numbers jmax Worker r v w told → (r ≡ Worker) × Does means heard v w [] told Jobs
       by (Client calls client) did = absurd did
       by Worker did = (refl, did)
 
-  left_one : (calls : List (ClientCall U N)) (role other : Role U N) (es : List LineEnd) (v w : View (Entry U)) (told : List (Notice N)) → IsClientOf calls role → ends_in other ≡ es ∷ [] → HasServed means heard jmax role other v w told → HasDoneAll means heard jmax (map (line_of means) calls) es v w [] told
+  left_one : (calls : List (ClientCall U N)) (role other : Role U N) (es : List LineEnd) (v w : View (Entry U)) (told : List (Notice N)) → IsClientOf calls role → ends_in other ≡ es ∷ [] → HasServed means heard numbers jmax role other v w told → HasDoneAll means heard jmax (map (line_of means) calls) es v w [] told
   left_one calls (Client its client) (Client rest done) es v w told (is, room) ends did =
       subst (λ l. HasDoneAll means heard jmax (map (line_of means) l) es v w [] told) is (subst (λ l. HasDoneAll means heard jmax (map (line_of means) its.items) l v w [] told) (only_one done.lines.items es ends) did.0)
   left_one calls (Client its client) Worker es v w told c ends did = absurd did
   left_one calls Worker other es v w told none ends did = absurd none
 
-  some_ends : (calls : List (ClientCall U N)) (role other : Role U N) (v w : View (Entry U)) (told : List (Notice N)) → IsClientOf calls role → HasServed means heard jmax role other v w told → (es : List LineEnd) × (ends_in other ≡ es ∷ [])
+  some_ends : (calls : List (ClientCall U N)) (role other : Role U N) (v w : View (Entry U)) (told : List (Notice N)) → IsClientOf calls role → HasServed means heard numbers jmax role other v w told → (es : List LineEnd) × (ends_in other ≡ es ∷ [])
   some_ends calls (Client its client) (Client rest done) v w told c did = (done.lines.items, refl)
   some_ends calls (Client its client) Worker v w told c did = absurd did
   some_ends calls Worker other v w told none did = absurd none
 
   -- whoever it is
-  some_work : (role other : Role U N) (v w : View (Entry U)) (told : List (Notice N)) → HasServed means heard jmax role other v w told → Does means heard v w [] told Anything × All (AreUnheard heard) (unlodged_in other)
+  some_work : (role other : Role U N) (v w : View (Entry U)) (told : List (Notice N)) → HasServed means heard numbers jmax role other v w told → Does means heard v w [] told Anything × All (AreUnheard heard numbers) (unlodged_in other)
   some_work (Client calls before) (Client left client) v w told did =
-      (does_less means heard v w [] told (MakesAll (map (line_of means) calls.items) client.lines.items) Anything (λ h cs k. tt) did.0.does, All-cons (AreUnheard heard) client.unlodged.items [] did.1 (All-nil (AreUnheard heard)))
+      (does_less means heard v w [] told (MakesAll (map (line_of means) calls.items) client.lines.items) Anything (λ h cs k. tt) did.0.does, All-cons (AreUnheard heard numbers) client.unlodged.items [] did.1 (All-nil (AreUnheard heard numbers)))
   some_work (Client calls before) Worker v w told did = absurd did
   some_work Worker (Client left client) v w told did = absurd did
-  some_work Worker Worker v w told did = (does_less means heard v w [] told Jobs Anything (λ h cs k. tt) did, All-nil (AreUnheard heard))
+  some_work Worker Worker v w told did = (does_less means heard v w [] told Jobs Anything (λ h cs k. tt) did, All-nil (AreUnheard heard numbers))
 
   -- a seat that was at work, by the whole history
   pub record WasAtWork (P : Promise) (seen log : List (Entry U)) (number : ℕ) (told : List (Notice N)) : Type 0 where
@@ -164,7 +164,7 @@ module _ {U N : Type 0} (means : U → Meaning) (heard : N → Option Outcome) (
     pub work : WasAtWork (MakesAll (map (line_of means) calls) es) seen log number told
     pub causes : (i : ℕ) (st : Stop) → slice_get es i ≡ Some (Stopped st) → WasStopped means jmax work.before.seen work.after.seen st
 
-  module _ {G : Type 0} (clients : List (List (ClientCall U N))) (workers : ℕ) (v w : View (Entry U)) (old new : List (Member U N G)) (from : v.spare_from ≡ 1) (are : AreMembers clients workers old) (worked : HaveWorked seat_of (Serves means heard jmax) v w old new) where
+  module _ {G : Type 0} (clients : List (List (ClientCall U N))) (workers : ℕ) (v w : View (Entry U)) (old new : List (Member U N G)) (from : v.spare_from ≡ 1) (are : AreMembers clients workers old) (worked : HaveWorked seat_of (Serves means heard numbers jmax) v w old new) where
     -- a client's lines, by its place
     pub client_was : (log : List (Entry U)) → All (IsKept seat_of log) worked.views → (k c : ℕ) (m n : Member U N G) (es : List LineEnd) → slice_get old k ≡ Some m → slice_get new k ≡ Some n → k + c + 1 ≡ workers + length clients → c < length clients → ends_in n.role ≡ es ∷ [] →
         (calls : List (ClientCall U N)) × (slice_get clients c ≡ Some calls) × WasClient v.seen log (1 + c) calls es n.fired
@@ -192,7 +192,7 @@ module _ {U N : Type 0} (means : U → Meaning) (heard : N → Option Outcome) (
         (n.0.fired, record { before = done.before; after = x.0; begins = done.begins; same = done.same; does = left.1; kept = all_at (IsKept seat_of log) worked.views k x.0 kept x.1 })
 
     -- whoever is at a place
-    pub member_was : (log : List (Entry U)) → All (IsKept seat_of log) worked.views → (k number : ℕ) (n : Member U N G) → slice_get new k ≡ Some n → number + k ≡ workers + length clients → WasAtWork Anything v.seen log number n.fired × All (AreUnheard heard) (unlodged_in n.role)
+    pub member_was : (log : List (Entry U)) → All (IsKept seat_of log) worked.views → (k number : ℕ) (n : Member U N G) → slice_get new k ≡ Some n → number + k ≡ workers + length clients → WasAtWork Anything v.seen log number n.fired × All (AreUnheard heard numbers) (unlodged_in n.role)
     member_was log kept k number n now place =
         let below = slice_get_within new k n now in
         let m = some_there old k (omega (arith, below, worked.count)) in

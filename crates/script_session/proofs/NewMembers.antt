@@ -69,18 +69,18 @@ module _ {U N G : Type 0} where
       by k (suc c) m place (inr last) = absurd (omega (arith, last.0, place, a.count))
 
 -- Members whose lines are skipped
-module _ {U N : Type 0} (means : U → Meaning) (heard : N → Option Outcome) where
-  pub none_skipped : {G : Type 0} → AllSkipped means heard {G = G} [] []
+module _ {U N : Type 0} (means : U → Meaning) (heard : N → Option Outcome) (numbers : N → ℕ) where
+  pub none_skipped : {G : Type 0} → AllSkipped means heard numbers {G = G} [] []
   none_skipped = record { count = refl; each = λ k m n at now. absurd (none-some m at) }
 
-  pub skipped_more : {G : Type 0} (old new : List (Member U N G)) (m n : Member U N G) → AllSkipped means heard old new → WasSkipped means heard m n → AllSkipped means heard (old ++ m ∷ []) (new ++ n ∷ [])
+  pub skipped_more : {G : Type 0} (old new : List (Member U N G)) (m n : Member U N G) → AllSkipped means heard numbers old new → WasSkipped means heard numbers m n → AllSkipped means heard numbers (old ++ m ∷ []) (new ++ n ∷ [])
   skipped_more {G} old new m n all one = record {
     count = omega (arith, length_push old m, length_push new n, all.count);
     each = λ k x y at now. by k x y (pushed_cases old m k x at) (pushed_cases new n k y now);
   }
     where
-      by : (k : ℕ) (x y : Member U N G) → (slice_get old k ≡ Some x) ⊎ ((k ≡ length old) × (x ≡ m)) → (slice_get new k ≡ Some y) ⊎ ((k ≡ length new) × (y ≡ n)) → WasSkipped means heard x y
+      by : (k : ℕ) (x y : Member U N G) → (slice_get old k ≡ Some x) ⊎ ((k ≡ length old) × (x ≡ m)) → (slice_get new k ≡ Some y) ⊎ ((k ≡ length new) × (y ≡ n)) → WasSkipped means heard numbers x y
       by k x y (inl a) (inl b) = all.each k x y a b
       by k x y (inl a) (inr b) = let below = slice_get_within old k x a in absurd (omega (arith, below, b.0, all.count))
       by k x y (inr a) (inl b) = let below = slice_get_within new k y b in absurd (omega (arith, below, a.0, all.count))
-      by k x y (inr a) (inr b) = subst (λ z. WasSkipped means heard z y) (sym a.1) (subst (WasSkipped means heard m) (sym b.1) one)
+      by k x y (inr a) (inr b) = subst (λ z. WasSkipped means heard numbers z y) (sym a.1) (subst (WasSkipped means heard numbers m) (sym b.1) one)

@@ -66,7 +66,7 @@ still_taken n events still = Rattle.crew.proofs.Worked.all_from (λ e. is_placin
 abbrev With : {N : Type 0} → Promise → List (Notice N) → Promise
 With P told h cs = P h cs × ToldAt h cs told × PlacesLowest h cs
 
-module _ {U N : Type 0} (means : U → Meaning) (heard : N → Option Outcome) (jmax workers : ℕ) (events : List (Event Meaning)) (clients : List (List (ClientCall U N))) (still : All (λ e. is_placing e ≡ false) events) where
+module _ {U N : Type 0} (means : U → Meaning) (heard : N → Option Outcome) (numbers : N → ℕ) (jmax workers : ℕ) (events : List (Event Meaning)) (clients : List (List (ClientCall U N))) (still : All (λ e. is_placing e ≡ false) events) where
   abbrev pub script : Script
   script = record { set_up = events; clients = map (map (line_of means)) clients }
 
@@ -94,7 +94,7 @@ module _ {U N : Type 0} (means : U → Meaning) (heard : N → Option Outcome) (
 
   -- The set-up was stopped.
 
-  skipped_ends : {G : Type 0} (old new : List (Member U N G)) → AreMembers clients workers old → AllSkipped means heard old new → AreRoles workers new
+  skipped_ends : {G : Type 0} (old new : List (Member U N G)) → AreMembers clients workers old → AllSkipped means heard numbers old new → AreRoles workers new
   skipped_ends old new are skipped = record {
     none = λ k n now few.
         let below = slice_get_within new k n now in
@@ -109,19 +109,19 @@ module _ {U N : Type 0} (means : U → Meaning) (heard : N → Option Outcome) (
         client_one a.0 m.0.role n.role a.2 (skipped.each k m.0 n m.1 now).role;
   }
     where
-      worker_none : (r s : Role U N) → r ≡ Worker → IsSkipped means heard r s → ends_in s ≡ []
-      worker_none r s is did = by s (subst (λ x. IsSkipped means heard x s) is did)
+      worker_none : (r s : Role U N) → r ≡ Worker → IsSkipped means heard numbers r s → ends_in s ≡ []
+      worker_none r s is did = by s (subst (λ x. IsSkipped means heard numbers x s) is did)
         where
-          by : (s : Role U N) → IsSkipped means heard Worker s → ends_in s ≡ []
+          by : (s : Role U N) → IsSkipped means heard numbers Worker s → ends_in s ≡ []
           by (Client calls client) did = absurd did
           by Worker did = refl
 
-      client_one : (calls : List (ClientCall U N)) (r s : Role U N) → IsClientOf calls r → IsSkipped means heard r s → (es : List LineEnd) × (ends_in s ≡ es ∷ [])
+      client_one : (calls : List (ClientCall U N)) (r s : Role U N) → IsClientOf calls r → IsSkipped means heard numbers r s → (es : List LineEnd) × (ends_in s ≡ es ∷ [])
       client_one calls (Client its client) (Client left done) c did = (done.lines.items, refl)
       client_one calls (Client its client) Worker c did = absurd did
       client_one calls Worker s none did = absurd none
 
-  none_ran : {G : Type 0} (old new : List (Member U N G)) → AreMembers clients workers old → AllSkipped means heard old new → NoClientRan script.clients (ends_of new)
+  none_ran : {G : Type 0} (old new : List (Member U N G)) → AreMembers clients workers old → AllSkipped means heard numbers old new → NoClientRan script.clients (ends_of new)
   none_ran old new are skipped =
       let r = skipped_ends old new are skipped in
       let le : workers ≤ length new = omega (arith, are.count, skipped.count) in record {
@@ -136,12 +136,12 @@ module _ {U N : Type 0} (means : U → Meaning) (heard : N → Option Outcome) (
             subst (λ l. AreSkipped l its) (ap (map (line_of means)) same ∙ sym calls.2) (lines_skipped a.0 m.0.role e.member.role its a.2 e.ends (skipped.each e.place m.0 e.member m.1 e.there).role);
       }
     where
-      lines_skipped : (calls : List (ClientCall U N)) (r s : Role U N) (es : List LineEnd) → IsClientOf calls r → ends_in s ≡ es ∷ [] → IsSkipped means heard r s → AreSkipped (map (line_of means) calls) es
+      lines_skipped : (calls : List (ClientCall U N)) (r s : Role U N) (es : List LineEnd) → IsClientOf calls r → ends_in s ≡ es ∷ [] → IsSkipped means heard numbers r s → AreSkipped (map (line_of means) calls) es
       lines_skipped calls (Client its client) (Client left done) es (is, room) ends did = subst (λ l. AreSkipped (map (line_of means) l) es) is (subst (AreSkipped (map (line_of means) its.items)) (only_one done.lines.items es ends) did.0)
       lines_skipped calls (Client its client) Worker es c ends did = absurd did
       lines_skipped calls Worker s es none ends did = absurd none
 
-  pub stopped_run : {G : Type 0} (v : View (Entry U)) (log : List (Entry U)) (st : Stop) (old new : List (Member U N G)) → HasSetUp means jmax events v (Some st) → AreMembers clients workers old → AllSkipped means heard old new → Shows seat_of (IsLawful means jmax) (IsPosted means) log v →
+  pub stopped_run : {G : Type 0} (v : View (Entry U)) (log : List (Entry U)) (st : Stop) (old new : List (Member U N G)) → HasSetUp means jmax events v (Some st) → AreMembers clients workers old → AllSkipped means heard numbers old new → Shows seat_of (IsLawful means jmax) (IsPosted means) log v →
       IsScriptRun jmax workers script (Some st) (ends_of new) (plain_history means log)
   stopped_run v log st old new (n, few, ((first, called), cause)) are skipped s =
       run_of log (plain_history means v.seen) [] (Some st) (ends_of new) (alone means jmax seats v log (omega arith) first s (still_entries (plain_history means v.seen) (take n events) called (still_taken n events still)))
@@ -149,7 +149,7 @@ module _ {U N : Type 0} (means : U → Meaning) (heard : N → Option Outcome) (
       (InSetUp n st few called refl (cause_in means jmax st log v.seen ([], Rattle.seat_work.proofs.FirstSeat.saw_all means jmax v log first s ∙ sym (Rattle.std.proofs.Common.append-nil v.seen)) cause) (none_ran old new are skipped))
 
   -- The set-up was done, and all worked.
-  module _ {G : Type 0} (v z : View (Entry U)) (log : List (Entry U)) (old new : List (Member U N G)) (at : IsAt means jmax events v) (count : v.seats ≡ seats) (are : AreMembers clients workers old) (worked : HaveWorked seat_of (Serves means heard jmax) v z old new) (s : Shows seat_of (IsLawful means jmax) (IsPosted means) log z) where
+  module _ {G : Type 0} (v z : View (Entry U)) (log : List (Entry U)) (old new : List (Member U N G)) (at : IsAt means jmax events v) (count : v.seats ≡ seats) (are : AreMembers clients workers old) (worked : HaveWorked seat_of (Serves means heard numbers jmax) v z old new) (s : Shows seat_of (IsLawful means jmax) (IsPosted means) log z) where
     abbrev said : Rattle.crew.specs.Crew.Says seat_of log v × All (IsKept seat_of log) worked.views
     said = worked.kept log (says seat_of (IsLawful means jmax) (IsPosted means) log z s)
 
@@ -157,32 +157,32 @@ module _ {U N : Type 0} (means : U → Meaning) (heard : N → Option Outcome) (
     rest = said.0.later.0
 
     r : AreRoles workers new
-    r = roles means heard jmax clients workers v z old new at.0.from are worked
+    r = roles means heard numbers jmax clients workers v z old new at.0.from are worked
 
     le : workers ≤ length new
     le = omega (arith, are.count, worked.count)
 
     -- what a seat made
-    made_by : (P : Promise) (number : ℕ) (told : List (Notice N)) → 0 < number → WasAtWork means heard jmax P v.seen log number told → Made means log number (With P told)
+    made_by : (P : Promise) (number : ℕ) (told : List (Notice N)) → 0 < number → WasAtWork means heard numbers jmax P v.seen log number told → Made means log number (With P told)
     made_by P number told some w = member_made means log number w.before w.after (With P told) some w.begins.number_is w.same (subst (All (λ (e : Entry U). e.seat.0 ≡ 0)) (sym w.begins.seen_is) at.0.own) w.kept
         (subst (λ t. Did means w.before w.after (With P t)) (sym w.does.added) w.does.did)
 
-    client_made : (c : ℕ) (calls : List (ClientCall U N)) (es : List LineEnd) (told : List (Notice N)) → WasClient means heard jmax v.seen log (1 + c) calls es told → Made means log (1 + c) (With (MakesAll (map (line_of means) calls) es) told)
+    client_made : (c : ℕ) (calls : List (ClientCall U N)) (es : List LineEnd) (told : List (Notice N)) → WasClient means heard numbers jmax v.seen log (1 + c) calls es told → Made means log (1 + c) (With (MakesAll (map (line_of means) calls) es) told)
     client_made c calls es told w = made_by (MakesAll (map (line_of means) calls) es) (1 + c) told (omega arith) w.work
 
     -- a client, by its number
-    client_at : (c : ℕ) → c < length clients → (calls : List (ClientCall U N)) × (es : List LineEnd) × (told : List (Notice N)) × WasClient means heard jmax v.seen log (1 + c) calls es told
+    client_at : (c : ℕ) → c < length clients → (calls : List (ClientCall U N)) × (es : List LineEnd) × (told : List (Notice N)) × WasClient means heard numbers jmax v.seen log (1 + c) calls es told
     client_at c few =
         let k : ℕ = (workers + length clients) - (c + 1) in
         let place : k + c + 1 ≡ workers + length clients = omega (arith, few) in
         let m = some_there old k (omega (arith, place, are.count)) in
         let n = some_there new k (omega (arith, place, are.count, worked.count)) in
         let one = r.one k n.0 n.1 (omega (arith, place, few)) in
-        let w = client_was means heard jmax clients workers v z old new at.0.from are worked log said.1 k c m.0 n.0 one.0 m.1 n.1 place few one.1 in
+        let w = client_was means heard numbers jmax clients workers v z old new at.0.from are worked log said.1 k c m.0 n.0 one.0 m.1 n.1 place few one.1 in
         (w.0, one.0, n.0.fired, w.2)
 
-    worker_at : (n : ℕ) → length clients < n → n < seats → (told : List (Notice N)) × WasAtWork means heard jmax Jobs v.seen log n told
-    worker_at n more few = worker_was means heard jmax clients workers v z old new at.0.from are worked log said.1 ((workers + length clients) - n) n (omega (arith, more, few)) (omega (arith, few))
+    worker_at : (n : ℕ) → length clients < n → n < seats → (told : List (Notice N)) × WasAtWork means heard numbers jmax Jobs v.seen log n told
+    worker_at n more few = worker_was means heard numbers jmax clients workers v z old new at.0.from are worked log said.1 ((workers + length clients) - n) n (omega (arith, more, few)) (omega (arith, few))
 
     lows : (n : ℕ) → 0 < n → n < seats → PlacesLowest (plain_history means log) (calls_in means n log)
     lows n some few = by n some few (cases_lt (length clients) n)
@@ -212,13 +212,13 @@ module _ {U N : Type 0} (means : U → Meaning) (heard : N → Option Outcome) (
         by (inr far) = subst (AreJobs (plain_history means log)) (sym (all_of_it.beyond n far)) NoJob
 
     -- whose ends they are, and its lines
-    of_ends : (c : ℕ) (es : List LineEnd) → slice_get (ends_of new) c ≡ Some es → (calls : List (ClientCall U N)) × (slice_get clients c ≡ Some calls) × (told : List (Notice N)) × WasClient means heard jmax v.seen log (1 + c) calls es told
+    of_ends : (c : ℕ) (es : List LineEnd) → slice_get (ends_of new) c ≡ Some es → (calls : List (ClientCall U N)) × (slice_get clients c ≡ Some calls) × (told : List (Notice N)) × WasClient means heard numbers jmax v.seen log (1 + c) calls es told
     of_ends c es ends =
         let e = ends_at workers new c es le r ends in
         let m = some_there old e.place (omega (arith, e.counts, worked.count)) in
         let counted = count_ends workers new le r in
         let below = slice_get_within (ends_of new) c es ends in
-        let was = client_was means heard jmax clients workers v z old new at.0.from are worked log said.1 e.place c m.0 e.member es m.1 e.there (omega (arith, e.counts, worked.count, are.count)) (omega (arith, below, counted, worked.count, are.count)) e.ends in
+        let was = client_was means heard numbers jmax clients workers v z old new at.0.from are worked log said.1 e.place c m.0 e.member es m.1 e.there (omega (arith, e.counts, worked.count, are.count)) (omega (arith, below, counted, worked.count, are.count)) e.ends in
         (was.0, was.1, e.member.fired, was.2)
 
     ran : ClientsRan jmax script.clients (ends_of new) (plain_history means log)
@@ -241,8 +241,8 @@ module _ {U N : Type 0} (means : U → Meaning) (heard : N → Option Outcome) (
     whole_run = run_of log (plain_history means v.seen) (plain_history means rest) None (ends_of new) all_of_it workers_jobs (Whole at.1 ran)
 
     -- whoever is at a place
-    at_place : (k number : ℕ) (n : Member U N G) → slice_get new k ≡ Some n → number + k ≡ workers + length clients → WasAtWork means heard jmax Anything v.seen log number n.fired × All (AreUnheard heard) (unlodged_in n.role)
-    at_place k number n now place = member_was means heard jmax clients workers v z old new at.0.from are worked log said.1 k number n now place
+    at_place : (k number : ℕ) (n : Member U N G) → slice_get new k ≡ Some n → number + k ≡ workers + length clients → WasAtWork means heard numbers jmax Anything v.seen log number n.fired × All (AreUnheard heard numbers) (unlodged_in n.role)
+    at_place k number n now place = member_was means heard numbers jmax clients workers v z old new at.0.from are worked log said.1 k number n now place
 
     -- who was told at each seat's calls
     pub told_whole : (k : ℕ) (fired : List (Notice N)) → slice_get (told_of new) k ≡ Some fired → ToldAt (plain_history means log) (numbered_calls (1 + k) 1 (plain_history means log)) fired × AreHeard heard fired
@@ -254,11 +254,11 @@ module _ {U N : Type 0} (means : U → Meaning) (heard : N → Option Outcome) (
         (subst (λ cs. ToldAt (plain_history means log) cs t.member.fired) (sym m.calls) m.holds.1, subst (AreHeard heard) (sym w.does.added) w.does.heard_it)
 
     -- and the notifiers that no query has
-    pub unlodged_whole : All (AreUnheard heard) (unlodged_of new)
-    unlodged_whole = all_unlodged (AreUnheard heard) new (λ k n now. (at_place k ((workers + length clients) - k) n now (omega (arith, slice_get_within new k n now, worked.count, are.count))).1)
+    pub unlodged_whole : All (AreUnheard heard numbers) (unlodged_of new)
+    unlodged_whole = all_unlodged (AreUnheard heard numbers) new (λ k n now. (at_place k ((workers + length clients) - k) n now (omega (arith, slice_get_within new k n now, worked.count, are.count))).1)
 
   -- where nobody worked
-  pub told_skipped : {G : Type 0} (v : View (Entry U)) (log : List (Entry U)) (old new : List (Member U N G)) → IsFirst means jmax v → Shows seat_of (IsLawful means jmax) (IsPosted means) log v → AllSkipped means heard old new →
+  pub told_skipped : {G : Type 0} (v : View (Entry U)) (log : List (Entry U)) (old new : List (Member U N G)) → IsFirst means jmax v → Shows seat_of (IsLawful means jmax) (IsPosted means) log v → AllSkipped means heard numbers old new →
       (k : ℕ) (fired : List (Notice N)) → slice_get (told_of new) k ≡ Some fired → ToldAt (plain_history means log) (numbered_calls (1 + k) 1 (plain_history means log)) fired × AreHeard heard fired
   told_skipped v log old new first s skipped k fired at_k =
       let t = told_at new k fired at_k in
@@ -267,12 +267,12 @@ module _ {U N : Type 0} (means : U → Meaning) (heard : N → Option Outcome) (
       subst (λ l. ToldAt (plain_history means log) (numbered_calls (1 + k) 1 (plain_history means log)) l × AreHeard heard l) (sym none)
       (subst (λ cs. ToldAt {N = N} (plain_history means log) cs []) (sym (none_of_rest means jmax v log (1 + k) (omega arith) first s)) Nobody, All-nil (λ n. heard n.what ≡ Some n.outcome))
 
-  pub unlodged_skipped : {G : Type 0} (old new : List (Member U N G)) → AllSkipped means heard old new → All (AreUnheard heard) (unlodged_of new)
-  unlodged_skipped {G} old new skipped = all_unlodged (AreUnheard heard) new
+  pub unlodged_skipped : {G : Type 0} (old new : List (Member U N G)) → AllSkipped means heard numbers old new → All (AreUnheard heard numbers) (unlodged_of new)
+  unlodged_skipped {G} old new skipped = all_unlodged (AreUnheard heard numbers) new
       (λ k n now. let m = some_there old k (omega (arith, slice_get_within new k n now, skipped.count)) in by m.0.role n.role (skipped.each k m.0 n m.1 now).role)
     where
-      by : (r s : Role U N) → IsSkipped means heard r s → All (AreUnheard heard) (unlodged_in s)
-      by (Client calls before) (Client left client) did = All-cons (AreUnheard heard) client.unlodged.items [] did.1 (All-nil (AreUnheard heard))
+      by : (r s : Role U N) → IsSkipped means heard numbers r s → All (AreUnheard heard numbers) (unlodged_in s)
+      by (Client calls before) (Client left client) did = All-cons (AreUnheard heard numbers) client.unlodged.items [] did.1 (All-nil (AreUnheard heard numbers))
       by (Client calls before) Worker did = absurd did
       by Worker (Client left client) did = absurd did
-      by Worker Worker did = All-nil (AreUnheard heard)
+      by Worker Worker did = All-nil (AreUnheard heard numbers)

@@ -37,7 +37,7 @@ module _ {U N : Type 0} (means : U → Meaning) where
   all_lines items [] = refl
   all_lines items (x ∷ xs) = ap (λ l. map (line_of means) (items x) ∷ l) (all_lines items xs)
 
-module _ {U N : Type 0} (means : U → Meaning) (heard : N → Option Outcome) (jmax workers : ℕ) (calls : List (SetUpCall U)) (clients : List (List (ClientCall U N))) where
+module _ {U N : Type 0} (means : U → Meaning) (heard : N → Option Outcome) (numbers : N → ℕ) (jmax workers : ℕ) (calls : List (SetUpCall U)) (clients : List (List (ClientCall U N))) where
   abbrev events : List (Event Meaning)
   events = map (event_of means) calls
 
@@ -47,24 +47,24 @@ module _ {U N : Type 0} (means : U → Meaning) (heard : N → Option Outcome) (
   first_of (Some st) v (n, few, ((first, called), cause)) = first
 
   pub record CameTo {G : Type 0} (stopped : Option Stop) (log : List (Entry U)) (done : List (Member U N G)) : Type 0 where
-    pub run : IsScriptRun jmax workers (script means heard jmax workers events clients (still_calls means calls)) stopped (ends_of done) (plain_history means log)
+    pub run : IsScriptRun jmax workers (script means heard numbers jmax workers events clients (still_calls means calls)) stopped (ends_of done) (plain_history means log)
     pub told : (k : ℕ) (fired : List (Notice N)) → slice_get (told_of done) k ≡ Some fired → ToldAt (plain_history means log) (numbered_calls (1 + k) 1 (plain_history means log)) fired × AreHeard heard fired
-    pub unlodged : All (AreUnheard heard) (unlodged_of done)
+    pub unlodged : All (AreUnheard heard numbers) (unlodged_of done)
     pub count : length done ≡ length clients + workers
 
   pub came : {G : Type 0} (stopped : Option Stop) (v z : View (Entry U)) (log : List (Entry U)) (old done : List (Member U N G)) → HasSetUp means jmax events v stopped → v.seats ≡ 1 + length clients + workers → AreMembers clients workers old →
-      WorkedBy means heard jmax stopped v z old done → Shows seat_of (IsLawful means jmax) (IsPosted means) log z → CameTo stopped log done
+      WorkedBy means heard numbers jmax stopped v z old done → Shows seat_of (IsLawful means jmax) (IsPosted means) log z → CameTo stopped log done
   came None v z log old done at count are worked s = record {
-    run = whole_run means heard jmax workers events clients (still_calls means calls) v z log old done at count are worked s;
-    told = told_whole means heard jmax workers events clients (still_calls means calls) v z log old done at count are worked s;
-    unlodged = unlodged_whole means heard jmax workers events clients (still_calls means calls) v z log old done at count are worked s;
+    run = whole_run means heard numbers jmax workers events clients (still_calls means calls) v z log old done at count are worked s;
+    told = told_whole means heard numbers jmax workers events clients (still_calls means calls) v z log old done at count are worked s;
+    unlodged = unlodged_whole means heard numbers jmax workers events clients (still_calls means calls) v z log old done at count are worked s;
     count = omega (arith, worked.count, are.count);
   }
   came (Some st) v z log old done (n, few, ((first, called), cause)) count are (same, skipped) s =
       let shows : Shows seat_of (IsLawful means jmax) (IsPosted means) log v = subst (Shows seat_of (IsLawful means jmax) (IsPosted means) log) same s in
       record {
-        run = stopped_run means heard jmax workers events clients (still_calls means calls) v log st old done (n, few, ((first, called), cause)) are skipped shows;
-        told = told_skipped means heard jmax workers events clients (still_calls means calls) v log old done first shows skipped;
-        unlodged = unlodged_skipped means heard jmax workers events clients (still_calls means calls) old done skipped;
+        run = stopped_run means heard numbers jmax workers events clients (still_calls means calls) v log st old done (n, few, ((first, called), cause)) are skipped shows;
+        told = told_skipped means heard numbers jmax workers events clients (still_calls means calls) v log old done first shows skipped;
+        unlodged = unlodged_skipped means heard numbers jmax workers events clients (still_calls means calls) old done skipped;
         count = omega (arith, skipped.count, are.count);
       }

@@ -25,9 +25,9 @@ pub record IsEmpty {N : Type 0} (lines : ℕ) (client : ClientEnd N) : Type 0 wh
   pub none_unlodged : client.unlodged.items ≡ []
   pub unlodged_room : lines ≤ vec_capacity client.unlodged
 
--- notifiers that have heard nothing, each with its note
-abbrev pub AreUnheard : {N : Type 0} → (N → Option Outcome) → List (ℕ × N) → Type 0
-AreUnheard heard notes = All (λ w. heard w.1 ≡ None) notes
+-- notifiers that have heard nothing, each with the note of its number
+abbrev pub AreUnheard : {N : Type 0} → (N → Option Outcome) → (N → ℕ) → List (ℕ × N) → Type 0
+AreUnheard heard number notes = All (λ w. (heard w.1 ≡ None) × (number w.1 ≡ w.0)) notes
 
 -- the calls of a line, which ended so; or the beginning of them
 abbrev pub Makes : Given → Line → LineEnd → Promise

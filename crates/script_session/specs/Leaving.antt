@@ -31,10 +31,10 @@ pub record IsNothing {N : Type 0} (left : Left N) : Type 0 where
 
 -- Of each of so many seats behind the first, in order, who was told at its calls: just those whose queries settled there, each having
 -- heard its own end. The notifiers that no query has have heard nothing.
-pub record AreNotified {N : Type 0} (heard : N → Option Outcome) (members : ℕ) (h : List (Entry Meaning)) (notified : Notified N) : Type 0 where
+pub record AreNotified {N : Type 0} (heard : N → Option Outcome) (number : N → ℕ) (members : ℕ) (h : List (Entry Meaning)) (notified : Notified N) : Type 0 where
   pub count : length notified.told.items ≡ members
   pub told : (k : ℕ) (fired : List (Notice N)) → slice_get notified.told.items k ≡ Some fired → ToldAt h (numbered_calls (1 + k) 1 h) fired × AreHeard heard fired
-  pub unlodged : All (λ notes. AreUnheard heard notes.items) notified.unlodged.items
+  pub unlodged : All (λ notes. AreUnheard heard number notes.items) notified.unlodged.items
 
 module _ {N : Type 0} where
   -- what members leave was taken in, the last one's first
@@ -44,11 +44,11 @@ module _ {N : Type 0} where
     pub told : new.notified.told.items ≡ old.notified.told.items ++ told_of members
     pub unlodged : map (λ c. c.items) new.notified.unlodged.items ≡ map (λ c. c.items) old.notified.unlodged.items ++ unlodged_of members
 
-module _ {U N : Type 0} (means : U → Meaning) (heard : N → Option Outcome) (jmax : ℕ) where
+module _ {U N : Type 0} (means : U → Meaning) (heard : N → Option Outcome) (number : N → ℕ) (jmax : ℕ) where
   -- all worked; or, where the set-up was stopped, nobody did
   abbrev pub WorkedBy : {G : Type 0} → Option Stop → View (Entry U) → View (Entry U) → List (Member U N G) → List (Member U N G) → Type 0
-  WorkedBy None v w old new = HaveWorked seat_of (Serves means heard jmax) v w old new
-  WorkedBy (Some st) v w old new = (w ≡ v) × AllSkipped means heard old new
+  WorkedBy None v w old new = HaveWorked seat_of (Serves means heard number jmax) v w old new
+  WorkedBy (Some st) v w old new = (w ≡ v) × AllSkipped means heard number old new
 
   -- so, and what they left was taken in
   abbrev pub HaveLeft : {G : Type 0} → View (Entry U) → View (Entry U) → List (Member U N G) → Left N → Left N → Type 0

@@ -16,10 +16,10 @@ use Rattle.script_session.specs.declared.members.Member.{Member}
 use Rattle.script_session.specs.declared.members.Role.{Role}
 use Rattle.script_session.specs.declared.members.Role.TheVariants.{Client, Worker}
 
-module _ {U N : Type 0} (means : U → Meaning) (heard : N → Option Outcome) where
+module _ {U N : Type 0} (means : U → Meaning) (heard : N → Option Outcome) (number : N → ℕ) where
   -- a client's lines can be called, and there is room for their ends
   abbrev pub CanServe : Role U N → Type 0
-  CanServe (Client calls client) = All (CanCall means heard) calls.items × IsEmpty (length calls.items) client
+  CanServe (Client calls client) = All (CanCall means heard number) calls.items × IsEmpty (length calls.items) client
   CanServe Worker = ⊤
 
   -- a member can serve, and nobody was told yet
@@ -29,13 +29,13 @@ module _ {U N : Type 0} (means : U → Meaning) (heard : N → Option Outcome) w
 
   -- a client did its lines, and a worker jobs; these were told at their calls
   abbrev pub HasServed : ℕ → Role U N → Role U N → View (Entry U) → View (Entry U) → List (Notice N) → Type 0
-  HasServed jmax (Client calls before) (Client left client) v w told = HasDoneAll means heard jmax (map (line_of means) calls.items) client.lines.items v w [] told × AreUnheard heard client.unlodged.items
+  HasServed jmax (Client calls before) (Client left client) v w told = HasDoneAll means heard jmax (map (line_of means) calls.items) client.lines.items v w [] told × AreUnheard heard number client.unlodged.items
   HasServed jmax Worker Worker v w told = Does means heard v w [] told Jobs
   HasServed jmax role other v w told = ⊥
 
   -- no line of a client was done
   abbrev pub IsSkipped : Role U N → Role U N → Type 0
-  IsSkipped (Client calls before) (Client left client) = AreSkipped (map (line_of means) calls.items) client.lines.items × AreUnheard heard client.unlodged.items
+  IsSkipped (Client calls before) (Client left client) = AreSkipped (map (line_of means) calls.items) client.lines.items × AreUnheard heard number client.unlodged.items
   IsSkipped Worker Worker = ⊤
   IsSkipped role other = ⊥
 

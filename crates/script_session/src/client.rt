@@ -46,12 +46,12 @@ impl<N: Notify> ClientEnd<N> {
     pub(crate) fn add(&mut self, done: LineDone<N>)
         requires lines { length self.old.lines.items < vec_capacity self.old.lines }
         requires unlodged { length self.old.unlodged.items < vec_capacity self.old.unlodged }
-        requires unheard { IsUnheard N.heard done.back }
+        requires unheard { IsUnheard N.heard N.number done.back }
         ensures lines { self.new.lines.items ≡ self.old.lines.items ++ done.end ∷ [] }
         ensures lines_room { vec_capacity self.new.lines ≡ vec_capacity self.old.lines }
         ensures unlodged { length self.new.unlodged.items ≤ length self.old.unlodged.items + 1 }
         ensures unlodged_room { vec_capacity self.new.unlodged ≡ vec_capacity self.old.unlodged }
-        ensures unheard { AreUnheard N.heard self.old.unlodged.items → AreUnheard N.heard self.new.unlodged.items }
+        ensures unheard { AreUnheard N.heard N.number self.old.unlodged.items → AreUnheard N.heard N.number self.new.unlodged.items }
     {
         self.lines.push_reserved(done.end);
         if let Some(note) = done.back {
@@ -62,9 +62,9 @@ impl<N: Notify> ClientEnd<N> {
 
 /// A line that is not done.
 pub(crate) fn skip<U: UnitKind, N: Notify>(call: ClientCall<U, N>) -> LineDone<N>
-    requires { CanCall U.meaning N.heard call }
+    requires { CanCall U.meaning N.heard N.number call }
     ensures end { result.end ≡ LineEnd.Skipped }
-    ensures back { IsUnheard N.heard result.back }
+    ensures back { IsUnheard N.heard N.number result.back }
 {
     let back = match call {
         ClientCall::LookUp(_, watch) => watch,
@@ -104,14 +104,14 @@ fn do_or_skip<U: LinkedUnit, N: Notify, G: Gate, R: Wait, const JMAX: usize>(
 ) -> LineDone<N>
     requires ready { IsReady (turn_id shared.now) pass.old }
     requires free { IsFree U.meaning (view pass.old) }
-    requires can { CanCall U.meaning N.heard call }
+    requires can { CanCall U.meaning N.heard N.number call }
     ensures ready { IsReady (turn_id shared.now) pass.new }
     ensures free { IsFree U.meaning (view pass.new) }
     ensures next { (v : View (Entry U)) (first : List (Notice N)) (lines : List Line) (ends : List LineEnd) →
         HasDoneSome U.meaning N.heard JMAX lines ends stopped given.old v (view pass.old) first fired.old →
         HasDoneSome U.meaning N.heard JMAX (lines ++ line_of U.meaning call ∷ []) (ends ++ result.end ∷ [])
         (stopped || is_stopped result.end) given.new v (view pass.new) first fired.new }
-    ensures back { IsUnheard N.heard result.back }
+    ensures back { IsUnheard N.heard N.number result.back }
 {
     if stopped {
         skip(call)
@@ -134,13 +134,13 @@ pub(crate) fn do_lines<U: LinkedUnit, N: Notify, G: Gate, R: Wait, const JMAX: u
 )
     requires ready { IsReady (turn_id shared.now) pass.old }
     requires free { IsFree U.meaning (view pass.old) }
-    requires can { All (CanCall U.meaning N.heard) calls.items }
+    requires can { All (CanCall U.meaning N.heard N.number) calls.items }
     requires room { IsEmpty (length calls.items) client.old }
     ensures ready { IsReady (turn_id shared.now) pass.new }
     ensures free { IsFree U.meaning (view pass.new) }
     ensures done { HasDoneAll U.meaning N.heard JMAX (map (line_of U.meaning) calls.items) client.new.lines.items
         (view pass.old) (view pass.new) fired.old fired.new }
-    ensures unlodged { AreUnheard N.heard client.new.unlodged.items }
+    ensures unlodged { AreUnheard N.heard N.number client.new.unlodged.items }
 {
     let mut given = GivenNames::new(alloc, hasher);
     let mut stopped = false;

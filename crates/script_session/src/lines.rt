@@ -61,7 +61,7 @@ fn lookup_end(end: LookEnd) -> LineEnd
 
 /// A notifier that may be lodged, or none for a line without one.
 fn arm<N: Notify>(alloc: Global, watch: Option<(u32, N)>) -> Result<Option<Armed<N>>, AllocError>
-    requires { IsUnheard N.heard watch }
+    requires { IsUnheard N.heard N.number watch }
     ensures { IfOk result (λ armed. option_map (λ a. a.note) armed ≡ option_map (λ w. w.0) watch) }
 {
     match watch {
@@ -72,7 +72,7 @@ fn arm<N: Notify>(alloc: Global, watch: Option<(u32, N)>) -> Result<Option<Armed
 
 /// The notifier that came back, with its note.
 fn unlodged<N: Notify>(armed: Option<Armed<N>>) -> Option<(u32, N)>
-    ensures { IsUnheard N.heard result }
+    ensures { IsUnheard N.heard N.number result }
 {
     armed.map(|armed| (armed.note(), armed.back()))
 }
@@ -110,12 +110,12 @@ fn look_up<U: LinkedUnit, N: Notify, G: Gate, R: Wait, const JMAX: usize>(
     requires free { IsFree U.meaning (view pass.old) }
     requires order { length names.now.order ≤ ORDER_LIMIT }
     requires wanted { length names.now.wanted ≤ WANTED_LIMIT }
-    requires unheard { IsUnheard N.heard watch }
+    requires unheard { IsUnheard N.heard N.number watch }
     ensures ready { IsReady (turn_id shared.now) pass.new }
     ensures free { IsFree U.meaning (view pass.new) }
     ensures done { (g : Given) → HasDone U.meaning N.heard JMAX g (LookUp (lookup_of names.now watch)) result.end
         (view pass.old) (view pass.new) fired.old fired.new }
-    ensures back { IsUnheard N.heard result.back }
+    ensures back { IsUnheard N.heard N.number result.back }
     ensures given { (g : Given) → AreSame given.old g → is_stopped result.end ≡ false →
         AreSame given.new (given_by (LookUp (lookup_of names.now watch)) result.end ++ g) }
 {
@@ -271,12 +271,12 @@ pub(crate) fn do_line<U: LinkedUnit, N: Notify, G: Gate, R: Wait, const JMAX: us
 ) -> LineDone<N>
     requires ready { IsReady (turn_id shared.now) pass.old }
     requires free { IsFree U.meaning (view pass.old) }
-    requires can { CanCall U.meaning N.heard call }
+    requires can { CanCall U.meaning N.heard N.number call }
     ensures ready { IsReady (turn_id shared.now) pass.new }
     ensures free { IsFree U.meaning (view pass.new) }
     ensures done { (g : Given) → AreSame given.old g →
         HasDone U.meaning N.heard JMAX g (line_of U.meaning call) result.end (view pass.old) (view pass.new) fired.old fired.new }
-    ensures back { IsUnheard N.heard result.back }
+    ensures back { IsUnheard N.heard N.number result.back }
     ensures given { (g : Given) → AreSame given.old g → is_stopped result.end ≡ false →
         AreSame given.new (given_by (line_of U.meaning call) result.end ++ g) }
 {

@@ -64,9 +64,9 @@ pub(crate) struct Member<'a, U, N: Notify, G: Gate> {
 
 impl<'a, U: LinkedUnit, N: Notify, G: Gate, const JMAX: usize> Duty<Home<U, N, JMAX>>
     for Member<'a, U, N, G> {
-    ghost may = { λ member v. IsFree U.meaning v × CanBegin U.meaning N.heard member };
+    ghost may = { λ member v. IsFree U.meaning v × CanBegin U.meaning N.heard N.number member };
 
-    ghost does = { Serves U.meaning N.heard JMAX };
+    ghost does = { Serves U.meaning N.heard N.number JMAX };
 
     fn serve<R: Wait>(&mut self, rt: &R, turn: &Shared<U, N, JMAX>, seat: &mut Pass<U, N, JMAX>) {
         let Common {
@@ -156,9 +156,9 @@ pub(crate) fn skip_all<'a, U: UnitKind, N: Notify, G: Gate>(
     members: Vec<Member<'a, U, N, G>>,
     room: Vec<Member<'a, U, N, G>>,
 ) -> Vec<Member<'a, U, N, G>>
-    requires can { All (CanBegin U.meaning N.heard) members.items }
+    requires can { All (CanBegin U.meaning N.heard N.number) members.items }
     requires room { (room.items ≡ []) × (length members.items ≤ vec_capacity room) }
-    ensures { AllSkipped U.meaning N.heard members.entry.items result.items }
+    ensures { AllSkipped U.meaning N.heard N.number members.entry.items result.items }
 {
     let mut skipped = room;
     for member in members {
@@ -171,8 +171,8 @@ pub(crate) fn skip_all<'a, U: UnitKind, N: Notify, G: Gate>(
 fn skip_lines<'a, U: UnitKind, N: Notify, G: Gate>(
     member: Member<'a, U, N, G>,
 ) -> Member<'a, U, N, G>
-    requires { CanBegin U.meaning N.heard member }
-    ensures { WasSkipped U.meaning N.heard member.entry result }
+    requires { CanBegin U.meaning N.heard N.number member }
+    ensures { WasSkipped U.meaning N.heard N.number member.entry result }
 {
     let Member {
         common,
@@ -199,9 +199,9 @@ fn skip_calls<U: UnitKind, N: Notify>(
     client: ClientEnd<N>,
 ) -> ClientEnd<N>
     requires empty { IsEmpty (length calls.items) client }
-    requires can { All (CanCall U.meaning N.heard) calls.items }
+    requires can { All (CanCall U.meaning N.heard N.number) calls.items }
     ensures lines { AreSkipped (map (line_of U.meaning) calls.items) result.lines.items }
-    ensures unlodged { AreUnheard N.heard result.unlodged.items }
+    ensures unlodged { AreUnheard N.heard N.number result.unlodged.items }
 {
     let mut client = client;
     for call in calls {

@@ -117,11 +117,11 @@ fn run_members<
     requires ready { IsReady (turn_id shared.now) first.old }
     requires first { IsFirst U.meaning JMAX (view first.old) }
     requires spare { (view first.old).spare_from + length members ≤ (view first.old).spare_to }
-    requires can { All (CanBegin U.meaning N.heard) members }
+    requires can { All (CanBegin U.meaning N.heard N.number) members }
     requires room { (room.items ≡ []) × (length members ≤ vec_capacity room) }
     requires left { HasRoom (length members) left.old }
     ensures ready { IsReady (turn_id shared.now) first.new }
-    ensures left { HaveLeft U.meaning N.heard JMAX (view first.old) (view first.new) members.entry left.old left.new }
+    ensures left { HaveLeft U.meaning N.heard N.number JMAX (view first.old) (view first.new) members.entry left.old left.new }
 {
     let done = match left.end.set_up {
         None => members.work(rt, shared, first),
@@ -148,10 +148,10 @@ pub fn run_script<
 ) -> Result<ScriptSession<U, N, JMAX>, AllocError>
     requires limit { JMAX ≤ JOURNAL_LIMIT }
     requires few { length plan.clients.items + workers + 1 < 2 ^ 32 }
-    requires can { CanRun U.meaning N.heard plan }
+    requires can { CanRun U.meaning N.heard N.number plan }
     ensures run { IfOk result (λ s. IsScriptRun JMAX workers (script_of U.meaning plan) s.end.set_up
         (map (λ c. c.items) s.end.clients.items) (plain_history U.meaning s.session.journal)) }
-    ensures notified { IfOk result (λ s. AreNotified N.heard (length plan.clients.items + workers)
+    ensures notified { IfOk result (λ s. AreNotified N.heard N.number (length plan.clients.items + workers)
         (plain_history U.meaning s.session.journal) s.notified) }
 {
     let Plan {

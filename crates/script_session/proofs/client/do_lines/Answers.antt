@@ -24,7 +24,7 @@ loop-call-init g c =
       lines_room = omega (arith, room.room, ap length gives.0);
       unlodged = omega (arith, ap length room.none_unlodged);
       unlodged_room = omega (arith, room.unlodged_room, ap length gives.0);
-      unheard = subst (AreUnheard g.N.Notify.heard) (sym room.none_unlodged) (Rattle.std.proofs.lemmas.List.Elements.All-nil _);
+      unheard = subst (AreUnheard g.N.Notify.heard g.N.Notify.number) (sym room.none_unlodged) (Rattle.std.proofs.lemmas.List.Elements.All-nil _);
     }
 
 pub do_or_skip-done-requires : goal.do_or_skip-done-requires
@@ -32,7 +32,7 @@ do_or_skip-done-requires g c =
     let done = c.loop-call.yielded in
     let x = c.in-Some.call in
     let whole : c.args.calls.items ≡ done ++ x ∷ into_iter_items c.next.new.self = sym c.into_iter-call-iterator.ensures.into_iter_gives.0 ∙ (sym c.loop-call.invariant.rest ∙ ap (λ l. done ++ l) c.in-Some.ensures.steps.0) in
-    (omega arith, (c.loop-call.invariant.ready, (c.loop-call.invariant.free, next_of_all (CanCall g.U.UnitKind.meaning g.N.Notify.heard) c.args.calls.items done (into_iter_items c.next.new.self) x whole c.requires.can)))
+    (omega arith, (c.loop-call.invariant.ready, (c.loop-call.invariant.free, next_of_all (CanCall g.U.UnitKind.meaning g.N.Notify.heard g.N.Notify.number) c.args.calls.items done (into_iter_items c.next.new.self) x whole c.requires.can)))
 
 pub add-requires-clause-lines : goal.add-requires-clause-lines
 add-requires-clause-lines g c =

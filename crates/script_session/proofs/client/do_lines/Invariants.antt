@@ -17,5 +17,5 @@ invariant-loop-call g l = record {
   lines_room : length (into_iter_items l.initial.call-iterator) ≤ vec_capacity l.client.lines;
   unlodged : length l.client.unlodged.items ≤ length l.yielded;
   unlodged_room : length (into_iter_items l.initial.call-iterator) ≤ vec_capacity l.client.unlodged;
-  unheard : AreUnheard g.N.Notify.heard l.client.unlodged.items;
+  unheard : AreUnheard g.N.Notify.heard g.N.Notify.number l.client.unlodged.items;
 }

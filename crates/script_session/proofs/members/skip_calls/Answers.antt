@@ -21,7 +21,7 @@ loop-call-init g c =
       lines_room = omega (arith, room.room, ap length gives.0);
       unlodged = omega (arith, ap length room.none_unlodged);
       unlodged_room = omega (arith, room.unlodged_room, ap length gives.0);
-      unheard = subst (AreUnheard g.N.Notify.heard) (sym room.none_unlodged) (All-nil _);
+      unheard = subst (AreUnheard g.N.Notify.heard g.N.Notify.number) (sym room.none_unlodged) (All-nil _);
     }
 
 pub skip-requires : goal.skip-requires
@@ -29,7 +29,7 @@ skip-requires g c =
     let done = c.loop-call.yielded in
     let x = c.in-Some.call in
     let whole : c.args.calls.items ≡ done ++ x ∷ into_iter_items c.next.new.self = sym c.into_iter-call-iterator.ensures.into_iter_gives.0 ∙ (sym c.loop-call.invariant.rest ∙ ap (λ l. done ++ l) c.in-Some.ensures.steps.0) in
-    next_of_all (CanCall g.U.UnitKind.meaning g.N.Notify.heard) c.args.calls.items done (into_iter_items c.next.new.self) x whole c.requires.can
+    next_of_all (CanCall g.U.UnitKind.meaning g.N.Notify.heard g.N.Notify.number) c.args.calls.items done (into_iter_items c.next.new.self) x whole c.requires.can
 
 pub add-requires-clause-lines : goal.add-requires-clause-lines
 add-requires-clause-lines g c =

@@ -11,7 +11,7 @@ use Rattle.script_session.proofs.session.run_members.Goals as goal
 use Rattle.script_session.proofs.session.run_members.Goals.{in-None, in-Some}
 
 pub work-done-requires-clause-may : goal.work-done-requires-clause-may
-work-done-requires-clause-may g c κs within = may_serve g.U.UnitKind.meaning g.N.Notify.heard g.row.JMAX (view c.args.first.now) c.args.members c.requires.first c.requires.can
+work-done-requires-clause-may g c κs within = may_serve g.U.UnitKind.meaning g.N.Notify.heard g.N.Notify.number g.row.JMAX (view c.args.first.now) c.args.members c.requires.first c.requires.can
 
 pub work-done-requires-send-T : goal.work-done-requires-send-T
 work-done-requires-send-T g c κs within = let u = c.type_bounds.send-U in let n = c.type_bounds.send-N in search (sendable, heap.crosses, home_send) depth 40
@@ -20,7 +20,7 @@ pub work-done-requires-send-D : goal.work-done-requires-send-D
 work-done-requires-send-D g c κs within = let u = c.type_bounds.send-U in let n = c.type_bounds.send-N in let s = c.type_bounds.sync-G in search (sendable, heap.crosses, member_send) depth 40
 
 pub skip_all-done-requires-clause-can : goal.skip_all-done-requires-clause-can
-skip_all-done-requires-clause-can g c = subst (All (CanBegin g.U.UnitKind.meaning g.N.Notify.heard)) (sym c.into_duties.ensures) c.requires.can
+skip_all-done-requires-clause-can g c = subst (All (CanBegin g.U.UnitKind.meaning g.N.Notify.heard g.N.Notify.number)) (sym c.into_duties.ensures) c.requires.can
 
 pub take_all-requires : goal.take_all-requires
 take_all-requires g c = elim c.match-left.branch [

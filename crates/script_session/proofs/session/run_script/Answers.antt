@@ -24,6 +24,7 @@ pub run_members-requires-after_bounds : goal.run_members-requires-after_bounds
 run_members-requires-after_bounds g c κs within =
     let M = g.U.UnitKind.meaning in
     let H = g.N.Notify.heard in
+    let K = g.N.Notify.number in
     let plan = c.args.plan in
     let calls = plan.set_up.items in
     let clients = map (λ x. x.items) plan.clients.items in
@@ -32,7 +33,7 @@ run_members-requires-after_bounds g c κs within =
     let are : AreMembers clients c.args.workers members = subst (AreMembers clients c.args.workers) (sym c.in_ok-members-2.ensures) c.in_ok-members.ensures in
     let count : length members ≡ c.args.workers + length plan.clients.items = omega (arith, are.count, length-map plan.clients.items (λ x. x.items)) in
     let room = c.in_ok-left.ensures.room in
-    let first = first_of M H g.row.JMAX c.args.workers calls clients c.set_up-left.result (view pass) c.set_up-left.ensures.set_up in (
+    let first = first_of M H K g.row.JMAX c.args.workers calls clients c.set_up-left.result (view pass) c.set_up-left.ensures.set_up in (
       omega arith,
       (
         c.set_up-left.ensures.ready,
@@ -41,7 +42,7 @@ run_members-requires-after_bounds g c κs within =
           (
             omega (arith, first.from, first.to, c.set_up-left.ensures.seats, ap (λ v. v.seats) c.in_ok-shared.ensures.1, count, c.len.ensures, plan.clients.ok.0, c.requires.few),
             (
-              all_can M H clients c.args.workers members are (All-map (All (CanCall M H)) (λ x. x.items) plan.clients.items c.requires.can.clients),
+              all_can M H K clients c.args.workers members are (All-map (All (CanCall M H K)) (λ x. x.items) plan.clients.items c.requires.can.clients),
               (
                 (c.in_ok-room.ensures.items, omega (arith, count, c.in_ok-room.ensures.capacity, c.len-2.ensures, plan.clients.ok.0)),
                 record {
@@ -60,6 +61,7 @@ pub returns-clause-run : goal.returns-clause-run
 returns-clause-run g c =
     let M = g.U.UnitKind.meaning in
     let H = g.N.Notify.heard in
+    let K = g.N.Notify.number in
     let J = g.row.JMAX in
     let plan = c.args.plan in
     let calls = plan.set_up.items in
@@ -72,7 +74,7 @@ returns-clause-run g c =
     let ended = c.run_members.new.left.end in
     let are : AreMembers clients c.args.workers members = subst (AreMembers clients c.args.workers) (sym c.in_ok-members-2.ensures) c.in_ok-members.ensures in
     let seats : (view c.set_up-left.new.pass).seats ≡ 1 + length clients + c.args.workers = omega (arith, c.set_up-left.ensures.seats, ap (λ v. v.seats) c.in_ok-shared.ensures.1, length-map plan.clients.items (λ x. x.items), c.len.ensures, plan.clients.ok.0, c.requires.few) in
-    let it = came M H J c.args.workers calls clients c.set_up-left.result (view c.set_up-left.new.pass) (view c.run_members.new.first) log members done c.set_up-left.ensures.set_up seats are left.1 c.close-session.ensures.shows in
+    let it = came M H K J c.args.workers calls clients c.set_up-left.result (view c.set_up-left.new.pass) (view c.run_members.new.first) log members done c.set_up-left.ensures.set_up seats are left.1 c.close-session.ensures.shows in
     let ends : map (λ x. x.items) ended.clients.items ≡ ends_of done = taken.clients ∙ ap (λ l. map (λ x. x.items) l ++ ends_of done) c.in_ok-left.ensures.empty.clients in
     subst (λ l. IsScriptRun J c.args.workers (record { set_up = map (event_of M) calls; clients = l }) ended.set_up (map (λ x. x.items) ended.clients.items) (plain_history M log)) (all_lines M (λ x. x.items) plan.clients.items)
     (subst (λ o. IsScriptRun J c.args.workers (record { set_up = map (event_of M) calls; clients = map (map (line_of M)) clients }) o (map (λ x. x.items) ended.clients.items) (plain_history M log)) (sym taken.set_up)
@@ -82,6 +84,7 @@ pub returns-clause-notified : goal.returns-clause-notified
 returns-clause-notified g c =
     let M = g.U.UnitKind.meaning in
     let H = g.N.Notify.heard in
+    let K = g.N.Notify.number in
     let J = g.row.JMAX in
     let plan = c.args.plan in
     let calls = plan.set_up.items in
@@ -94,11 +97,11 @@ returns-clause-notified g c =
     let notified = c.run_members.new.left.notified in
     let are : AreMembers clients c.args.workers members = subst (AreMembers clients c.args.workers) (sym c.in_ok-members-2.ensures) c.in_ok-members.ensures in
     let seats : (view c.set_up-left.new.pass).seats ≡ 1 + length clients + c.args.workers = omega (arith, c.set_up-left.ensures.seats, ap (λ v. v.seats) c.in_ok-shared.ensures.1, length-map plan.clients.items (λ x. x.items), c.len.ensures, plan.clients.ok.0, c.requires.few) in
-    let it = came M H J c.args.workers calls clients c.set_up-left.result (view c.set_up-left.new.pass) (view c.run_members.new.first) log members done c.set_up-left.ensures.set_up seats are left.1 c.close-session.ensures.shows in
+    let it = came M H K J c.args.workers calls clients c.set_up-left.result (view c.set_up-left.new.pass) (view c.run_members.new.first) log members done c.set_up-left.ensures.set_up seats are left.1 c.close-session.ensures.shows in
     let told : notified.told.items ≡ told_of done = taken.told ∙ ap (λ l. l ++ told_of done) c.in_ok-left.ensures.empty.told in
     let unlodged : map (λ x. x.items) notified.unlodged.items ≡ unlodged_of done = taken.unlodged ∙ ap (λ l. map (λ x. x.items) l ++ unlodged_of done) c.in_ok-left.ensures.empty.unlodged in
     record {
       count = omega (arith, ap length told, count_told done, it.count, length-map plan.clients.items (λ x. x.items));
       told = λ k fired at. it.told k fired (subst (λ l. slice_get l k ≡ Some fired) told at);
-      unlodged = all_unmapped (AreUnheard H) (λ x. x.items) notified.unlodged.items (subst (All (AreUnheard H)) (sym unlodged) it.unlodged);
+      unlodged = all_unmapped (AreUnheard H K) (λ x. x.items) notified.unlodged.items (subst (All (AreUnheard H K)) (sym unlodged) it.unlodged);
     }
