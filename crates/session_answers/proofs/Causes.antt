@@ -92,9 +92,9 @@ write_later d = never_before WriteFault d.0 d.1 d.2 tt
 
 -- What was found
 
-module _ {N : Type 0} (heard : N → Option Outcome) (jmax : ℕ) (c : Call N) where
+module _ {N : Type 0} (heard : N → Option Outcome) (number : N → ℕ) (jmax : ℕ) (c : Call N) where
   abbrev pub Session : Answer → List ℕ → Type 0
-  Session f output = HasSession heard jmax c.workers c.handed c.source_before.bytes c.told f output c.back
+  Session f output = HasSession heard number jmax c.workers c.handed c.source_before.bytes c.told f output c.back
 
   -- the first of the script's files that isn't taken in, for this reason
   abbrev Stops : LoadError → Type 0
@@ -121,7 +121,7 @@ module _ {N : Type 0} (heard : N → Option Outcome) (jmax : ℕ) (c : Call N) w
   session_cause : (f : Answer) (output : List ℕ) → Session f output → Cause f output
   session_cause f output s = subst (λ x. Session x output → Cause x output) (sym s.answers) (session_as (λ x. Session x output → Cause x output) (λ t. t) (λ len t. t) (λ t. tt) s.history s.stopped s.ends) s
 
-  pub cause_of : (f : Answer) (output : List ℕ) → Finds heard jmax c f output → Cause f output
+  pub cause_of : (f : Answer) (output : List ℕ) → Finds heard number jmax c f output → Cause f output
   cause_of f output (in_source rose e o b) = subst (λ x. Cause x output) (sym e) rose
   cause_of f output (in_script line why refused e o b) = subst (λ x. Cause x output) (sym e) refused
   cause_of f output (in_files script d asked stopped e o b) = subst (λ x. Cause x output) (sym e) (file_cause d output (script, asked, stopped))
@@ -141,7 +141,7 @@ module _ {N : Type 0} (heard : N → Option Outcome) (jmax : ℕ) (c : Call N) w
   answer_of _ output cause = absurd cause
 
   -- where no session was run, there is no text, and nobody was told
-  pub no_text : (f : Answer) (output : List ℕ) → Finds heard jmax c f output → IsBefore f → (output ≡ []) × (c.back ≡ map Unfired c.handed)
+  pub no_text : (f : Answer) (output : List ℕ) → Finds heard number jmax c f output → IsBefore f → (output ≡ []) × (c.back ≡ map Unfired c.handed)
   no_text f output (in_source rose e o b) before = (o, b)
   no_text f output (in_script line why refused e o b) before = (o, b)
   no_text f output (in_files script d asked stopped e o b) before = (o, b)

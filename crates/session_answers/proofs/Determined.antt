@@ -18,7 +18,7 @@ use Rattle.session_answers.specs.Found.{IsRefusedOn, in_source, in_script, in_fi
 use Rattle.session_answers.specs.Texts.{AreRead, counted}
 use Rattle.session_answers.proofs.Causes.{session_as}
 
-module _ {N : Type 0} (heard : N → Option Outcome) (jmax : ℕ) (c : Call N) (bytes : List ℕ) (told : c.source_before.bytes ≡ Some bytes) where
+module _ {N : Type 0} (heard : N → Option Outcome) (number : N → ℕ) (jmax : ℕ) (c : Call N) (bytes : List ℕ) (told : c.source_before.bytes ≡ Some bytes) where
   -- what is read of the source
   abbrev Read : List ℕ
   Read = take (SIZE_LIMIT + 1) bytes
@@ -43,7 +43,7 @@ module _ {N : Type 0} (heard : N → Option Outcome) (jmax : ℕ) (c : Call N) (
   never_both script line why p q = absurd cc
 
   -- the script has a bad line
-  pub refused_found : (line : ℕ) (why : ScriptWhy) (f : Answer) (output : List ℕ) → script_of (counted (length c.handed)) Read ≡ Err (BadLine line why) → Finds heard jmax c f output → (f ≡ ScriptRefused line why) ⊎ HasReadFault f
+  pub refused_found : (line : ℕ) (why : ScriptWhy) (f : Answer) (output : List ℕ) → script_of (counted (length c.handed)) Read ≡ Err (BadLine line why) → Finds heard number jmax c f output → (f ≡ ScriptRefused line why) ⊎ HasReadFault f
   refused_found line why f output is (in_source rose e o b) = inr (inl e)
   refused_found line why f output is (in_script l w refused e o b) = inl (e ∙ one_line l line w why (refused_so l w refused) is)
   refused_found line why f output is (in_files script d asked stopped e o b) = never_both script line why (script_so script asked) is
@@ -59,7 +59,7 @@ module _ {N : Type 0} (heard : N → Option Outcome) (jmax : ℕ) (c : Call N) (
     loaded_so other names units asked loaded = subst (λ x. AreLoaded x script.files names units) files_told (subst (λ (s : Script). AreLoaded c.told s.files names units) (one_script other script (script_so other asked) is) loaded)
 
     -- one of its files isn't taken in
-    pub stopped_found : (e : LoadError) (f : Answer) (output : List ℕ) → IsOfContents e → HasStopped c.told 0 0 script.files e → Finds heard jmax c f output → (f ≡ file_answer e) ⊎ HasFault f
+    pub stopped_found : (e : LoadError) (f : Answer) (output : List ℕ) → IsOfContents e → HasStopped c.told 0 0 script.files e → Finds heard number jmax c f output → (f ≡ file_answer e) ⊎ HasFault f
     stopped_found e f output of stopped (in_source rose q o b) = inr (inr (inl q))
     stopped_found e f output of stopped (in_script line why refused q o b) = never_both script line why is (refused_so line why refused)
     stopped_found e f output of stopped (in_files other d asked there q o b) = file_cases d f q
@@ -70,7 +70,7 @@ module _ {N : Type 0} (heard : N → Option Outcome) (jmax : ℕ) (c : Call N) (
     stopped_found e f output of stopped (wanting q o) = inr (inr (inr (inr q)))
 
     -- all of its files are objects
-    pub loaded_found : (names : List (List ℕ)) (units : List Meaning) (f : Answer) (output : List ℕ) → AreLoaded c.told script.files names units → Finds heard jmax c f output → IsOfSession f ⊎ HasFault f
+    pub loaded_found : (names : List (List ℕ)) (units : List Meaning) (f : Answer) (output : List ℕ) → AreLoaded c.told script.files names units → Finds heard number jmax c f output → IsOfSession f ⊎ HasFault f
     loaded_found names units f output loaded (in_source rose q o b) = inr (inr (inl q))
     loaded_found names units f output loaded (in_script line why refused q o b) = never_both script line why is (refused_so line why refused)
     loaded_found names units f output loaded (in_files other d asked there q o b) = file_cases d f q

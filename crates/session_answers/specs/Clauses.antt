@@ -95,10 +95,10 @@ module _ {N : Type 0} where
   abbrev pub script_in : Call N → List ℕ → Result Script ScriptError
   script_in c bytes = script_of (counted (length c.handed)) (take (SIZE_LIMIT + 1) bytes)
 
-module _ {N : Type 0} (heard : N → Option Outcome) (jmax : ℕ) (c : Call N) where
+module _ {N : Type 0} (heard : N → Option Outcome) (number : N → ℕ) (jmax : ℕ) (c : Call N) where
   -- this was found, before anything was written
   abbrev pub Finds : Answer → List ℕ → Type 0
-  Finds answer output = IsFound heard jmax c.workers c.handed c.source_before.bytes c.source_before.faults c.source_after.faults c.told c.faults_before c.faults_after answer output c.back
+  Finds answer output = IsFound heard number jmax c.workers c.handed c.source_before.bytes c.source_before.faults c.source_after.faults c.told c.faults_before c.faults_after answer output c.back
 
   -- A session of the script on the source was run, which keeps its promises to the clients, and says the answer. Out has gained its text,
   -- and log the end line; and the notifiers have heard how it ended their queries.
@@ -114,7 +114,7 @@ module _ {N : Type 0} (heard : N → Option Outcome) (jmax : ℕ) (c : Call N) w
     pub answers : answer ≡ session_answer history stopped ends
     pub written : Appends c.out_before.bytes c.out_after.bytes (session_text names script history ends)
     pub logged : Appends c.log_before.bytes c.log_after.bytes (end_line_of answer)
-    pub notes : AreBack heard history (length c.handed) c.back
+    pub notes : AreBack heard number history (length c.handed) c.back
 
   -- after a write that failed: what was found stands on the sinks in part
   pub record IsCut : Type 0 where

@@ -36,7 +36,7 @@ pub data IsUnasked (left : Option (List ℕ)) (notes unread read : ℕ) (answer 
   unread : IsUnread unread read answer → IsUnasked left notes unread read answer
   refused : (line : ℕ) (why : ScriptWhy) → IsRefusedOn left notes line why → answer ≡ ScriptRefused line why → IsUnasked left notes unread read answer
 
-module _ {N : Type 0} (heard : N → Option Outcome) where
+module _ {N : Type 0} (heard : N → Option Outcome) (number : N → ℕ) where
   -- A session of the script on the source was run: this is its text and its answer, and these notifiers came back. Where memory ran out some
   -- may be missing.
   pub record HasSession (jmax workers : ℕ) (handed : List N) (left : Option (List ℕ)) (told : Told) (answer : Answer) (output : List ℕ) (back : List (Noted N)) : Type 0 where
@@ -49,7 +49,7 @@ module _ {N : Type 0} (heard : N → Option Outcome) where
     pub session : IsSession jmax workers told script names history stopped ends
     pub answers : answer ≡ session_answer history stopped ends
     pub text : output ≡ session_text names script history ends
-    pub notes : answer ≢ NoMemory → AreBack heard history (length handed) back
+    pub notes : answer ≢ NoMemory → AreBack heard number history (length handed) back
 
   -- What was found, in this order: the source couldn't be read; the first bad line of its script; the first file that isn't taken in; or a
   -- session was run. Memory may run out at any time.

@@ -7,5 +7,5 @@ use Rattle.session_answers.specs.Clauses.{Call, Finds, SessionAnswers}
 use Rattle.session_answers.specs.Reads.{IsSourceReadFor}
 
 abbrev pub SessionAnswersAreKept : Type 0 → Type 0
-SessionAnswersAreKept N = (heard : N → Option Outcome) (jmax : ℕ) (c : Call N) (found answer : Answer) (output : List ℕ) →
-    Finds heard jmax c found output → IsSourceReadFor c.source_before.faults c.source_after.faults found → IsFinished c.out_before c.out_after c.log_before c.log_after found output [] answer → SessionAnswers heard jmax c answer
+SessionAnswersAreKept N = (heard : N → Option Outcome) (number : N → ℕ) (jmax : ℕ) (c : Call N) (found answer : Answer) (output : List ℕ) →
+    Finds heard number jmax c found output → IsSourceReadFor c.source_before.faults c.source_after.faults found → IsFinished c.out_before c.out_after c.log_before c.log_after found output [] answer → SessionAnswers heard number jmax c answer

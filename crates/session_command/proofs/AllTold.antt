@@ -56,8 +56,8 @@ module _ {U : Type 0} (means : U → Meaning) where
   went_quiet jmax plan ends h setup later _ (Whole are ran) k e there = quiet_setup plan.set_up.items (map (event_of means) plan.set_up.items) setup (λ j x t. t) are k e there
   went_quiet jmax plan ends h setup later _ (InSetUp n st few are none cause skipped) k e there = quiet_setup plan.set_up.items (take n (map (event_of means) plan.set_up.items)) setup (taken_some n (map (event_of means) plan.set_up.items)) are k e there
 
-module _ {U N : Type 0} (means : U → Meaning) (heard : N → Option Outcome) (jmax workers : ℕ) (plan : Plan U N) (stopped : Option Stop) (ends : List (List LineEnd)) (h : List (Entry Meaning))
-    (run : IsScriptRun jmax workers (script_of means plan) stopped ends h) (notified : Notified N) (are : AreNotified heard (length plan.clients.items + workers) h notified) where
+module _ {U N : Type 0} (means : U → Meaning) (heard : N → Option Outcome) (number : N → ℕ) (jmax workers : ℕ) (plan : Plan U N) (stopped : Option Stop) (ends : List (List LineEnd)) (h : List (Entry Meaning))
+    (run : IsScriptRun jmax workers (script_of means plan) stopped ends h) (notified : Notified N) (are : AreNotified heard number (length plan.clients.items + workers) h notified) where
   abbrev pub Told : List (List (Notice N))
   Told = notified.told.items
 

@@ -1,5 +1,5 @@
 -- Where the notifiers stand that were put in places.
-use Rattle.std.proofs.Common.{arith, ◌≡◌, ℕ, zero, suc, ◌<◌, ◌≤◌, ◌⊎◌, inl, inr, List, [], ◌∷◌, set, All, length, flat_map, slice_get, Option, None, Some, IfSome, Result, Ok, Err, IfOk, refl, sym, subst, ap, ◌∙◌}
+use Rattle.std.proofs.Common.{arith, ◌≡◌, ℕ, zero, suc, ◌+◌, ◌<◌, ◌≤◌, ◌⊎◌, inl, inr, List, [], ◌∷◌, set, All, length, flat_map, slice_get, Option, None, Some, IfSome, Result, Ok, Err, IfOk, refl, sym, subst, ap, ◌∙◌}
 use Rattle.std.specs.Bool.{⊤}
 use Rattle.std.specs.Option.{option_to_list}
 use Rattle.std.proofs.lemmas.List.{length-set}
@@ -12,6 +12,9 @@ use Rattle.session_model.specs.Meaning.{Meaning}
 use Rattle.session_model.specs.declared.entry.Entry.{Entry}
 use Rattle.notifiers.specs.Notices.{AreHeard}
 use Rattle.notifiers.specs.declared.notice.Notice.{Notice}
+use Rattle.orc_io.specs.Numbers.{AreNumberedFrom}
+use Rattle.noted.proofs.Back.{all_taken, set_cases}
+use Rattle.noted.specs.Heard.{AreInOrder}
 use Rattle.noted.specs.declared.notes.Noted.{Noted}
 use Rattle.noted.specs.declared.notes.Noted.TheVariants.{Fired, Unfired}
 use Rattle.notice_laws.specs.Laws.{IsAmong}
@@ -19,30 +22,12 @@ use Rattle.notice_laws.specs.Notes.{NoteEnded}
 use Rattle.session_answers.specs.Notes.{AreBack, HasHeardBy}
 use Rattle.session_command.specs.Places.{ArePut, HasHeardNothing, NoneHasHeard, Places, put_told, put_all_told}
 
--- Lists
+-- notifiers that are numbered on: the first, and the others
+pub first_numbered : {N : Type 0} (number : N → ℕ) (first : ℕ) (notes rest : List N) (n : N) → notes ≡ n ∷ rest → AreNumberedFrom number first notes → number n ≡ first
+first_numbered number first notes rest n is are = omega (arith, subst (AreNumberedFrom number first) is are 0 n refl)
 
-set_cases : {X : Type 0} (xs : List X) (i k : ℕ) (y x : X) → slice_get (set xs i y) k ≡ Some x → ((k ≡ i) × (x ≡ y)) ⊎ (slice_get xs k ≡ Some x)
-set_cases [] i k y x there = absurd (none-some x there)
-set_cases (z ∷ zs) zero zero y x there = inl (refl, sym (same_Some y x there))
-set_cases (z ∷ zs) zero (suc k) y x there = inr there
-set_cases (z ∷ zs) (suc i) zero y x there = inr there
-set_cases (z ∷ zs) (suc i) (suc k) y x there = further (set_cases zs i k y x there)
-  where
-    further : ((k ≡ i) × (x ≡ y)) ⊎ (slice_get zs k ≡ Some x) → ((suc k ≡ suc i) × (x ≡ y)) ⊎ (slice_get zs k ≡ Some x)
-    further (inl p) = inl (ap suc p.0, p.1)
-    further (inr t) = inr t
-
--- of places those that are taken; where all are, they are the places
-few_taken : {X : Type 0} (places : List (Option X)) → length (flat_map option_to_list places) ≤ length places
-few_taken [] = omega arith
-few_taken (None ∷ places) = omega (arith, few_taken places)
-few_taken (Some x ∷ places) = omega (arith, few_taken places)
-
-all_taken : {X : Type 0} (places : List (Option X)) → length (flat_map option_to_list places) ≡ length places → (k : ℕ) (x : X) → slice_get (flat_map option_to_list places) k ≡ Some x → slice_get places k ≡ Some (Some x)
-all_taken [] all k x there = absurd (none-some x there)
-all_taken (None ∷ places) all k x there = absurd (omega (arith, all, few_taken places))
-all_taken (Some y ∷ places) all zero x there = ap Some there
-all_taken (Some y ∷ places) all (suc k) x there = all_taken places (omega (arith, all)) k x there
+pub rest_numbered : {N : Type 0} (number : N → ℕ) (first : ℕ) (notes rest : List N) (n : N) → notes ≡ n ∷ rest → AreNumberedFrom number first notes → AreNumberedFrom number (first + 1) rest
+rest_numbered number first notes rest n is are k m there = omega (arith, subst (AreNumberedFrom number first) is are (suc k) m there)
 
 module _ {N : Type 0} where
   -- Who was told
@@ -62,7 +47,7 @@ module _ {N : Type 0} where
   told_length [] places = refl
   told_length (f ∷ told) places = told_length told (set places f.note (Some (Fired f.what))) ∙ length-set places f.note (Some (Fired f.what))
 
-  all_told_length : (told : List (List (Notice N))) (places : Places N) → length (put_all_told told places) ≡ length places
+  pub all_told_length : (told : List (List (Notice N))) (places : Places N) → length (put_all_told told places) ≡ length places
   all_told_length [] places = refl
   all_told_length (fired ∷ told) places = all_told_length told (put_told fired places) ∙ told_length fired places
 
@@ -127,8 +112,8 @@ module _ {N : Type 0} where
     abbrev pub AllWereTold : List (List (Notice N)) → Type 0
     AllWereTold told = (note : ℕ) (outcome : Outcome) → NoteEnded h note outcome → (i : ℕ) × (fired : List (Notice N)) × (slice_get told i ≡ Some fired) × IsAmong note outcome fired
 
-    pub are_back : (count : ℕ) (told : List (List (Notice N))) (back : List (Noted N)) → ArePut heard count told back → All WereTold told → AllWereTold told → length back ≡ count → AreBack heard h count back
-    are_back count told back put were all size = record { all = size; each = λ k noted there. each k noted (stands k noted there) }
+    are_noted : (count : ℕ) (told : List (List (Notice N))) (back : List (Noted N)) → ArePut heard count told back → All WereTold told → AllWereTold told → length back ≡ count → (k : ℕ) (noted : Noted N) → slice_get back k ≡ Some noted → HasHeardBy heard h k noted
+    are_noted count told back put were all size k noted there = each k noted (stands k noted there)
       where
         places : Places N
         places = put_all_told told put.others
@@ -157,8 +142,19 @@ module _ {N : Type 0} where
         each k (Fired what) there = so k (Fired what) there
         each k (Unfired what) there = (so k (Unfired what) there, silent k what there)
 
+-- so all came back
+pub are_back : {N : Type 0} (heard : N → Option Outcome) (number : N → ℕ) (h : List (Entry Meaning)) (count : ℕ) (told : List (List (Notice N))) (back : List (Noted N)) → ArePut heard count told back → All (WereTold heard h) told → AllWereTold heard h told → length back ≡ count → AreInOrder number back →
+    AreBack heard number h count back
+are_back heard number h count told back put were all size order = record { all = size; in_order = order; each = are_noted heard h count told back put were all size }
+
 -- what the places hold in the end was put there
 pub put_back : {N E : Type 0} (heard : N → Option Outcome) (count : ℕ) (told : List (List (Notice N))) (others : Places N) (r : Result (List (Noted N)) E) →
     length others ≡ count → NoneHasHeard heard others → IfOk r (λ notes. notes ≡ flat_map option_to_list (put_all_told told others)) → IfOk r (ArePut heard count told)
 put_back heard count told others (Ok notes) size unheard are = record { others = others; size = size; unheard = unheard; are = are }
 put_back heard count told others (Err e) size unheard are = tt
+
+-- and stands in order, where all came back
+pub back_ordered : {N E : Type 0} (number : N → ℕ) (told : List (List (Notice N))) (others : Places N) (r : Result (List (Noted N)) E) (count : ℕ) → length others ≡ count → IfOk r (λ notes. length notes ≡ length (put_all_told told others) → AreInOrder number notes) →
+    IfOk r (λ notes. length notes ≡ count → AreInOrder number notes)
+back_ordered number told others (Ok notes) count size are = λ all. are (all ∙ sym (all_told_length told others ∙ size))
+back_ordered number told others (Err e) count size are = tt

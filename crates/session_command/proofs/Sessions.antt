@@ -9,7 +9,7 @@ use Rattle.journal_text.specs.Journal.{AreKnown, text_of_history}
 use Rattle.result_text.specs.Known.{AreKnownEnds}
 use Rattle.result_text.specs.Results.{text_of_ends}
 use Rattle.object_files.specs.Files.{Told}
-use Rattle.noted.specs.Heard.{AllHaveHeard}
+use Rattle.noted.specs.Heard.{AllHaveHeard, AreInOrder}
 use Rattle.noted.specs.declared.notes.Noted.{Noted}
 use Rattle.session_script.specs.declared.script.ClientLine.{ClientLine}
 use Rattle.session_script.specs.declared.script.Script.{Script}
@@ -36,7 +36,7 @@ use Rattle.session_command.specs.declared.command.SessionFound.{SessionFound}
 use Rattle.session_command.proofs.AllTold.{all_were_told, were_told}
 use Rattle.session_command.proofs.Placing.{are_back}
 
-module _ {N : Type 0} (heard : N → Option Outcome) (jmax workers : ℕ) (handed : List N) (loaded : Loaded) (plan : Plan ObjectUnit N) (journal : List (Entry ObjectUnit)) (end : ScriptEnd) (notified : Notified N) where
+module _ {N : Type 0} (heard : N → Option Outcome) (number : N → ℕ) (jmax workers : ℕ) (handed : List N) (loaded : Loaded) (plan : Plan ObjectUnit N) (journal : List (Entry ObjectUnit)) (end : ScriptEnd) (notified : Notified N) where
   abbrev pub History : List (Entry Meaning)
   History = plain_history meaning_of journal
 
@@ -47,12 +47,13 @@ module _ {N : Type 0} (heard : N → Option Outcome) (jmax workers : ℕ) (hande
   pub record WasRun (wanted : List (List (List Wanted))) (answer : Answer) (output : List ℕ) (back : List (Noted N)) : Type 0 where
     pub asked : script_of meaning_of plan ≡ asked_script (map meaning_of loaded.units.items) loaded.script
     pub run : IsScriptRun jmax workers (script_of meaning_of plan) end.set_up Ends History
-    pub notified_are : AreNotified heard (length plan.clients.items + workers) History notified
+    pub notified_are : AreNotified heard number (length plan.clients.items + workers) History notified
     pub wanted_are : wanted ≡ map (map wanted_by) loaded.script.clients
     pub answers : answer ≡ session_answer History end.set_up Ends
     pub text : output ≡ text_of_history loaded.script.names History ++ text_of_ends loaded.script.names wanted Ends
     pub put : ArePut heard (length handed) notified.told.items back
     pub all : answer ≢ NoMemory → length back ≡ length handed
+    pub in_order : length back ≡ length handed → AreInOrder number back
 
   -- the plan is the script's, and this is the history of its run
   abbrev WasAsked : Type 0
@@ -86,7 +87,7 @@ module _ {N : Type 0} (heard : N → Option Outcome) (jmax workers : ℕ) (hande
         (subst (λ e. AreKnownEnds loaded.script.names (wanted_by_all is.asked) e) (sym ends_are) known.1)
 
   has_session : (left : Option (List ℕ)) (told : Told) → IsLoaded left (counted (length handed)) told loaded → (wanted : List (List (List Wanted))) (answer : Answer) (output : List ℕ) (back : List (Noted N)) →
-      WasRun wanted answer output back → HasSession heard jmax workers handed left told answer output back
+      WasRun wanted answer output back → HasSession heard number jmax workers handed left told answer output back
   has_session left told is wanted answer output back w = record {
     script = is.asked;
     asked = is.is;
@@ -97,20 +98,20 @@ module _ {N : Type 0} (heard : N → Option Outcome) (jmax workers : ℕ) (hande
     session = is_session left told is w.asked w.run;
     answers = w.answers;
     text = w.text ∙ ap (λ l. text_of_history loaded.script.names History ++ text_of_ends loaded.script.names l Ends) (w.wanted_are ∙ wanted_as_asked left told is);
-    notes = λ quiet. are_back heard History (length handed) notified.told.items back w.put
-        (were_told meaning_of heard jmax workers plan end.set_up Ends History w.run notified w.notified_are)
-        (all_were_told meaning_of heard jmax workers plan end.set_up Ends History w.run notified w.notified_are)
-        (w.all quiet);
+    notes = λ quiet. are_back heard number History (length handed) notified.told.items back w.put
+        (were_told meaning_of heard number jmax workers plan end.set_up Ends History w.run notified w.notified_are)
+        (all_were_told meaning_of heard number jmax workers plan end.set_up Ends History w.run notified w.notified_are)
+        (w.all quiet) (w.in_order (w.all quiet));
   }
 
   pub session_found : {E : Type 0} (r : Result (SessionFound N) E) (wanted : List (List (List Wanted))) (answer : Answer) (output : List ℕ) (back : List (Noted N)) →
       IfOk r (λ f. f.answer ≡ answer) → IfOk r (λ f. f.output ≡ output) → IfOk r (λ f. f.notes ≡ back) → IfOk r (λ f. answer ≢ NoMemory → length back ≡ length handed) →
       ((answer ≢ NoMemory → length back ≡ length handed) → WasRun wanted answer output back) →
-      (left : Option (List ℕ)) (told : Told) → IsLoaded left (counted (length handed)) told loaded → IfOk r (λ f. HasSession heard jmax workers handed left told f.answer f.output f.notes)
+      (left : Option (List ℕ)) (told : Told) → IsLoaded left (counted (length handed)) told loaded → IfOk r (λ f. HasSession heard number jmax workers handed left told f.answer f.output f.notes)
   session_found (Ok f) wanted answer output back a o n all w left told is =
       let s = has_session left told is wanted answer output back (w all) in
-      subst (λ x. HasSession heard jmax workers handed left told x f.output f.notes) (sym a)
-      (subst (λ x. HasSession heard jmax workers handed left told answer x f.notes) (sym o) (subst (λ x. HasSession heard jmax workers handed left told answer output x) (sym n) s))
+      subst (λ x. HasSession heard number jmax workers handed left told x f.output f.notes) (sym a)
+      (subst (λ x. HasSession heard number jmax workers handed left told answer x f.notes) (sym o) (subst (λ x. HasSession heard number jmax workers handed left told answer output x) (sym n) s))
   session_found (Err e) wanted answer output back a o n all w left told is = tt
 
 -- what came back has heard what it says

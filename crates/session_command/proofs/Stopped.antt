@@ -19,12 +19,12 @@ pub stopped_in_files : (left : Option (List ℕ)) (notes first read : ℕ) (told
 stopped_in_files left notes first read told before after script (Ok loaded) on stopped = tt
 stopped_in_files left notes first read told before after script (Err answer) on stopped = in_files script on stopped
 
-pub silent_found : {N : Type 0} (heard : N → Option Outcome) (jmax workers : ℕ) (handed : List N) (left : Option (List ℕ)) (first read : ℕ) (told : Told) (before after : ℕ) (why answer : Answer) (output : List ℕ) (back : List (Noted N)) →
-    HasStoppedIn left (counted (length handed)) first read told before after why → answer ≡ why → output ≡ [] → back ≡ map Unfired handed → IsFound heard jmax workers handed left first read told before after answer output back
-silent_found heard jmax workers handed left first read told before after why answer output back (unasked (unread (inl p))) a o b = in_source p.0 (a ∙ p.1) o b
-silent_found heard jmax workers handed left first read told before after why answer output back (unasked (unread (inr e))) a o b = wanting (a ∙ e) o
-silent_found heard jmax workers handed left first read told before after why answer output back (unasked (refused line cause is e)) a o b = in_script line cause is (a ∙ e) o b
-silent_found heard jmax workers handed left first read told before after why answer output back (in_files script on s) a o b = found.in_files script s.error on s.stopped (a ∙ s.answers) o b
+pub silent_found : {N : Type 0} (heard : N → Option Outcome) (number : N → ℕ) (jmax workers : ℕ) (handed : List N) (left : Option (List ℕ)) (first read : ℕ) (told : Told) (before after : ℕ) (why answer : Answer) (output : List ℕ) (back : List (Noted N)) →
+    HasStoppedIn left (counted (length handed)) first read told before after why → answer ≡ why → output ≡ [] → back ≡ map Unfired handed → IsFound heard number jmax workers handed left first read told before after answer output back
+silent_found heard number jmax workers handed left first read told before after why answer output back (unasked (unread (inl p))) a o b = in_source p.0 (a ∙ p.1) o b
+silent_found heard number jmax workers handed left first read told before after why answer output back (unasked (unread (inr e))) a o b = wanting (a ∙ e) o
+silent_found heard number jmax workers handed left first read told before after why answer output back (unasked (refused line cause is e)) a o b = in_script line cause is (a ∙ e) o b
+silent_found heard number jmax workers handed left first read told before after why answer output back (in_files script on s) a o b = found.in_files script s.error on s.stopped (a ∙ s.answers) o b
 
 -- the source was read before a file that isn't taken in
 pub source_of_script : (first read : ℕ) (told : Told) (before after : ℕ) (script : Script) (r : Result Loaded Answer) → read ≡ first → IfErr r (HasStoppedAt told before after script) → IfErr r (IsSourceReadFor first read)

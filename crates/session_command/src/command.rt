@@ -2,6 +2,7 @@
 ghost use Rattle.std.specs.Prelude.{◌≡◌, ◌≢◌, ◌≤◌, ℕ, List, [], All, Option, None, length, map, IfErr, IfOk, OnOk, IsTrue};
 ghost use Rattle.execution_session.specs.declared.session.TheConstants.{JOURNAL_LIMIT};
 ghost use Rattle.noted.specs.Heard.{AllHaveHeard};
+ghost use Rattle.orc_io.specs.Numbers.{AreNumberedFrom};
 ghost use Rattle.object_files.specs.Files.{Told};
 ghost use Rattle.object_files.specs.Reads.{AreReadIn, use_of};
 ghost use Rattle.answers.specs.Reads.{AreReadFor};
@@ -170,8 +171,9 @@ fn run_loaded<G: Gate + Sync, N: Notify + Send, R: Threads + Wait + Sync, const 
     requires few { workers ≤ 16 }
     requires loaded { (left : Option (List ℕ)) × (told : Told) × IsLoaded left (counted (length notes.items)) told loaded }
     requires unheard { All (λ n. N.heard n ≡ None) notes.items }
+    requires numbered { AreNumberedFrom N.number 0 notes.items }
     ensures session { (left : Option (List ℕ)) (told : Told) → IsLoaded left (counted (length notes.items)) told loaded →
-        IfOk result (λ f. HasSession N.heard JMAX workers notes.items left told f.answer f.output f.notes) }
+        IfOk result (λ f. HasSession N.heard N.number JMAX workers notes.items left told f.answer f.output f.notes) }
     ensures heard { IfOk result (λ f. AllHaveHeard N.heard f.notes) }
 {
     let Loaded { script, units } = loaded;
@@ -220,7 +222,8 @@ pub fn find_session<
     requires limit { JMAX ≤ JOURNAL_LIMIT }
     requires few { workers ≤ 16 }
     requires unheard { All (λ n. N.heard n ≡ None) notes.items }
-    ensures found { IsFound N.heard JMAX workers notes.items (S.left source.old) (S.faults source.old) (S.faults source.new)
+    requires numbered { AreNumberedFrom N.number 0 notes.items }
+    ensures found { IsFound N.heard N.number JMAX workers notes.items (S.left source.old) (S.faults source.old) (S.faults source.new)
         (F.holds files.old) (F.faults files.old) (F.faults files.new) result.answer result.output result.notes }
     ensures read { AreScriptRead (S.left source.old) (counted (length notes.items))
         (use_of (F.reads files.old) (F.faults files.old)) (use_of (F.reads files.new) (F.faults files.new)) result.answer }

@@ -1,7 +1,8 @@
 //! The notifiers of a script, as they come back.
-ghost use Rattle.std.specs.Prelude.{◌≡◌, ◌≤◌, ◌+◌, All, None, IfOk, length, flat_map};
+ghost use Rattle.std.specs.Prelude.{◌≡◌, ◌≤◌, ◌<◌, ◌+◌, ◌^◌, All, None, IfOk, length, flat_map};
 ghost use Rattle.std.specs.Option.{option_to_list};
-ghost use Rattle.noted.specs.Heard.{AllHaveHeard};
+ghost use Rattle.noted.specs.Heard.{AllHaveHeard, AreInOrder};
+ghost use Rattle.orc_io.specs.Numbers.{AreNumberedFrom};
 ghost use Rattle.query_book.specs.Rows.{first_armed};
 ghost use Rattle.script_session.specs.Clients.{AreUnheard};
 ghost use Rattle.session_command.specs.Places.{ArePut, NoneHasHeard, put_told, put_all_told};
@@ -17,6 +18,7 @@ use std::alloc::{AllocError, Global};
 /// One that nothing was told.
 fn put_unheard<N: Notify>(places: &mut NotePlaces<N>, number: usize, what: N)
     requires unheard { N.heard what ≡ None }
+    requires number { N.number what ≡ number }
     requires places { NoneHasHeard N.heard places.old }
     ensures places { NoneHasHeard N.heard places.new }
     ensures count { length places.new ≡ length places.old }
@@ -26,7 +28,7 @@ fn put_unheard<N: Notify>(places: &mut NotePlaces<N>, number: usize, what: N)
 
 /// Those that no query had.
 fn put_unlodged<N: Notify>(places: &mut NotePlaces<N>, notes: Vec<(u32, N)>)
-    requires notes { AreUnheard N.heard notes.items }
+    requires notes { AreUnheard N.heard N.number notes.items }
     requires places { NoneHasHeard N.heard places.old }
     ensures places { NoneHasHeard N.heard places.new }
     ensures count { length places.new ≡ length places.old }
@@ -38,7 +40,7 @@ fn put_unlodged<N: Notify>(places: &mut NotePlaces<N>, notes: Vec<(u32, N)>)
 
 /// Those that no query of any client had.
 fn put_all_unlodged<N: Notify>(places: &mut NotePlaces<N>, unlodged: Vec<Vec<(u32, N)>>)
-    requires notes { All (λ notes. AreUnheard N.heard notes.items) unlodged.items }
+    requires notes { All (λ notes. AreUnheard N.heard N.number notes.items) unlodged.items }
     requires places { NoneHasHeard N.heard places.old }
     ensures places { NoneHasHeard N.heard places.new }
     ensures count { length places.new ≡ length places.old }
@@ -66,6 +68,8 @@ fn put_armed<U: UnitKind, N: Notify, const JMAX: usize>(
 /// Those that no line takes, which have the last numbers.
 fn put_unused<N: Notify>(places: &mut NotePlaces<N>, first: usize, unused: Vec<N>)
     requires notes { All (λ n. N.heard n ≡ None) unused.items }
+    requires numbered { AreNumberedFrom N.number first unused.items }
+    requires few { first + length unused.items < 2 ^ 64 }
     requires places { NoneHasHeard N.heard places.old }
     ensures places { NoneHasHeard N.heard places.new }
     ensures count { length places.new ≡ length places.old }
@@ -73,7 +77,7 @@ fn put_unused<N: Notify>(places: &mut NotePlaces<N>, first: usize, unused: Vec<N
     let mut number = first;
     for what in unused {
         put_unheard(places, number, what);
-        number = number.saturating_add(1);
+        number += 1;
     }
 }
 
@@ -106,10 +110,13 @@ pub(crate) fn put_in_order<U: UnitKind, N: Notify, const JMAX: usize>(
     unused: Vec<N>,
 ) -> Result<Notes<N>, AllocError>
     requires places { NoneHasHeard N.heard places }
-    requires unlodged { All (λ notes. AreUnheard N.heard notes.items) notified.unlodged.items }
+    requires unlodged { All (λ notes. AreUnheard N.heard N.number notes.items) notified.unlodged.items }
     requires unused { All (λ n. N.heard n ≡ None) unused.items }
+    requires numbered { AreNumberedFrom N.number first_unused unused.items }
+    requires few { first_unused + length unused.items < 2 ^ 64 }
     ensures back { IfOk result (ArePut N.heard (length places) notified.told.items) }
     ensures heard { IfOk result (AllHaveHeard N.heard) }
+    ensures in_order { IfOk result (λ notes. length notes ≡ length places → AreInOrder N.number notes) }
     ensures armed { first_armed session.new.armed ≡ None }
 {
     let mut places = places;

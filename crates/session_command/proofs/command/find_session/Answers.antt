@@ -26,7 +26,7 @@ returns-in-Err-clause-found g c =
     let after = g.F.Files.faults c.load.new.files in
     let long : c.len.result ≡ length c.args.notes.items = omega (arith, c.len.ensures, c.args.notes.ok.0) in
     let stopped = subst (λ n. HasStoppedIn left n unread read told before after c.in-Err.answer) (c.counted.ensures ∙ ap counted long) c.in-Err.ensures.stopped in
-    silent_found g.N.Notify.heard g.row.JMAX c.args.workers c.args.notes.items left unread read told before after c.in-Err.answer c.silent.result.answer c.silent.result.output c.silent.result.notes stopped c.silent.ensures.answer c.silent.ensures.output c.silent.ensures.notes
+    silent_found g.N.Notify.heard g.N.Notify.number g.row.JMAX c.args.workers c.args.notes.items left unread read told before after c.in-Err.answer c.silent.result.answer c.silent.result.output c.silent.result.notes stopped c.silent.ensures.answer c.silent.ensures.output c.silent.ensures.notes
 
 pub returns-in-Ok-run_loaded-clause-read : goal.returns-in-Ok-run_loaded-clause-read
 returns-in-Ok-run_loaded-clause-read g c =
