@@ -4,13 +4,11 @@
 //! call does with them is stated in `orc_cli`, which to read next.
 #![tactic(auto)]
 
-ghost use Rattle.std.specs.Prelude.{◌≡◌, All, None, IfOk};
-
 use answers::{Answer, end_line};
 use command_line::UsageKind;
 use orc_cli::orc;
 use orc_io::{FolderFiles, Note, OpenGate, Sink, StdSink, StdSource, write_all};
-use std::alloc::{AllocError, Global};
+use std::alloc::Global;
 use std::io::ErrorKind;
 use std::process::ExitCode;
 use std::rc::RcStr;
@@ -18,7 +16,7 @@ use std::rt::Env;
 use std::{env, io};
 
 /// How many notifiers a call is handed.
-const NOTES: usize = 16;
+const NOTES: u32 = 16;
 
 fn main(rt: HostRuntime) -> ExitCode {
     let alloc = rt.alloc();
@@ -31,7 +29,7 @@ fn main(rt: HostRuntime) -> ExitCode {
     let Ok(runtime) = runtime else {
         return refuse(alloc, &mut log, Answer::NoMemory);
     };
-    let Ok(notes) = fresh_notes(alloc) else {
+    let Ok(notes) = Note::numbered(alloc, NOTES) else {
         return refuse(alloc, &mut log, Answer::NoMemory);
     };
     let ended = orc(
@@ -73,17 +71,6 @@ fn without_words(error: &io::Error) -> Answer {
         ErrorKind::OutOfMemory => Answer::NoMemory,
         _ => Answer::Usage(UsageKind::BadWords),
     }
-}
-
-/// Notifiers that nothing was told.
-fn fresh_notes(alloc: Global) -> Result<Vec<Note>, AllocError>
-    ensures { IfOk result (λ notes. All (λ n. n.outcome ≡ None) notes.items) }
-{
-    let mut notes = Vec::new(alloc);
-    for _ in 0..NOTES {
-        notes.push(Note::new())?;
-    }
-    Ok(notes)
 }
 
 /// Ends with an answer that was found before the call; where there is no memory for its end line, with that.

@@ -4,6 +4,7 @@ ghost use Rattle.command_line.specs.Words.{Assembly, Generation, Session, asked_
 ghost use Rattle.as_answers.specs.Found.{IsFound as IsAssemblyFound};
 ghost use Rattle.gen_answers.specs.Found.{IsFound as IsSummaryFound};
 ghost use Rattle.noted.specs.Heard.{AllHaveHeard};
+ghost use Rattle.orc_io.specs.Numbers.{AreNumberedFrom};
 ghost use Rattle.run_answers.specs.Answered.{IsFound};
 ghost use Rattle.session_answers.specs.Found.{IsFound as IsSessionFound};
 ghost use Rattle.object_files.specs.Reads.{AreReadIn, use_of};
@@ -102,10 +103,11 @@ pub(crate) fn ask<
 ) -> Asked<N>
     requires journal { JMAX ≤ JOURNAL_LIMIT }
     requires unheard { All (λ n. N.heard n ≡ None) notes.items }
+    requires numbered { AreNumberedFrom N.number 0 notes.items }
     ensures run { ForRun (asked_by words.now) (λ asked. IsFound JMAX asked
         (F.holds files.old) (F.faults files.old) (F.faults files.new)
         result.found.answer result.found.output result.found.journal) }
-    ensures session { ForSession (asked_by words.now) (λ workers. IsSessionFound N.heard JMAX workers notes.items
+    ensures session { ForSession (asked_by words.now) (λ workers. IsSessionFound N.heard N.number JMAX workers notes.items
         (S.left source.old) (S.faults source.old) (S.faults source.new)
         (F.holds files.old) (F.faults files.old) (F.faults files.new)
         result.found.answer result.found.output result.notes) }

@@ -6,6 +6,7 @@ ghost use Rattle.as_answers.specs.Clauses.{AsAnswers, as_call};
 ghost use Rattle.gen_answers.specs.Clauses.{GenAnswers, gen_call};
 ghost use Rattle.object_files.specs.Reads.{AreReadIn, use_of};
 ghost use Rattle.noted.specs.Heard.{AllHaveHeard};
+ghost use Rattle.orc_io.specs.Numbers.{AreNumberedFrom};
 ghost use Rattle.run_answers.specs.Clauses.{Answers, call_of};
 ghost use Rattle.session_answers.specs.Clauses.{SessionAnswers, session_call};
 ghost use Rattle.orc_cli.specs.Asking.{ButForSession, ForAssembly, ForGeneration, ForRun, ForSession, ReadsFiles, ReadsScript, files_of};
@@ -64,6 +65,7 @@ pub fn orc<
     notes: Vec<N>,
 ) -> Ended<N>
     requires unheard { All (λ n. N.heard n ≡ None) notes.items }
+    requires numbered { AreNumberedFrom N.number 0 notes.items }
     ensures status { result.status ≡ status_of result.answer }
     // What a run, or words that ask for nothing, are answered.
     ensures run { ForRun (asked_by words.now) (λ asked. Answers JOURNAL_LIMIT (call_of asked
@@ -73,7 +75,7 @@ pub fn orc<
     // The journal of as many places as one can have has more than a run has entries.
     ensures never_full { ForRun (asked_by words.now) (λ asked. (len : ℕ) → result.answer ≢ Answer.JournalFull len) }
     // What the session of a script is answered, by so many workers.
-    ensures session { ForSession (asked_by words.now) (λ workers. SessionAnswers N.heard JOURNAL_LIMIT
+    ensures session { ForSession (asked_by words.now) (λ workers. SessionAnswers N.heard N.number JOURNAL_LIMIT
         (session_call workers notes.items result.notes
         (held_by (S.left source.old) (S.faults source.old)) (held_by (S.left source.new) (S.faults source.new))
         (F.holds files.old) (F.faults files.old) (F.faults files.new)
@@ -142,6 +144,7 @@ pub fn orc_sized<
     notes: Vec<N>,
 ) -> Ended<N>
     requires unheard { All (λ n. N.heard n ≡ None) notes.items }
+    requires numbered { AreNumberedFrom N.number 0 notes.items }
     requires journal { JMAX ≤ JOURNAL_LIMIT }
     ensures status { result.status ≡ status_of result.answer }
     // What a run, or words that ask for nothing, are answered.
@@ -152,7 +155,7 @@ pub fn orc_sized<
     // The journal of as many places as one can have has more than a run has entries.
     ensures never_full { JMAX ≡ JOURNAL_LIMIT → ForRun (asked_by words.now) (λ asked. (len : ℕ) → result.answer ≢ Answer.JournalFull len) }
     // What the session of a script is answered, by so many workers.
-    ensures session { ForSession (asked_by words.now) (λ workers. SessionAnswers N.heard JMAX
+    ensures session { ForSession (asked_by words.now) (λ workers. SessionAnswers N.heard N.number JMAX
         (session_call workers notes.items result.notes
         (held_by (S.left source.old) (S.faults source.old)) (held_by (S.left source.new) (S.faults source.new))
         (F.holds files.old) (F.faults files.old) (F.faults files.new)

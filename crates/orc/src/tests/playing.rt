@@ -1,5 +1,5 @@
 //! Calls are made, and looked at.
-ghost use Rattle.std.specs.Prelude.{◌≡◌, ◌≤◌, All, None, IfOk};
+ghost use Rattle.std.specs.Prelude.{◌≤◌};
 
 use super::calls::{Call, Reads};
 use super::outside::{Outside, SureOutside};
@@ -149,7 +149,7 @@ fn make<
 ) -> Result<Ended<Note>, Fail> {
     let alloc = rt.alloc();
     let words = words_of(alloc, call.words)?;
-    let notes = notes_of(alloc, call.notes.len())?;
+    let notes = Note::numbered(alloc, call.notes.len() as u32)?;
     Ok(orc(
         rt,
         alloc,
@@ -173,7 +173,7 @@ fn make_sized<R: Threads + Wait + Sync + RandomSource + AllocGlobal, const JMAX:
 {
     let alloc = rt.alloc();
     let words = words_of(alloc, call.words)?;
-    let notes = notes_of(alloc, call.notes.len())?;
+    let notes = Note::numbered(alloc, call.notes.len() as u32)?;
     Ok(orc_sized::<_, _, _, _, _, _, _, JMAX>(
         rt,
         alloc,
@@ -194,17 +194,6 @@ fn words_of(alloc: Global, texts: &[&str]) -> Result<Vec<RcStr>, AllocError> {
         words.push(RcStr::from_str(alloc, text)?)?;
     }
     Ok(words)
-}
-
-/// So many notes that have heard nothing.
-fn notes_of(alloc: Global, count: usize) -> Result<Vec<Note>, AllocError>
-    ensures unheard { IfOk result (λ notes. All (λ n. n.outcome ≡ None) notes.items) }
-{
-    let mut notes = Vec::new(alloc);
-    for _ in 0..count {
-        notes.push(Note::new())?;
-    }
-    Ok(notes)
 }
 
 /// A call over these devices came to what it is to.
@@ -275,20 +264,23 @@ fn expect_notes<R: Abort + AllocGlobal>(
     Ok(())
 }
 
-/// Whether each note was told its outcome.
+/// Whether each note stands in its place, and was told its outcome.
 fn were_told(notes: &[Noted<Note>], outcomes: &[Option<Outcome>]) -> bool {
+    let mut number = 0;
     for (noted, outcome) in notes.iter().zip(outcomes) {
-        if !was_told(noted, *outcome) {
+        if !was_told(noted, number, *outcome) {
             return false;
         }
+        number = number.wrapping_add(1);
     }
     true
 }
 
-/// Whether a note was told this, or nothing where it is none, and has heard just that.
-fn was_told(noted: &Noted<Note>, outcome: Option<Outcome>) -> bool {
-    match noted {
-        Noted::Fired(note) => outcome.is_some() && note.outcome == outcome,
-        Noted::Unfired(note) => outcome.is_none() && note.outcome == outcome,
-    }
+/// Whether the note of this number was told this, or nothing where it is none, and has heard just that.
+fn was_told(noted: &Noted<Note>, number: u32, outcome: Option<Outcome>) -> bool {
+    let (note, told) = match noted {
+        Noted::Fired(note) => (note, true),
+        Noted::Unfired(note) => (note, false),
+    };
+    note.number == number && note.outcome == outcome && told == outcome.is_some()
 }
