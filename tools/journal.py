@@ -24,6 +24,11 @@ def text_of(data):
     return data.decode("utf-8", errors="backslashreplace")
 
 
+def printable(text):
+    """Text with what a terminal might act on written as \\xNN."""
+    return "".join(it if it.isprintable() else f"\\x{ord(it):02x}" for it in text)
+
+
 # ---- The parts of a line. Each has a pattern with one group, and what is made of the group's text. An empty list
 # is left out with the space before it, so that the pattern of a list begins with that space.
 
@@ -617,7 +622,7 @@ class LogReader:
         if is_lookup or self.is_cut():
             self.log.rest = "\n".join(rest)
             return
-        raise LogError(self.at + 1, f"this is no entry, result line or end line: {rest[0][:200]}")
+        raise LogError(self.at + 1, f"this is no entry, result line or end line: {printable(rest[0][:200])}")
 
 
 def read_log(data):
@@ -625,12 +630,57 @@ def read_log(data):
     return LogReader(text_of(data) if isinstance(data, bytes) else data).read()
 
 
+# a log is read in pieces: what isn't one need not be read to its end, which it may not have
+PIECE, LONGEST_LOG = 1 << 20, 1 << 30
+# how much of a first line is shown that is none
+SHOWN = 48
+OBJECT = b"\x7fELF"
+
+
+def refuse_piece(piece, line):
+    """What no log has. An entry's name may have any bytes but a zero."""
+    if b"\0" in piece:
+        raise LogError(line + piece[: piece.index(b"\0")].count(b"\n"), "this is no log of orc: it has a zero byte")
+
+
+def read_pieces(file):
+    """The bytes of a file, as long as they may be a log."""
+    first = file.read1(PIECE) if hasattr(file, "read1") else file.read(PIECE)
+    while first and b"\n" not in first and len(first) < PIECE:
+        more = file.read(PIECE)
+        if not more:
+            break
+        first += more
+    if first.startswith(OBJECT):
+        raise LogError(1, "this is an object: LOG comes first, and then its files")
+    head = text_of(first.partition(b"\n")[0][:SHOWN])
+    begins_log = BEGINNING.match(head) or (b"\n" not in first and any(it.startswith(head) for it in ("1 s0 ", "c1 l1 ", "end ")))
+    if first and not begins_log:
+        raise LogError(1, f"this is no log of orc, which begins with entry 1 or the end line: {printable(head)}")
+    pieces, size, line, piece = [], 0, 1, first
+    while piece:
+        refuse_piece(piece, line)
+        pieces.append(piece)
+        size, line = size + len(piece), line + piece.count(b"\n")
+        if size > LONGEST_LOG:
+            raise LogError(line, f"this is longer than a log may be: {LONGEST_LOG:,} bytes")
+        piece = file.read(PIECE)
+    return b"".join(pieces)
+
+
 def read_file(name):
     """The log in a file; `-` is standard input."""
     if name == "-":
-        return read_log(sys.stdin.buffer.read())
+        return read_log(read_pieces(sys.stdin.buffer))
     with open(name, "rb") as it:
-        return read_log(it.read())
+        return read_log(read_pieces(it))
+
+
+def refusal(log, error):
+    """What is said of a log that isn't read, in one line."""
+    if isinstance(error, OSError):
+        return f"{error.filename or log}: {error.strerror}"
+    return f"{'standard input' if log == '-' else log}: {error}"
 
 
 # ---- What a session is after each entry, as far as its journal says.
@@ -641,11 +691,24 @@ PHASES = "defined started resolved emitted ready failed replaced removed".split(
 MOST_INSTANCES = 262144
 
 
+@dataclass(frozen=True)
+class Offer:
+    """A name that a unit offers. `is_strong` is neither weak nor common."""
+
+    name: str
+    is_strong: bool = True
+    is_exported: bool = True
+    is_common: bool = False
+    size: int = 0
+    align: int = 1
+
+
 @dataclass
 class Instance:
     number: int
     unit: int
     name: str = None
+    offer: Offer = None
     phase: str = "defined"
     is_present: bool = True
     deps: list = field(default_factory=list)
@@ -680,8 +743,11 @@ class Unit:
     count: int
     defined: int
     phase: str = "defined"
+    # where it was placed, by which entry, and which entry freed that, if one did
     base: int = None
     need: int = None
+    placed: int = None
+    freed: int = None
     why: Why = None
     end: int = None
     removed: int = None
@@ -692,13 +758,42 @@ class Unit:
     def rows(self):
         return range(self.first, self.first + self.count)
 
+    def free(self, entry):
+        if self.base is not None and self.freed is None:
+            self.freed = entry
+
+    def lies_at(self, address, entry):
+        """Whether the address is in its range after an entry."""
+        if self.base is None or not self.base <= address < self.base + self.need:
+            return False
+        return self.placed <= entry and (self.freed is None or entry < self.freed)
+
+
+@dataclass(frozen=True)
+class Gone:
+    """What became of a tracker: `removed`, or `moved` to another one, and by which entry."""
+
+    how: str
+    entry: int
+    to: int = None
+
 
 class Session:
-    """The units and instances of a session, carried through the entries of its log."""
+    """The units and instances of a session, carried through the entries of its log.
 
-    def __init__(self, log):
-        self.log = log
+    `offers` gives the names that a unit offers, in order, or none where they aren't known. With them instances have names,
+    and one that gives way to a strong definition is `replaced` at once. `is_known` says whether each definition took as many
+    names as the offers tell; where it isn't, they are of other files, and nothing should be called by them."""
+
+    def __init__(self, log, offers=lambda unit: None):
+        self.log, self.offers, self.is_known = log, offers, True
         self.dylibs, self.trackers, self.generators, self.units, self.instances = [], [], [], [], []
+        # of each dylib its link orders, each from an entry on, and its present names as far as they are known
+        self.orders, self.names = {}, {}
+        # of each definition that wasn't taken the unit, what it offers, and the instance that was there
+        self.discarded = []
+        # what became of trackers
+        self.gone = {}
         # the entry that made each query, and the groups that were emitted, each with its entry
         self.queries, self.groups = {}, []
         self.dependents, self.waiters = {}, {}
@@ -806,7 +901,13 @@ class Session:
             self.dylibs.append(event.name)
 
     def on_order(self, event, reply):
-        pass
+        if reply.word == "set":
+            self.orders.setdefault(event.dylib, []).append((self.at, event.items))
+
+    def order_at(self, dylib, entry):
+        """The dylibs in which a dylib's units look names up, each with whether hidden names are seen."""
+        items = next((items for at, items in reversed(self.orders.get(dylib, ())) if at <= entry), [])
+        return [(dylib, True), *((int(it[1 : it.index(":")]), it.endswith(":all")) for it in items)]
 
     def on_tracker(self, event, reply):
         if reply.word == "tracker":
@@ -838,6 +939,25 @@ class Session:
         for number in range(reply.instance, reply.instance + reply.number):
             self.instances.append(Instance(number, reply.unit))
             self.set_phase(self.instances[-1], "defined")
+        offers = self.offers(name)
+        if offers is not None:
+            self.take_names(self.units[-1], offers)
+
+    def take_names(self, unit, offers):
+        """Names the instances of a unit: a weak or common definition of a name that is there isn't taken."""
+        present = self.names.setdefault(unit.dylib, {})
+        there = {it.name: present[it.name] for it in offers if it.name in present and self.instances[present[it.name]].is_present}
+        taken = [it for it in offers if it.is_strong or it.name not in there]
+        if len(taken) != unit.count:
+            self.is_known = False
+            return
+        self.discarded += [(unit, it, there[it.name]) for it in offers if not it.is_strong and it.name in there]
+        for number, offer in zip(unit.rows(), taken):
+            if offer.name in there:
+                self.set_phase(self.instances[there[offer.name]], "replaced")
+                self.instances[there[offer.name]].is_present = False
+            self.instances[number].name, self.instances[number].offer = offer.name, offer
+            present[offer.name] = number
 
     def name(self, number, name):
         row = self.instance(number)
@@ -878,7 +998,7 @@ class Session:
         if reply.word in ("placed", "noroom"):
             unit = self.held(event.unit)
             if reply.word == "placed":
-                unit.base, unit.need = reply.number, event.need
+                unit.base, unit.need, unit.placed = reply.number, event.need, self.at
 
     def on_resolve(self, event, reply):
         if reply.word == "resolved":
@@ -922,11 +1042,14 @@ class Session:
         if reply.word == "failed":
             unit = self.held(event.unit, lets_go=True)
             self.close(unit, "failed")
-            unit.why, unit.base = event.why, None
+            unit.why = event.why
+            unit.free(self.at)
             self.lose([number for number in unit.rows() if self.instances[number].is_present])
 
     def on_move(self, event, reply):
         if reply.word == "moved":
+            if event.tracker != event.to:
+                self.gone[event.tracker] = Gone("moved", self.at, event.to)
             for unit in self.units:
                 unit.tracker = event.to if unit.tracker == event.tracker else unit.tracker
             for generator in self.generators:
@@ -935,6 +1058,7 @@ class Session:
     def on_remove(self, event, reply):
         if reply.word != "removed":
             return
+        self.gone[event.tracker] = Gone("removed", self.at)
         units = [unit for unit in self.units if unit.tracker == event.tracker and unit.removed is None]
         rows = [self.instances[number] for unit in units for number in unit.rows() if self.instances[number].is_present]
         self.lose([row.number for row in rows if row.phase != "ready"])
@@ -946,7 +1070,8 @@ class Session:
             self.remove_unit(unit)
 
     def remove_unit(self, unit):
-        unit.removed, unit.base = self.at, None
+        unit.removed = self.at
+        unit.free(self.at)
         if unit.spans and unit.spans[-1].is_open:
             unit.spans[-1].last, unit.spans[-1].is_open = self.at, False
         if unit.end is None:

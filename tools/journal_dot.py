@@ -3,13 +3,13 @@
 
     tools/journal_dot.py LOG [--at ENTRY] | dot -Tsvg -o graph.svg
 
-LOG is what `orc` wrote on standard error (`-` is standard input). The graph is that after entry ENTRY, or after
+LOG is what `orc run` wrote on standard error, or `orc session` on standard output (`-` is standard input). The graph is that after entry ENTRY, or after
 the last: a box for each unit, in it an ellipse for each instance, coloured by its phase, and an arrow to each
 instance that it depends on. An instance has its symbol's name where the log tells it."""
 import argparse
 import sys
 
-from journal import LogError, Session, read_file
+from journal import LogError, Session, read_file, refusal
 
 COLOURS = {
     "defined": "#e6e8eb", "started": "#f5dfa6", "resolved": "#a9cdf0", "emitted": "#cbbcec", "ready": "#a3d6ae",
@@ -58,7 +58,7 @@ def main():
             parser.error(f"the log has entries 1 to {len(log.entries)}" if log.entries else "the log has no entries")
         print("\n".join(graph(Session(log), arguments.at or len(log.entries))))
     except (LogError, OSError) as error:
-        sys.exit(f"{arguments.log}: {error}")
+        sys.exit(refusal(arguments.log, error))
 
 
 if __name__ == "__main__":

@@ -1,13 +1,14 @@
 #!/usr/bin/env python3
 """Makes one page of a log, on which the link can be looked at.
 
-    tools/journal_page.py LOG [FILE ..] [-o PAGE.html]
+    tools/journal_page.py LOG [FILE ..] [--script SCRIPT] -o PAGE.html
 
-LOG is what `orc` wrote on standard error (`-` is standard input), and the page is PAGE.html, or standard output. It
-needs nothing beside it. It has a lane for each seat with its entries, a bar for each unit from its first job to its
+LOG is what `orc run` wrote on standard error, or `orc session` on standard output (`-` is standard input), and the page is
+PAGE.html, or standard output without -o. PAGE.html#15 opens at entry 15. It needs nothing beside it. It has a lane for each seat with its entries, a bar for each unit from its first job to its
 end, how far the instances have come over time, and the graph of instances at the entry that a slider chooses. FILE ..
-are the files of the command, in order: with them units and instances have the names of files and symbols, where the
-log alone tells few. Of a log too long to be drawn at once, the page draws the part around the chosen entry."""
+are the files of the command in order, of a session those of its script in the order of their first mention, which
+--script SCRIPT tells too: with them units and instances have the names of files and symbols, where the log alone tells
+few. Of a log too long to be drawn at once, the page draws the part around the chosen entry."""
 import argparse
 import html
 import json
@@ -15,10 +16,11 @@ import pathlib
 import re
 import sys
 
-from explain import Explanation
-from journal import PHASES, REFUSALS, LogError, read_file
+from explain import explanation_of, inputs
+from journal import PHASES, REFUSALS, LogError, refusal
 from journal_dot import COLOURS
-from object_names import object_of, objects_of
+from object_names import object_of
+from result_lines import Results
 
 TEMPLATE = pathlib.Path(__file__).resolve().parent / "journal_page.html"
 # more than this isn't drawn at once, but a unit with its neighbours
@@ -91,6 +93,7 @@ def unit_data(explanation, unit):
         "defined": unit.defined,
         "base": None if unit.base is None else f"{unit.base:x}",
         "need": unit.need,
+        "freed": unit.freed,
         "why": why,
     }
 
@@ -104,21 +107,25 @@ def data_of(explanation):
         "units": [unit_data(explanation, it) for it in session.units],
         "instances": [[it.unit, it.name, [[at, PHASES.index(phase)] for at, phase in it.changes]] for it in session.instances],
         "groups": session.groups,
+        "told": {it.number: f"Refused: {Results(explanation).refusal(it)}." for it in log.entries if it.reply.word == "gone"},
         "phases": [[phase, COLOURS[phase]] for phase in PHASES],
         "columns": columns(session) if small else None,
     }
 
 
-def notes(log):
-    """What is to be said of the log itself."""
+def notes(explanation):
+    """What is to be said of the log itself, and of definitions that other linkers take otherwise."""
+    log = explanation.log
     if log.rest:
         yield f"The log is cut off in the middle of a line. What stands there: {log.rest[:400]}"
     elif log.rest == "" and log.end:
         yield "No line break ends the log: its last line may be cut off."
     if not log.end and not log.rest and not log.results:
-        yield "The log has no end line: writing failed before it, or memory ran out."
+        yield explanation.words()
     if not log.entries:
         yield "The log has no journal: no session was begun, or nothing of it was written."
+    yield from (f"{it[0].upper()}{it[1:]}" for it in explanation.refused_setup())
+    yield from explanation.warnings()
 
 
 def counted(count, word):
@@ -141,17 +148,28 @@ def paragraphs(kind, lines):
     return "\n".join(f'<p class="{kind}">{html.escape(line)}</p>' for line in lines)
 
 
+def results(explanation):
+    """Each result line, with what it says in words."""
+    rows = Results(explanation).told()
+    if not rows:
+        return ""
+    lines = "\n".join(
+        f'<li><code>{html.escape(it.result.text)}</code><span{"" if it.is_good else " class=bad"}>{html.escape(it.text.split(": ", 1)[1])}</span></li>'
+        for it in rows[1:]
+    )
+    return f'<section><h2>Results <small>{html.escape(rows[0].text)}</small></h2><ul class="results">{lines}</ul></section>'
+
+
 def page(name, explanation, text):
     log = explanation.log
-    results = "\n".join(it.text for it in log.results)
     parts = {
         "TITLE": html.escape(name),
         "END": html.escape(log.end.text) if log.end else "results of a session" if log.results else "no end line",
         "WORDS": html.escape(explanation.words()) if log.end else "",
         "KIND": "good" if (log.end and log.end.word in ("exited", "done")) or (log.results and not log.end) else "bad",
-        "NOTES": paragraphs("note", notes(log)),
+        "NOTES": paragraphs("note", notes(explanation)),
         "SUMMARY": "".join(f"<li>{html.escape(it)}</li>" for it in summary(explanation)) if log.entries else "",
-        "RESULTS": f"<section><h2>Results</h2><pre>{html.escape(results)}</pre></section>" if results else "",
+        "RESULTS": results(explanation),
         "TEXT": html.escape(text),
         "HIDDEN": "" if log.entries else "hidden",
         "DATA": json.dumps(data_of(explanation), separators=(",", ":")).replace("<", "\\u003c"),
@@ -168,20 +186,19 @@ def log_text(log):
 
 def main():
     parser = argparse.ArgumentParser(description=__doc__, formatter_class=argparse.RawDescriptionHelpFormatter)
-    parser.add_argument("log", metavar="LOG")
-    parser.add_argument("files", nargs="*", metavar="FILE")
+    inputs(parser)
     parser.add_argument("-o", dest="page", metavar="PAGE.html")
     arguments = parser.parse_args()
     try:
-        log = read_file(arguments.log)
+        explanation = explanation_of(arguments)
         name = "standard input" if arguments.log == "-" else pathlib.Path(arguments.log).name
-        made = page(name, Explanation(log, objects_of(arguments.files)), log_text(log)).encode("utf-8", errors="backslashreplace")
+        made = page(name, explanation, log_text(explanation.log)).encode("utf-8", errors="backslashreplace")
         if arguments.page:
             pathlib.Path(arguments.page).write_bytes(made)
         else:
             sys.stdout.buffer.write(made)
     except (LogError, OSError) as error:
-        sys.exit(f"{arguments.log}: {error}")
+        sys.exit(refusal(arguments.log, error))
 
 
 if __name__ == "__main__":

@@ -4,10 +4,14 @@ An `ObjectFile` is made of any file, also of one that is missing or damaged: wha
 number. It stands on `elf_checks` and `graph_checks`, and nothing of it is the linker's code.
 """
 import functools
+import os
+import re
+import stat
+from collections import namedtuple
 
 import elf_checks
 import graph_checks
-from journal import text_of
+from journal import Offer, Session, text_of
 
 TYPES = {
     0: "NONE", 1: "32", 2: "64", 3: "RELATIVE", 4: "COPY", 5: "JUMP_SLOT", 6: "TLS_DTPMOD32", 7: "TLS_DTPMOD64", 8: "TLS_DTPREL32",
@@ -21,6 +25,15 @@ TYPES = {
 COMMON = 0xFFF2
 UNDEFINED = 0
 NONE, RELAX = 0, 51
+CALLS, GOT = (18, 19, 59), 20
+ATTRIBUTES = 0x70000003
+# what is read of a file: one byte more than an object may have
+MOST_BYTES = (16 << 20) + 1
+# the extensions that code may have been compiled for and be run
+RUN = {"i", "m", "zmmul"}
+FILE_ATTRIBUTES, ARCHITECTURE = 1, 5
+
+Wanted = namedtuple("Wanted", "name is_weak")
 
 
 def type_name(number):
@@ -34,11 +47,14 @@ def named(what, number, name):
 class ObjectFile:
     def __init__(self, name):
         self.name = name
+        self.data, self.length = b"", 0
         try:
-            with open(name, "rb") as it:
-                self.data = it.read()
-        except OSError:
-            self.data = b""
+            # (what isn't a plain file may have no end)
+            if stat.S_ISREG(os.stat(name).st_mode):
+                with open(name, "rb") as it:
+                    self.data, self.length = it.read(MOST_BYTES), os.fstat(it.fileno()).st_size
+        except (OSError, ValueError):
+            pass
 
     # -- tables, as far as they lie in the file
 
@@ -60,6 +76,11 @@ class ObjectFile:
             return []
         end = min(table.offset + table.size, len(self.data))
         return [elf_checks.symbol_entry(self.data, at) for at in range(table.offset, end - 23, 24)]
+
+    @functools.cached_property
+    def strings(self):
+        """The section with the names of symbols."""
+        return next((it.link for it in self.headers if it.type == 2), len(self.headers))
 
     def string(self, section, offset):
         """A name in a string table; empty where it isn't there."""
@@ -90,8 +111,7 @@ class ObjectFile:
         if j >= len(self.symbols):
             return ""
         entry = self.symbols[j]
-        link = next(it.link for it in self.headers if it.type == 2)
-        return self.string(link, entry.name) or (self.section_name(entry.shndx) if entry.info & 15 == 3 else "")
+        return self.string(self.strings, entry.name) or (self.section_name(entry.shndx) if entry.info & 15 == 3 else "")
 
     def symbol(self, j):
         return named("symbol", j, self.symbol_name(j))
@@ -163,14 +183,47 @@ class ObjectFile:
             found.append((begin, int(size)))
         return found
 
-    def offers(self):
-        """The names that its unit offers, in the order of symbols; each with whether it is strong."""
+    @functools.cached_property
+    def offered(self):
+        """The numbers of the symbols that its unit offers, in their order."""
         passed = {UNDEFINED, *range(len(self.headers))} - set(self.placed)
-        return [
-            (self.symbol_name(j), it.info >> 4 == 1 and it.shndx != COMMON)
-            for j, it in enumerate(self.symbols)
-            if j and it.info >> 4 and it.shndx not in passed
-        ]
+        return [j for j, it in enumerate(self.symbols) if j and it.info >> 4 and it.shndx not in passed]
+
+    @functools.cached_property
+    def offers(self):
+        """The names that its unit offers, in the order of symbols."""
+        return [self.offer(j) for j in self.offered]
+
+    def offer(self, j):
+        it = self.symbols[j]
+        is_common = it.shndx == COMMON
+        return Offer(self.symbol_name(j), it.info >> 4 == 1 and not is_common, it.other & 3 in (0, 3), is_common, it.size, it.value if is_common else 1)
+
+    @functools.cached_property
+    def edges(self):
+        """The kind and the symbol of each edge."""
+        return [(int(it[2]), int(it[3])) for it in self.graph.get("edge", ())]
+
+    def wanted(self):
+        """What is undefined in it and referred to, in the order of symbols."""
+        referred = {symbol for _, symbol in self.edges}
+        return [Wanted(self.symbol_name(j), it.info >> 4 == 2) for j, it in enumerate(self.symbols) if j in referred and j and it.shndx == UNDEFINED]
+
+    def behind(self, replaced):
+        """What stands behind the blocks: each cell and stub with its offset and size. `replaced` are the names that it offers
+        and that are other units'."""
+        externals = {j for j, it in enumerate(self.symbols) if it.shndx == UNDEFINED} | {j for j in self.offered if self.symbol_name(j) in replaced}
+        stubs = sorted({j for kind, j in self.edges if kind in CALLS and j in externals})
+        cells = sorted({j for kind, j in self.edges if kind == GOT} | set(stubs))
+        at, found = -(-sum(self.offsets[-1] if self.offsets else (0, 0)) // 8) * 8, []
+        for j in cells:
+            found.append((at, 8, f"the cell of {self.symbol_name(j)}"))
+            at += 8
+        at = -(-at // 16) * 16
+        for j in stubs:
+            found.append((at, 16, f"the stub of {self.symbol_name(j)}"))
+            at += 16
+        return found
 
     def symbol_in(self, block, offset):
         """The symbol that a place of a block lies in, and how far behind it; an assembler's own labels aside."""
@@ -184,13 +237,97 @@ class ObjectFile:
                 best = int(place[2]), text_of(name)
         return f"{best[1]}+{offset - best[0]}" if best else None
 
-    def place(self, offset):
-        """What lies at an offset of the unit: a symbol, a section, or what stands after the blocks."""
+    def place(self, offset, replaced=()):
+        """What lies at an offset of the unit: a symbol, a section, a cell, a stub, or padding between these."""
+        if not self.offsets:
+            return None
         for block, (begin, size) in enumerate(self.offsets):
             if begin <= offset < begin + size:
                 return self.symbol_in(block, offset - begin) or self.block(block)
-        is_behind = self.offsets and offset >= sum(self.offsets[-1])
-        return "a cell or stub" if is_behind else None
+        return next((it for begin, size, it in self.behind(replaced) if begin <= offset < begin + size), "padding")
+
+    # -- what it was compiled for
+
+    @functools.cached_property
+    def architecture(self):
+        """The extensions that its attributes say it was compiled for, as they say it; empty where they say nothing."""
+        table = next((it for it in self.headers if it.type == ATTRIBUTES), None)
+        return architecture_of(self.data[table.offset : table.offset + table.size]) if table else ""
+
+
+def leb(data, at):
+    """A number of seven bits a byte, the lowest first, and where it ends."""
+    value = shift = 0
+    while at < len(data):
+        value, shift, at = value | (data[at] & 127) << shift, shift + 7, at + 1
+        if data[at - 1] < 128:
+            break
+    return value, at
+
+
+def architecture_of(data):
+    """The architecture in the attributes of a file, by the RISC-V ELF psABI."""
+    at = 1 if data[:1] == b"A" else len(data)
+    while at + 4 < len(data):
+        end = at + max(4, elf_checks.number(data, at, 4))
+        vendor = elf_checks.text(data, at + 4) or b""
+        inner = at + 5 + len(vendor)
+        while vendor == b"riscv" and inner < min(end, len(data)):
+            tag, rest = leb(data, inner)
+            inner_end = inner + max(1, elf_checks.number(data, rest, 4))
+            rest += 4
+            while tag == FILE_ATTRIBUTES and rest < min(inner_end, len(data)):
+                key, rest = leb(data, rest)
+                if key % 2 == 0:
+                    _, rest = leb(data, rest)
+                    continue
+                words = elf_checks.text(data, rest) or b""
+                if key == ARCHITECTURE:
+                    return text_of(words)
+                rest += len(words) + 1
+            inner = inner_end
+        at = end
+    return ""
+
+
+def extensions(architecture):
+    """The names of the extensions in it, without their versions."""
+    first, *others = re.sub("^rv(32|64|128)", "", architecture).split("_")
+    return {*re.findall(r"([a-z])(?:\d+p\d+)?", re.split("[zsx]", first)[0]), *(re.sub(r"\d+p\d+$", "", it) for it in others if it)}
+
+
+def without_versions(architecture):
+    """An architecture as it is written for a compiler: rv64i2p1_m2p0_zicsr2p0 is rv64im_zicsr."""
+    parts = [re.sub(r"(?<=[a-z])\d+p\d+", "", it) for it in architecture.split("_")]
+    single = [it for it in parts[1:] if len(it) == 1]
+    return "_".join([parts[0] + "".join(single), *(it for it in parts[1:] if len(it) > 1)])
+
+
+# the extensions of the opcodes that RV64IM hasn't, by the manual
+EXTENSIONS = {
+    "a": "A (atomic)", "c": "C (compressed)", "d": "D (floating point)", "f": "F (floating point)", "v": "V (vectors)",
+    "zicsr": "Zicsr (control registers)", "zifencei": "Zifencei (`fence.i`)", "b": "B (bits) or another one",
+}
+
+
+def extension_of(word):
+    """The extension that an instruction word would be of, and none where none is known."""
+    opcode, kind = word & 0x7F, word >> 12 & 7
+    if word & 3 != 3:
+        return "c" if word & 0xFFFF else None
+    if opcode == 0x2F:
+        return "a"
+    if opcode in (0x07, 0x27):
+        return {2: "f", 3: "d"}.get(kind, "v")
+    if opcode in (0x43, 0x47, 0x4B, 0x4F, 0x53):
+        return "d" if word >> 25 & 3 == 1 else "f"
+    if opcode == 0x57:
+        return "v"
+    if opcode == 0x73 and kind not in (0, 4):
+        return "zicsr"
+    if opcode == 0x0F and kind == 1:
+        return "zifencei"
+    return "b" if opcode in (0x13, 0x1B, 0x33, 0x3B) else None
 
 
 def objects_of(names):
@@ -204,18 +341,17 @@ def object_of(objects, unit):
     return objects[number] if number < len(objects) else None
 
 
-def name_instances(session, objects):
-    """Names the instances of a run by the symbols that its objects offer.
+def session_of(log, objects, script=None):
+    """What a log tells, with its instances named by the symbols that the files offer, and by the script's lines.
 
-    A definition of a name that is there isn't taken, unless it is a strong one over one that isn't; a session that
-    defines anything after its first lookup may decide otherwise, so nothing is named where a count differs.
-    """
-    strong = {}
-    for unit in session.units:
-        it = object_of(objects, unit)
-        taken = [row for row in it.offers() if row[0] not in strong or (row[1] and not strong[row[0]])] if it else []
-        if len(taken) != unit.count:
-            return
-        strong.update(taken)
-        for number, (name, _) in zip(unit.rows(), taken):
-            session.instances[number].name = session.instances[number].name or name
+    Where a definition took other names than the files have, they aren't those of the log, and nothing is called by them."""
+
+    def offers(unit):
+        kind, number = unit[0], int(unit[1:])
+        if kind != "o":
+            return script.offers(kind, number) if script else None
+        it = objects[number] if number < len(objects) else None
+        return it.offers if it and it.file else None
+
+    session = Session(log, offers)
+    return session if session.is_known else Session(log)

@@ -7,7 +7,9 @@ What is expected was thought out from the grammar and the rules of a session, an
 import html
 import json
 import pathlib
+import os
 import re
+import struct
 import subprocess
 import sys
 import tempfile
@@ -18,7 +20,8 @@ from explain import Explanation
 from journal import LogError, Session, read_entry, read_log
 from journal_dot import graph
 from journal_page import columns, log_text, page
-from object_names import objects_of
+from object_names import extensions, objects_of, without_versions
+from script_text import Script
 
 TOOLS = pathlib.Path(__file__).resolve().parent
 PARITY = [str(TOOLS.parent / "examples" / "parity" / name) for name in ("even.o", "odd.o")]
@@ -215,6 +218,98 @@ end dep failed i1
 """
 
 
+# A script of two clients, and what it came to: f of q.o is gone before the second run, and h is nowhere.
+SCRIPT = b"""# two objects
+dylib main
+tracker main ta
+tracker main tb
+object main ta p.o
+object main tb q.o
+object main gone r.o
+client
+lookup ready main:all main
+run main 100
+remove tb
+run main 100
+
+lookup ready main:exported f
+define main tb q.o
+run g 5
+client
+lookup ready main:all h
+"""
+SESSION = """1 s0 dylib main = made d0
+2 s0 tracker d0 = tracker t0
+3 s0 tracker d0 = tracker t1
+4 s0 define d0 t0 o0 = defined u0 i0 1
+5 s0 define d0 t1 o1 = defined u1 i1 1
+6 s0 define d0 t2 o2 = gone t2
+7 s1 ask d0:all ready main = pending q0
+8 s1 take = start u0
+9 s1 place u0 32 16 = placed 10000000
+10 s1 resolve u0 = resolved
+11 s1 link u0 = pending q1
+12 s1 take = start u1
+13 s1 place u1 16 16 = placed 10000020
+14 s1 resolve u1 = resolved
+15 s1 link u1 = done q2
+16 s1 take = finish u0 bound i1
+17 s1 emit u0 i0:i1 = emitted
+18 s1 take = finish u1 bound
+19 s1 emit u1 i1: = emitted
+20 s1 collect q0 = found 19 i0@10000000
+21 s1 image = image
+22 s2 ask d0:all ready h = missing h
+23 s1 remove t1 = removed
+24 s1 image = image
+25 s1 ask d0:exported ready f = missing f
+26 s1 define d0 t1 o1 = gone t1
+c1 l1 found main@10000000
+c1 l2 exited 5 68690a
+c1 l3 removed
+c1 l4 trap 10000020 fetch -
+c1 l5 missing f
+c1 l6 gone t1
+c1 l7 unfound
+c2 l1 missing h
+"""
+
+TEXT, COMMON, UNDEFINED_SECTION = 1, 0xFFF2, 0
+GLOBAL, WEAK = 1, 2
+
+
+def object_bytes(code, symbols, relocations=(), attributes=b""):
+    """A relocatable file of one section of code. A symbol is a name, binding, section, value and size; a relocation an
+    offset, a type and the number of a symbol, from 1. By the tables of the System V gABI."""
+    names = b"\0" + b"".join(it[0].encode() + b"\0" for it in symbols)
+    table, at = bytes(24), 1
+    for name, bind, section, value, size in symbols:
+        table += struct.pack("<IBBHQQ", at, bind << 4, 0, section, value, size)
+        at += len(name) + 1
+    rela = b"".join(struct.pack("<QQq", at, symbol << 32 | kind, 0) for at, kind, symbol in relocations)
+    titles = b"\0.text\0.rela.text\0.symtab\0.strtab\0.shstrtab\0.riscv.attributes\0"
+    # the name, type, flags, link, info, alignment, entry size and bytes of each
+    rows = [
+        (1, 1, 6, 0, 0, 4, 0, code), (7, 4, 0x40, 3, 1, 8, 24, rela), (18, 2, 0, 4, 1, 8, 24, table),
+        (26, 3, 0, 0, 0, 1, 0, names), (34, 3, 0, 0, 0, 1, 0, titles), (44, 0x70000003, 0, 0, 0, 1, 0, attributes),
+    ]
+    body, headers = b"", bytes(64)
+    for name, kind, flags, link, info, align, entry, data in rows:
+        body += bytes(-len(body) % 8)
+        headers += struct.pack("<IIQQQQIIQQ", name, kind, flags, 0, 64 + len(body), len(data), link, info, align, entry)
+        body += data
+    body += bytes(-len(body) % 8)
+    head = struct.pack("<16sHHIQQQIHHHHHH", b"\x7fELF\2\1\1", 1, 243, 1, 0, 0, 64 + len(body), 0, 64, 0, 0, 64, len(rows) + 1, 5)
+    return head + body + headers
+
+
+def attributes_of(architecture):
+    """The attributes of a file that was compiled for this, by the RISC-V ELF psABI: the alignment of the stack, 16, first."""
+    words = b"\4\x10\5" + architecture + b"\0"
+    inner = b"\1" + struct.pack("<I", 5 + len(words)) + words
+    return b"A" + struct.pack("<I", 4 + 6 + len(inner)) + b"riscv\0" + inner
+
+
 def phases(session, entry):
     """The phases of all instances after an entry; none of those that aren't defined yet."""
     return [row.phase_at(entry) for row in session.instances]
@@ -222,6 +317,11 @@ def phases(session, entry):
 
 def explained(text, files=()):
     return Explanation(read_log(text), objects_of(files)).words()
+
+
+def told(text, files=(), script=None):
+    """All lines that are said of a log."""
+    return Explanation(read_log(text), objects_of(files), script and Script(script)).text()
 
 
 def made(text, files=()):
@@ -370,9 +470,9 @@ class Explanations(unittest.TestCase):
             "exited 300": ["exited with 300", "256: 44."],
             "usage no command": ["No command"],
             "usage unknown command": ["none that is built"],
-            "usage bad words": ["don't fit", "UTF-8"],
+            "usage bad words": ["don't fit", "UTF-8", "standard input", "1,024"],
             "usage bad number": ["number", "range"],
-            "read fault": ["Reading the source failed"],
+            "read fault": ["Reading the script failed"],
             "file fault 1": [odd, "missing"],
             "too long 0": [even, "16 MiB"],
             "missing is_odder": ["is_odder", "not local", ".globl"],
@@ -388,8 +488,11 @@ class Explanations(unittest.TestCase):
             "journal full 19": ["after 19"],
             "no memory": ["Memory ran out"],
             "define refused 1": [odd, "strong definition"],
-            "done": ["all that it was asked"],
+            "done": ["run to its end"],
             "script refused 2 unknown": ["Line 2 of the script", "wasn't declared"],
+            "script refused 2 word": ["before the first `client`", "after it"],
+            "script refused 2 taken": ["declared before", "a name twice"],
+            "script refused 2 bytes": ["tab", "Windows"],
             "asm refused 5 label": ["Line 5 of the assembly", "label"],
         }.items():
             said = explained(f"{TWO}end {end}\n", PARITY)
@@ -429,7 +532,9 @@ class Explanations(unittest.TestCase):
 
     def test_causes_of_a_failure(self):
         even, odd = PARITY
-        self.assertEqual(explained(UNDEFINED, [even]), f"The entry, main of {even}, couldn't be made ready: no object defines calls, which {even} needs.")
+        # both are undefined in even.o, and its relocations refer to both
+        self.assertEqual(explained(UNDEFINED, [even]), f"The entry, main of {even}, couldn't be made ready: no object defines calls and is_odd, which {even} needs.")
+        self.assertIn("no object defines calls, which file 0 needs.", explained(UNDEFINED))
         # u0 was given up because u1 was, which had a reason of its own
         text = TWO[: TWO.index("13 s1")] + """13 s1 link u1 = missing nowhere
 14 s1 fail u1 missing nowhere = failed
@@ -463,13 +568,127 @@ end link refused 0 44 19 4294967296
         self.assertEqual(explained(text), "File 1 defines is_even, which file 0 defines too.")
         text = ONE + "3 s0 define d0 t0 o0 = toomany\nend define refused 0\n"
         self.assertIn("262,144", explained(text))
+        text = ONE + "3 s0 define d0 t0 o0 = defined u0 i0 2\n4 s0 define d0 t0 o0 = duplicate is_even i0\nend define refused 0\n"
+        self.assertEqual(explained(text, PARITY[:1]), f"{PARITY[0]} is named twice, and so defines is_even twice.")
 
     def test_a_log_without_its_end(self):
         self.assertIn("no end line", explained(TWO))
-        self.assertIn("no end line", explained(""))
+        self.assertIn("interrupted", explained(""))
         self.assertIn("results of its clients", explained(FAILURE))
         self.assertIn("cut off in the middle of a line: end no m", explained("end no m"))
         self.assertIn("may be cut off", explained("end exited 8"))
+
+
+class Lines(unittest.TestCase):
+    """What the lines of a session came to, and what is said of definitions."""
+
+    def setUp(self):
+        folder = tempfile.TemporaryDirectory()
+        self.addCleanup(folder.cleanup)
+        self.addCleanup(os.chdir, os.getcwd())
+        os.chdir(folder.name)
+
+    def write(self, name, *parts, **others):
+        pathlib.Path(name).write_bytes(object_bytes(*parts, **others))
+
+    def test_each_line_is_told(self):
+        self.write("p.o", bytes(8), [("main", GLOBAL, TEXT, 0, 0), ("f", GLOBAL, UNDEFINED_SECTION, 0, 0)], [(0, 19, 2)])
+        self.write("q.o", bytes(8), [("f", GLOBAL, TEXT, 0, 0)])
+        lines = told(SESSION, script=SCRIPT, files=["p.o", "q.o"])
+        wanted = [
+            ["journal of a session"],
+            ["set-up, entry 6", "wasn't defined", "no tracker t2"],
+            ["3 of 8 came to what they asked for"],
+            ["c1 l1: main of p.o was found at 0x10000000."],
+            ["c1 l2: the run of main exited with 5 and wrote 3 bytes", '"hi\\n"'],
+            ["c1 l3: tracker tb (t1) was removed", "q.o"],
+            ["c1 l4: the run of main", "wrote nothing", "0x10000020 (where f+0 of q.o was, until entry 23 freed that)", "not all mapped"],
+            ["c1 l5: no definition of f is seen in main:exported: f of q.o was removed by entry 23."],
+            ["c1 l6: q.o wasn't defined: tracker tb (t1) was removed by entry 23."],
+            ["c1 l7: nothing was run", "none of its lines before looks g up"],
+            ["c2 l1: no definition of h is seen in main:all."],
+        ]
+        self.assertEqual(len(lines), len(wanted), lines)
+        for line, words in zip(lines, wanted):
+            for word in words:
+                self.assertIn(word, line)
+        # without the script and the files things have their numbers
+        plain = "\n".join(told(SESSION))
+        for word in ("c1 l1: main of file 0 was found", "file 1 wasn't defined: tracker t1 was removed by entry 23", "gave the name an address"):
+            self.assertIn(word, plain)
+
+    def test_causes_of_lines(self):
+        lines = told(FAILURE)
+        self.assertIn("1 of 2 came", lines[1])
+        self.assertIn("c1 l1: the lookup of a? and c failed with instance 0 of file 0: it needs instance 2 of file 1; no dylib in the link order of main defines nowhere, which file 1 needs.", lines)
+        text = REMOVAL + "23 s1 collect q0 = failed 21 i0\n24 s3 ask d0:all ready a = inerror i0\nc1 l1 failed i0\nc3 l1 inerror i0\n"
+        lines = told(text)
+        self.assertIn("it needs instance 2 of file 1, which wasn't ready when entry 21 removed tracker t1", lines[2])
+        self.assertIn("c3 l1: the lookup of a was refused: a of file 0 had failed by entry 21, and is so until tracker t0 is removed", lines[3])
+        text = ONE + "3 s0 define d0 t0 o0 = defined u0 i0 1\n4 s1 ask d0:all resolved f = pending q0\n5 s1 take = start u0\n6 s1 place u0 16 16 = placed 10000000\n"
+        text += "7 s1 resolve u0 = resolved\n8 s1 collect q0 = found 7 i0@10000000\n9 s2 define d0 t0 o1 = duplicate f i0\n"
+        lines = told(text + "c1 l1 found f@10000000 g@none\nc2 l1 duplicate f i0\nc2 l2 full\nc2 l3 skipped\nend journal full 9\n")
+        self.assertIn("after 9", lines[0])
+        for line, words in zip(lines[2:], ["f of file 0 was found at 0x10000000, which can't be run yet, since it isn't ready; g has no definition", "file 0 defines it already", "no place", "stopped"]):
+            self.assertIn(words, line)
+
+    def test_commons(self):
+        """A common variable that is smaller than another file's, and a weak definition over a common one, are told."""
+        self.write("small.o", bytes(8), [("main", GLOBAL, TEXT, 0, 0), ("v", GLOBAL, COMMON, 8, 8)])
+        self.write("large.o", bytes(8), [("f", GLOBAL, TEXT, 0, 0), ("v", GLOBAL, COMMON, 16, 64)])
+        self.write("weak.o", bytes(8), [("f", GLOBAL, TEXT, 0, 0), ("v", WEAK, TEXT, 4, 4)])
+        self.write("strong.o", bytes(8), [("f", GLOBAL, TEXT, 0, 0), ("v", GLOBAL, TEXT, 4, 4)])
+
+        def warnings(first, second, counts):
+            text = ONE + f"3 s0 define d0 t0 o0 = defined u0 i0 {counts[0]}\n4 s0 define d0 t0 o1 = defined u1 i{counts[0]} {counts[1]}\nend exited 0\n"
+            return told(text, [first, second])[1:]
+
+        (line,) = warnings("small.o", "large.o", (2, 1))
+        self.assertIn("the common v of small.o is taken, with 8 bytes aligned to 8, and large.o has one of 64 bytes aligned to 16", line)
+        self.assertEqual(warnings("large.o", "small.o", (2, 1)), [])
+        (line,) = warnings("weak.o", "small.o", (2, 1))
+        self.assertIn("the weak v of weak.o is taken, and not the common one of small.o", line)
+        self.assertEqual(warnings("small.o", "weak.o", (2, 1)), [])
+        # a strong one replaces either, and what isn't of these files isn't told
+        self.assertEqual(warnings("small.o", "strong.o", (2, 2)), [])
+        self.assertEqual(warnings("small.o", "large.o", (2, 2)), [])
+        self.assertIn("the common v of small.o", made(ONE + "3 s0 define d0 t0 o0 = defined u0 i0 2\n4 s0 define d0 t0 o1 = defined u1 i2 1\nend exited 0\n", ["small.o", "large.o"]))
+
+    def test_what_lies_behind_the_blocks(self):
+        """After 8 bytes of code a call of another object has a cell at 8 and a stub at 16, and the unit ends at 32."""
+        self.write("p.o", bytes(8), [("main", GLOBAL, TEXT, 0, 0), ("f", GLOBAL, UNDEFINED_SECTION, 0, 0)], [(0, 19, 2)])
+        self.write("q.o", bytes(4), [("f", GLOBAL, TEXT, 0, 0)])
+        for at, words in {"10000008": "the cell of f of p.o", "10000018": "the stub of f of p.o", "10000024": "padding of q.o", "10000020": "f+0 of q.o"}.items():
+            text = SESSION[: SESSION.index("23 s1")].replace("6 s0 define d0 t2 o2 = gone t2", "6 s0 image = image") + f"end trap {at} break\n"
+            self.assertIn(words, explained(text, ["p.o", "q.o"]))
+
+    def test_what_an_object_was_compiled_for(self):
+        """An atomic instruction in a file whose attributes tell of A; an illegal word in one that is for RV64IM is only that."""
+        text = SESSION[: SESSION.index("22 s2")] + "end trap 10000000 illegal 6b5252f\n"
+        for architecture, words in {
+            b"rv64i2p1_m2p0_a2p1_zicsr2p0": "perhaps one of the extension A (atomic): p.o was compiled for rv64ima_zicsr, as its attributes say",
+            b"rv64i2p1_m2p0_zmmul1p0": "perhaps one of the extension A (atomic).",
+            b"": "perhaps one of the extension A (atomic).",
+        }.items():
+            self.write("p.o", bytes(8), [("main", GLOBAL, TEXT, 0, 0), ("f", GLOBAL, UNDEFINED_SECTION, 0, 0)], [(0, 19, 2)], attributes=attributes_of(architecture))
+            self.assertIn(words, explained(text, ["p.o", "/nowhere"]))
+        self.assertEqual(extensions("rv64imafdc_zicsr2p0"), {"i", "m", "a", "f", "d", "c", "zicsr"})
+        self.assertEqual(without_versions("rv64i2p1_m2p0_a2p1_zicsr2p0_zmmul1p0"), "rv64ima_zicsr_zmmul")
+
+    def test_lines_of_scripts_and_texts(self):
+        """What is odd about the bytes of the line that was refused."""
+        for line, words in {b"dylib main\r": "carriage return", b"dylib\tmain": "a tab at byte 6", b"dylib  main": "two where one stands", b"dylib \x01": "0x01 at byte 7"}.items():
+            said = told("end script refused 2 bytes\n", script=b"# one\n" + line + b"\n")[0]
+            self.assertIn(words, said)
+            self.assertIn("`dylib", said)
+        pathlib.Path("f.s").write_bytes(b"\tnop\nret\r\n\tli a0, 5\n")
+        self.assertIn("carriage return", explained("end asm refused 2 word\n", ["f.s"]))
+        self.assertIn("`\\x09li a0, 5`: its first word", explained("end asm refused 3 word\n", ["f.s"]))
+
+    def test_files_of_a_script(self):
+        script = Script(SCRIPT)
+        self.assertEqual(list(script.files), ["p.o", "q.o", "r.o"])
+        self.assertEqual((script.line(1, 5).words[0], script.line(2, 1).words, script.line(2, 2)), ("lookup", ["lookup", "ready", "main:all", "h"], None))
 
 
 class Pages(unittest.TestCase):
@@ -504,6 +723,14 @@ class Pages(unittest.TestCase):
         entries = [*ONE.split("\n")[:2], *(f"{k + 3} s0 define d0 t0 o{k} = defined u{k} i{k} 1" for k in range(20000))]
         self.assertIsNone(self.data("\n".join(entries) + "\n")["columns"])
 
+    def test_a_refusal_tells_what_became_of_the_tracker(self):
+        text = ONE + "3 s0 tracker d0 = tracker t1\n4 s1 move t0 t1 = moved\n5 s1 define d0 t0 o0 = gone t0\n6 s1 remove t1 = removed\n7 s1 remove t1 = gone t1\n"
+        said = self.data(text + "c1 l1 moved\n")["told"]
+        self.assertIn("all that tracker t0 had was moved to tracker t1 by entry 4", said["5"])
+        self.assertIn("tracker t1 was removed by entry 6", said["7"])
+        text = ONE + "3 s0 dylib other = made d1\n4 s0 define d1 t0 o0 = gone t0\n"
+        self.assertIn("tracker t0 is one of main, and not of other", self.data(text)["told"]["4"])
+
     def test_columns_go_by_distance(self):
         """u0 needs u1, and the lookup itself asked for u2."""
         self.assertEqual(columns(Session(read_log(SETUP))), [[0, 2], [1]])
@@ -533,6 +760,21 @@ class Commands(unittest.TestCase):
             self.assertIn("entries 1 to 19", run(TOOLS / "journal_dot.py", log, "--at", 20, status=2)[1])
             run(TOOLS / "journal_page.py", log, "-o", target)
             self.assertTrue(target.read_text().startswith("<!doctype html>"))
+            script = pathlib.Path(folder) / "script"
+            script.write_bytes(SCRIPT)
+            log.write_text(SESSION)
+            self.assertIn("c1 l2: the run of main exited with 5", run(TOOLS / "explain.py", log, "--script", script)[0])
+            run(TOOLS / "journal_page.py", log, "--script", script, "-o", target)
+            self.assertIn("the run of main exited with 5", target.read_text())
+            for odd, words in {b"\x7fELF\2": "this is an object", b"y\n": "this is no log of orc", b"end done\0": "zero byte"}.items():
+                log.write_bytes(odd)
+                for tool in ("explain.py", "journal_dot.py", "journal_page.py"):
+                    self.assertEqual(run(TOOLS / tool, log, status=1)[1].count("\n"), 1)
+                    self.assertIn(words, run(TOOLS / tool, log, status=1)[1])
+            # (what has no end isn't read to it)
+            self.assertIn("no log of orc", run(TOOLS / "explain.py", "/dev/zero", status=1)[1])
+            log.write_text("end exited 3\n")
+            self.assertEqual(run(TOOLS / "explain.py", log, "/dev/zero")[0], "The program exited with 3.\n")
             log.write_text(ONE + "hello\n")
             for tool in ("explain.py", "journal_dot.py", "journal_page.py"):
                 self.assertIn("line 3: this is no entry", run(TOOLS / tool, log, status=1)[1])
