@@ -26,6 +26,7 @@ import time
 from concurrent.futures import FIRST_COMPLETED, ThreadPoolExecutor, wait
 
 import release
+from tool_words import NO_KIT, integers
 
 ROOT = os.path.dirname(os.path.dirname(os.path.realpath(__file__)))
 PROGRAM = "orc"
@@ -240,7 +241,7 @@ def main(words):
     is_anew = "--anew" in words
     given = [it for it in words if it != "--anew"]
     crates = crates_below(PROGRAM)
-    lanes = int(given[0]) if given else len(os.sched_getaffinity(0))
+    (lanes,) = integers(given, len(os.sched_getaffinity(0)))
     signal.signal(signal.SIGTERM, lambda *_: sys.exit(143))
     # (a second build waits here, and then finds everything made)
     with open(f"{ROOT}/crates.txt", encoding="utf-8") as held:
@@ -248,7 +249,7 @@ def main(words):
         if not is_anew and is_there():
             return 0
         if not shutil.which("rt"):
-            print("orc: rt, the command of the toolchain, is not on the path, and a build needs it", file=sys.stderr)
+            print(f"orc: {NO_KIT}", file=sys.stderr)
             return 1
         print("orc: meanwhile tools/unproved.py runs the same words without a proof, in some two minutes", file=sys.stderr, flush=True)
         try:

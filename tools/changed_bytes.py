@@ -1,13 +1,14 @@
 #!/usr/bin/env python3
 """Changes one byte of `examples/hello.o`, or cuts it, and looks for the answer that the checks name.
 
-    changed_bytes.py DUMP
+    tools/changed_bytes.py DUMP
 """
 import sys
 import tempfile
 from pathlib import Path
 
 from compare_objects import answers
+from tool_words import arguments, built
 
 HELLO = Path(__file__).resolve().parent.parent / "examples" / "hello.o"
 CUTS = {0: "e1 0", 15: "e1 15", 63: "e1 63", 64: "e1 328", 400: "e1 400"}
@@ -29,6 +30,7 @@ CHANGES = [
 
 
 def main():
+    dump = built(*arguments(__doc__, 1, 1))
     hello = HELLO.read_bytes()
     cases = [(hello[:length], f"refused {end}") for length, end in CUTS.items()]
     for at, value, end in CHANGES:
@@ -39,7 +41,7 @@ def main():
         for k, (data, _) in enumerate(cases):
             paths.append(str(Path(place, str(k))))
             Path(paths[-1]).write_bytes(data)
-        got = answers(sys.argv[1], paths)
+        got = answers(dump, paths)
         for path, (_, want) in zip(paths, cases):
             if got[path] != [want]:
                 bad += 1

@@ -1,7 +1,7 @@
 #!/usr/bin/env python3
 """Compares the objects of random lines of assembly with those of `riscv64-linux-gnu-as` and `llvm-mc`.
 
-    compare_asm.py DUMP [COUNT [SEED]]
+    tools/compare_asm.py DUMP [COUNT [SEED]]
 
 DUMP is the built program of the crate asm_dump. Each line stands in a text with labels before and after it.
 Where both assemblers take the text, sections, symbols and relocations must be alike; what one of them
@@ -17,6 +17,7 @@ import tempfile
 from collections import Counter
 
 from elf_checks import answer
+from tool_words import arguments, built, installed, integers
 
 GNU = ["riscv64-linux-gnu-as", "-march=rv64im", "-mabi=lp64", "-mno-relax", "-L"]
 LLVM = ["-triple=riscv64", "-mattr=+m,-relax", "-filetype=obj"]
@@ -250,9 +251,10 @@ def ours(dump, source):
 
 
 def main():
-    dump = sys.argv[1]
-    count = int(sys.argv[2]) if len(sys.argv) > 2 else 2000
-    dice = random.Random(int(sys.argv[3]) if len(sys.argv) > 3 else 1)
+    dump, *numbers = arguments(__doc__, 1, 3)
+    dump, (count, seed) = built(dump), integers(numbers, 2000, 1)
+    installed(GNU[0])
+    dice = random.Random(seed)
     llvm = shutil.which("llvm-mc-14") or shutil.which("llvm-mc")
     others = {"as": GNU} | ({"llvm-mc": [llvm, *LLVM]} if llvm else {})
     counts, wrong = Counter(), 0

@@ -9,14 +9,16 @@ A C file there is a program, and so is a folder: its C files are the objects of 
 tools/library_programs/ is a program of its object and of those members of picolibc's and libgcc's archives that the
 static link takes; it is passed over where these aren't installed. ORC is the program, by default the one at the top of
 the repository. --only takes the programs alone whose names have WORD in them, and --keep keeps the objects. The exit
-status is 1 where something differs."""
-import argparse
+status is 1 where something differs, and 2 where nothing can be compared."""
 import pathlib
 import re
+import shutil
 import subprocess
 import sys
 import tempfile
 import time
+
+import tool_words
 
 TOP = pathlib.Path(__file__).resolve().parent.parent
 FOLDERS = [TOP / "examples", TOP / "tools" / "c_programs"]
@@ -54,10 +56,14 @@ def programs():
 
 def library_programs():
     """The same of the programs that use the library."""
-    if len(ARCHIVES) < 2:
-        print("picolibc or its libgcc isn't installed: the programs of tools/library_programs are passed over")
-        return {}
     return {path.stem: [path] for path in sorted(LIBRARY_PROGRAMS.glob("*.c"))}
+
+
+def is_installed(compiler, *_):
+    """A compiler that isn't there is passed over, and that is said."""
+    if not shutil.which(compiler):
+        print(f"skipped: what {compiler} makes, which isn't installed: it is in {tool_words.where(compiler)}")
+    return shutil.which(compiler) is not None
 
 
 def run(command):
@@ -117,23 +123,32 @@ def compare(orc, folder, sources, stem, command, fuel):
 
 
 def main():
-    parser = argparse.ArgumentParser(description=__doc__, formatter_class=argparse.RawDescriptionHelpFormatter)
-    parser.add_argument("orc", nargs="?", default=TOP / "orc", type=pathlib.Path)
+    parser = tool_words.Parser(__doc__)
+    parser.add_argument("orc", nargs="?", metavar="ORC")
     parser.add_argument("--only", default="", metavar="WORD")
     parser.add_argument("--levels", default=",".join(it[1:] for it in LEVELS), metavar="O0,O2,..")
     parser.add_argument("--keep", type=pathlib.Path, metavar="FOLDER")
     parser.add_argument("--fuel", default=1 << 40, type=int, metavar="N")
     arguments = parser.parse_args()
-    orc, unlike, count = arguments.orc.resolve(), 0, 0
+    unlike, count = 0, 0
+    chosen = {name: sources for name, sources in {**programs(), **library_programs()}.items() if arguments.only in name}
+    if len(ARCHIVES) < 2 and chosen.keys() & library_programs().keys():
+        print("skipped: the programs of tools/library_programs, since picolibc isn't installed: it is in Debian's package picolibc-riscv64-unknown-elf")
+        chosen = {name: sources for name, sources in chosen.items() if name not in library_programs()}
+    if not chosen:
+        tool_words.end(f"--only {arguments.only}: no program has this in its name")
+    orc = tool_words.orc(arguments.orc)
+    tool_words.installed("riscv64-linux-gnu-as", "riscv64-linux-gnu-ld", "qemu-riscv64")
+    compilers = {name: command for name, command in COMPILERS.items() if is_installed(*command)}
+    if not compilers:
+        return 2
     with tempfile.TemporaryDirectory() as made:
         folder = (arguments.keep or pathlib.Path(made)).resolve()
         folder.mkdir(parents=True, exist_ok=True)
         start = TOP / "tools" / "c_programs" / "start.s"
         run(["riscv64-linux-gnu-as", "-march=rv64im", "-mabi=lp64", start, "-o", folder / "start.o"])
-        for program, sources in {**programs(), **library_programs()}.items():
-            if arguments.only not in program:
-                continue
-            for name, compiler in COMPILERS.items():
+        for program, sources in chosen.items():
+            for name, compiler in compilers.items():
                 for level in arguments.levels.split(","):
                     for form, flags in FORMS.items():
                         stem = f"{program}.{name}-{level}-{form}"

@@ -13,6 +13,8 @@ import subprocess
 import sys
 from pathlib import Path
 
+from tool_words import arguments, built, installed, integers
+
 ROOT = Path(__file__).resolve().parent.parent
 LAB = ROOT / "crates/rv_lab/out/rv_lab"
 OPCODES = {
@@ -89,7 +91,9 @@ def ours(words):
 
 
 def main():
-    seed = int(sys.argv[1]) if len(sys.argv) > 1 else 1
+    (seed,) = integers(arguments(__doc__, 0, 1), 1)
+    built(LAB)
+    installed("llvm-mc-14")
     rng = random.Random(seed)
     rows = list(table_words(rng))
     words = list(dict.fromkeys(rows + [rng.getrandbits(32) for _ in range(100_000)]))

@@ -18,6 +18,8 @@ import subprocess
 import sys
 import tempfile
 
+from tool_words import arguments, installed, integer
+
 BASE = 0x1000_0000
 ROOT = pathlib.Path(__file__).resolve().parent.parent
 PREFIX = "riscv64-linux-gnu-"
@@ -280,6 +282,7 @@ def assembled(assembler, work, name, text):
 
 
 def main(seeds):
+    installed("rt", "clang", "ld.lld", PREFIX + "as")
     work = pathlib.Path(tempfile.mkdtemp(prefix="compare_links_"))
     shutil.copytree(ROOT / "crates", work / "crates", ignore=shutil.ignore_patterns("out"))
     lines = (ROOT / "crates.txt").read_text()
@@ -313,4 +316,4 @@ def main(seeds):
 
 
 if __name__ == "__main__":
-    sys.exit(main([int(word) for word in sys.argv[1:]] or [1, 2, 3, 4]))
+    sys.exit(main([integer(word) for word in arguments(__doc__, 0)] or [1, 2, 3, 4]))

@@ -1,7 +1,7 @@
 #!/usr/bin/env python3
 """Compares what the reader says of each object of a folder with the account of `readelf`.
 
-    compare_objects.py DUMP FOLDER
+    tools/compare_objects.py DUMP FOLDER
 
 DUMP is the built program of the crate elf_dump. Names what differs; ends with 1 where something does.
 """
@@ -9,6 +9,8 @@ import re
 import subprocess
 import sys
 from pathlib import Path
+
+from tool_words import arguments, built, installed
 
 KINDS = {
     "PROGBITS": 1,
@@ -129,7 +131,9 @@ def answers(dump, paths):
 
 
 def main():
-    dump, folder = sys.argv[1:]
+    dump, folder = arguments(__doc__, 2, 2)
+    dump = built(dump)
+    installed("riscv64-linux-gnu-readelf")
     paths = sorted(Path(folder).glob("*.o"))
     got = answers(dump, paths)
     bad = 0

@@ -2,16 +2,17 @@
 """Makes random assembler programs whose padding is left to the linker, runs each object with orc, and
 compares the exit status with qemu-riscv64 on the same object, linked by GNU ld.
 
-    compare_padding.py ORC [COUNT [SEED]] [--keep FOLDER]
+    tools/compare_padding.py ORC [COUNT [SEED]] [--keep FOLDER]
 
 A program adds up whether its aligned places are aligned, distances between labels, and what loops and
 calls across padding give. Names the programs that end otherwise; ends with 1 where there are any."""
-import argparse
 import pathlib
 import random
 import subprocess
 import sys
 import tempfile
+
+from tool_words import Parser, built, installed
 
 TOP = pathlib.Path(__file__).resolve().parent.parent
 ASSEMBLE = ["riscv64-linux-gnu-as", "-march=rv64im", "-mabi=lp64"]
@@ -56,12 +57,13 @@ def program(chance):
 
 
 def main():
-    parser = argparse.ArgumentParser(description=__doc__)
-    parser.add_argument("orc", type=pathlib.Path)
+    parser = Parser(__doc__)
+    parser.add_argument("orc", metavar="ORC", type=built)
     parser.add_argument("count", nargs="?", type=int, default=100)
     parser.add_argument("seed", nargs="?", type=int, default=1)
     parser.add_argument("--keep", type=pathlib.Path)
     arguments = parser.parse_args()
+    installed("riscv64-linux-gnu-as", "qemu-riscv64")
     chance, unlike = random.Random(arguments.seed), 0
     with tempfile.TemporaryDirectory() as made:
         folder = (arguments.keep or pathlib.Path(made)).resolve()
@@ -74,7 +76,7 @@ def main():
             subprocess.run([*ASSEMBLE, source, "-o", made], check=True)
             subprocess.run(["riscv64-linux-gnu-ld", "-static", "--no-relax", start, made, "-o", linked], check=True)
             wanted = subprocess.run(["qemu-riscv64", linked]).returncode
-            ours = subprocess.run([arguments.orc.resolve(), "run", made], stdout=subprocess.PIPE, stderr=subprocess.PIPE)
+            ours = subprocess.run([arguments.orc, "run", made], stdout=subprocess.PIPE, stderr=subprocess.PIPE)
             if ours.returncode != wanted or not ours.stderr.decode().splitlines()[-1].startswith("end exited "):
                 unlike += 1
                 print(f"{source}: {ours.returncode} {ours.stderr.decode().splitlines()[-1]!r}, wanted {wanted}")

@@ -16,6 +16,8 @@ import sys
 import tempfile
 from pathlib import Path
 
+from tool_words import arguments, built, installed, integers
+
 ROOT = Path(__file__).resolve().parent.parent
 LAB = ROOT / "crates/rv_lab/out/rv_lab"
 TEXT, DATA, SIZE = 0x1000_0000, 0x1001_0000, 512
@@ -132,8 +134,9 @@ def ours(words, registers, data):
 
 
 def main():
-    seed = int(sys.argv[1]) if len(sys.argv) > 1 else 1
-    programs = int(sys.argv[2]) if len(sys.argv) > 2 else 50
+    seed, programs = integers(arguments(__doc__, 0, 2), 1, 50)
+    built(LAB)
+    installed("riscv64-linux-gnu-as", "qemu-riscv64")
     rng = random.Random(seed)
     names = set()
     with tempfile.TemporaryDirectory() as name:

@@ -1,7 +1,7 @@
 #!/usr/bin/env python3
 """Compares what the reader says of random and damaged scripts with a second reader of the grammar.
 
-    compare_scripts.py DUMP [COUNT [SEED]]
+    tools/compare_scripts.py DUMP [COUNT [SEED]]
 
 DUMP is the built program of the crate script_dump. Names what differs; ends with 1 where something does.
 """
@@ -13,6 +13,7 @@ from collections import Counter
 from pathlib import Path
 
 from script_grammar import answer
+from tool_words import arguments, built, integers
 
 BATCH = 400
 
@@ -203,9 +204,8 @@ def answers(dump, notes, folder, batch):
 
 
 def main():
-    dump = str(Path(sys.argv[1]).resolve())
-    count = int(sys.argv[2]) if len(sys.argv) > 2 else 20000
-    seed = int(sys.argv[3]) if len(sys.argv) > 3 else 1
+    dump, *numbers = arguments(__doc__, 1, 3)
+    dump, (count, seed) = built(dump), integers(numbers, 20000, 1)
     dice = random.Random(seed)
     tally, differing, total = Counter(), 0, 0
     everything = list(scripts(dice, count))

@@ -19,6 +19,7 @@ import sys
 import tempfile
 
 from compare_links import CALLS, DATA_KINDS, DIRECTIVES, GOT_HI20, NO_EDGE, PREFIX, ROOT, Object, aligned, assembled
+from tool_words import arguments, installed, integer
 
 BASE = 0x1000_0000
 ABSOLUTE = 0x1234_5800
@@ -284,6 +285,7 @@ def program(seed, work):
 
 
 def main(seeds):
+    installed("rt", "clang", "ld.lld", PREFIX + "as")
     work = pathlib.Path(tempfile.mkdtemp(prefix="compare_units_"))
     shutil.copytree(ROOT / "crates", work / "crates", ignore=shutil.ignore_patterns("out"))
     shutil.copy(ROOT / "crates.txt", work)
@@ -307,4 +309,4 @@ def main(seeds):
 
 
 if __name__ == "__main__":
-    sys.exit(main([int(word) for word in sys.argv[1:]] or [1, 2, 3, 4, 5, 6]))
+    sys.exit(main([integer(word) for word in arguments(__doc__, 0)] or [1, 2, 3, 4, 5, 6]))

@@ -1,14 +1,13 @@
 #!/usr/bin/env python3
 """Damages copies of objects, and compares the reader's answers with those of `elf_checks`.
 
-    damaged_objects.py DUMP FOLDER [--count COUNT] [--seed SEED] [--jobs JOBS]
+    tools/damaged_objects.py DUMP FOLDER [--count COUNT] [--seed SEED] [--jobs JOBS]
 
 DUMP is the built program of the crate elf_dump. Each copy has one to three changes: a byte, a bit, a field set to
 an extreme, a cut, or two sections' headers exchanged. Names the copies that are answered otherwise, at which the
 program doesn't end as it should, or for which it has more memory than 64 MiB and four times the file; ends with 1
 where there are any.
 """
-import argparse
 import multiprocessing
 import os
 import random
@@ -21,6 +20,7 @@ from pathlib import Path
 
 from compare_objects import lines_of
 from elf_checks import answer, number
+from tool_words import Parser, built
 
 # how many copies one run of the program reads, and the memory that it may have beside four times the file
 BATCH = 250
@@ -128,8 +128,8 @@ def keep(seed, batch, path, data):
 
 
 def main():
-    words = argparse.ArgumentParser()
-    words.add_argument("dump", metavar="DUMP")
+    words = Parser(__doc__)
+    words.add_argument("dump", metavar="DUMP", type=built)
     words.add_argument("folder", metavar="FOLDER")
     words.add_argument("--count", type=int, default=10000)
     words.add_argument("--seed", type=int, default=1)

@@ -2,7 +2,7 @@
 """Damages the relocations and symbols of objects whose padding is left to the linker, and compares the
 graphs with those of `graph_checks`.
 
-    damaged_padding.py DUMP FOLDER [COUNT [SEED]]
+    tools/damaged_padding.py DUMP FOLDER [COUNT [SEED]]
 
 DUMP is the built program of the crate graph_dump, FOLDER has objects with ALIGNs. Each copy has one to
 three changes: a relocation's place, type or addend, a symbol's value, a section's alignment, or two
@@ -19,6 +19,7 @@ from pathlib import Path
 from compare_objects import answers
 from elf_checks import number
 from graph_checks import ALIGN, answer
+from tool_words import arguments, built, integers
 
 ADDENDS = [-1, -(1 << 63), 0, 1, 2, 3, 4, 6, 7, 8, 12, 14, 15, 16, 28, 60, 252, 4092, 4095, 4096, 1 << 40, (1 << 63) - 1]
 KINDS = [0, 1, 2, 16, 17, 18, 19, 23, 24, 26, 33, 36, ALIGN, ALIGN, ALIGN, 51, 53, 60]
@@ -62,8 +63,8 @@ def damage(data, chance):
 
 
 def main():
-    dump, folder, *rest = sys.argv[1:]
-    count, seed = ([int(word) for word in rest] + [10000, 1][len(rest) :])[:2]
+    dump, folder, *numbers = arguments(__doc__, 2, 4)
+    dump, (count, seed) = built(dump), integers(numbers, 10000, 1)
     chance = random.Random(seed)
     sources = [data for data in (path.read_bytes() for path in sorted(Path(folder).glob("*.o"))) if tables(data, 4)]
     kinds, bad = Counter(), 0

@@ -1,7 +1,7 @@
 #!/usr/bin/env python3
 """Measures how the time and the memory of a program grow with its last word, a number.
 
-    doubling.py LEAST MOST PROGRAM [WORDS ..]
+    tools/doubling.py LEAST MOST PROGRAM [WORDS ..]
 
 Runs PROGRAM at LEAST, twice LEAST and so on up to MOST. WORDS are the words before the number; where one has
 commas, each of its parts is taken in turn, with each of the others. Of each size it prints the least processor
@@ -13,6 +13,8 @@ import itertools
 import os
 import subprocess
 import sys
+
+from tool_words import arguments, built, installed, integer
 
 RUNS = 3
 
@@ -60,10 +62,9 @@ def double(least, most, words):
 
 
 def main():
-    if len(sys.argv) < 4:
-        sys.exit(__doc__)
-    least, most, program = int(sys.argv[1]), int(sys.argv[2]), sys.argv[3]
-    choices = [word.split(",") for word in sys.argv[4:]]
+    least, most, program, *choices = arguments(__doc__, 3)
+    least, most, program, choices = integer(least), integer(most), built(program), [word.split(",") for word in choices]
+    installed("/usr/bin/time")
     growths = [double(least, most, [program, *words]) for words in itertools.product(*choices)]
     print(f"at most {max(growths):.2f} times from a size to its double, where the first takes {SHORT * 1000:.0f} ms")
 

@@ -13,6 +13,8 @@ import subprocess
 import sys
 import tempfile
 
+import tool_words
+
 ROOT = os.path.dirname(os.path.dirname(os.path.realpath(__file__)))
 CFLAGS = "-march=rv64im -mabi=lp64 -mcmodel=medany -ffreestanding -O2 -c".split()
 SETUP = """1 s0 dylib main = made d0
@@ -351,7 +353,7 @@ class Edge:
 
 
 def main():
-    orc = os.path.abspath(sys.argv[1] if len(sys.argv) > 1 else f"{ROOT}/orc")
+    orc = tool_words.orc(*tool_words.arguments(__doc__, 0, 1))
     kept = []
     for name in ("hello", "parity/even", "parity/odd"):
         with open(f"{ROOT}/examples/{name}.o", "rb") as it:

@@ -9,7 +9,6 @@ the files of the command in order, of a session those of its script in the order
 address by the symbol that it lies in. Of `orc as` FILE is the text. Where a common variable is taken that is smaller
 than another file's, or a weak definition over a common one, which other linkers don't do, that is said. Nothing else is
 read, and a file that can't be read is called by its name alone."""
-import argparse
 import bisect
 import math
 import sys
@@ -18,6 +17,7 @@ from journal import OBJECT, Fail, LogError, Remove, read_file, refusal
 from object_names import EXTENSIONS, RUN, extension_of, extensions, object_of, objects_of, session_of, type_name, without_versions
 from result_lines import Results, joined
 from script_text import oddity, quoted, read_script
+from tool_words import Parser
 
 MIB = 1 << 20
 STACK = range(0x7FFF0000 - MIB, 0x7FFF0000)
@@ -521,7 +521,7 @@ def explanation_of(arguments):
 
 
 def main():
-    parser = argparse.ArgumentParser(description=__doc__, formatter_class=argparse.RawDescriptionHelpFormatter)
+    parser = Parser(__doc__)
     inputs(parser)
     arguments = parser.parse_args()
     sys.stdout.reconfigure(errors="backslashreplace")

@@ -16,11 +16,14 @@ import glob
 import os
 import re
 import shutil
+import signal
 import subprocess
 import sys
 import tempfile
 import time
 from collections import defaultdict
+
+from tool_words import arguments, installed, integers
 
 ROOT = os.path.dirname(os.path.dirname(os.path.realpath(__file__)))
 TICKS = os.sysconf("SC_CLK_TCK")
@@ -92,9 +95,11 @@ def bodies():
 
 
 def main():
-    most = int(sys.argv[1]) if len(sys.argv) > 1 else len(os.sched_getaffinity(0))
+    (most,) = integers(arguments(__doc__, 0, 1), len(os.sched_getaffinity(0)))
+    installed("rt")
+    signal.signal(signal.SIGTERM, lambda *_: sys.exit(143))
     processors = sorted(os.sched_getaffinity(0))[:most]
-    room = tempfile.mkdtemp(prefix="orc-gate-")
+    room, gate = tempfile.mkdtemp(prefix="orc-gate-"), None
     try:
         subprocess.run(["git", "clone", "--quiet", ROOT, f"{room}/orc"], check=True)
         begun, checks = time.monotonic(), {}
@@ -118,6 +123,9 @@ def main():
         print(f"{said[-1] if said else 'the gate said nothing'}; {(time.monotonic() - begun) / 60:.0f} minutes on {len(processors)} processors")
         return gate.returncode
     finally:
+        if gate and gate.poll() is None:
+            os.killpg(gate.pid, signal.SIGTERM)
+            gate.wait()
         shutil.rmtree(room, ignore_errors=True)
 
 

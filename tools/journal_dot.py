@@ -6,10 +6,10 @@
 LOG is what `orc run` wrote on standard error, or `orc session` on standard output (`-` is standard input). The graph is that after entry ENTRY, or after
 the last: a box for each unit, in it an ellipse for each instance, coloured by its phase, and an arrow to each
 instance that it depends on. An instance has its symbol's name where the log tells it."""
-import argparse
 import sys
 
 from journal import LogError, Session, read_file, refusal
+from tool_words import Parser
 
 COLOURS = {
     "defined": "#e6e8eb", "started": "#f5dfa6", "resolved": "#a9cdf0", "emitted": "#cbbcec", "ready": "#a3d6ae",
@@ -47,7 +47,7 @@ def graph(session, at):
 
 
 def main():
-    parser = argparse.ArgumentParser(description=__doc__, formatter_class=argparse.RawDescriptionHelpFormatter)
+    parser = Parser(__doc__)
     parser.add_argument("log", metavar="LOG")
     parser.add_argument("--at", type=int, metavar="ENTRY")
     arguments = parser.parse_args()

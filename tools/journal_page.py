@@ -9,7 +9,6 @@ end, how far the instances have come over time, and the graph of instances at th
 are the files of the command in order, of a session those of its script in the order of their first mention, which
 --script SCRIPT tells too: with them units and instances have the names of files and symbols, where the log alone tells
 few. Of a log too long to be drawn at once, the page draws the part around the chosen entry."""
-import argparse
 import html
 import json
 import pathlib
@@ -21,6 +20,7 @@ from journal import PHASES, REFUSALS, LogError, refusal
 from journal_dot import COLOURS
 from object_names import object_of
 from result_lines import Results
+from tool_words import Parser
 
 TEMPLATE = pathlib.Path(__file__).resolve().parent / "journal_page.html"
 # more than this isn't drawn at once, but a unit with its neighbours
@@ -185,7 +185,7 @@ def log_text(log):
 
 
 def main():
-    parser = argparse.ArgumentParser(description=__doc__, formatter_class=argparse.RawDescriptionHelpFormatter)
+    parser = Parser(__doc__)
     inputs(parser)
     parser.add_argument("-o", dest="page", metavar="PAGE.html")
     arguments = parser.parse_args()

@@ -1,7 +1,7 @@
 #!/usr/bin/env python3
 """Writes large objects and measures how long the reader takes for each.
 
-    large_objects.py DUMP [ORC]
+    tools/large_objects.py DUMP [ORC]
 
 Each has 16 MiB or less: many symbols and relocations, many sections, names and ranges that are made to cost
 much, and long names that many sections or symbols share, these beside GNU readelf where it is installed. With ORC,
@@ -18,6 +18,8 @@ import subprocess
 import sys
 import tempfile
 from pathlib import Path
+
+from tool_words import arguments, built
 
 MIB = 1 << 20
 
@@ -268,7 +270,8 @@ def measure_runs(orc, fine):
 
 
 def main():
-    dump = sys.argv[1]
+    dump, *orc = arguments(__doc__, 1, 2)
+    dump, orc = dump if dump == "-" else built(dump), [built(it) for it in orc]
     fine, bad = many_relocations()
     if dump != "-":
         measure(dump, "an empty file", b"")
@@ -280,8 +283,8 @@ def main():
         measure(dump, "names without end", no_zero_byte())
         measure_shared(dump, "sections that share a name", shared_section_name())
         measure_shared(dump, "symbols that share a name", shared_symbol_name())
-    if len(sys.argv) > 2:
-        measure_runs(Path(sys.argv[2]).resolve(), fine)
+    for it in orc:
+        measure_runs(Path(it), fine)
 
 
 if __name__ == "__main__":

@@ -1,9 +1,11 @@
 #!/usr/bin/env python3
 """Writes a source of so many lines of assembly, with labels, branches, data and relocations.
 
-    large_source.py FILE LINES
+    tools/large_source.py FILE LINES
 """
 import sys
+
+from tool_words import arguments, integer
 
 FUNCTION = """.globl f{n}
 f{n}: addi sp, sp, -16
@@ -20,7 +22,8 @@ DATA = ".data\n.dword f{n}\n.text\n"
 
 
 def main():
-    path, lines = sys.argv[1], int(sys.argv[2])
+    path, lines = arguments(__doc__, 2, 2)
+    lines = integer(lines)
     with open(path, "w", encoding="utf-8") as file:
         written = n = 0
         while written + 13 <= lines:

@@ -1,7 +1,11 @@
 #!/bin/sh
 # Makes objects with public tools, one a file, in the folder that is named.
 set -eu
-out=$1
+out=${1-}
+[ -n "$out" ] || { echo "usage: tools/make_objects.sh FOLDER" >&2; exit 2; }
+for command in riscv64-linux-gnu-as riscv64-linux-gnu-gcc clang; do
+    command -v $command >/dev/null || { echo "$command isn't installed: it is in Debian's packages binutils-riscv64-linux-gnu, gcc-riscv64-linux-gnu, clang" >&2; exit 2; }
+done
 here=$(cd "$(dirname "$0")" && pwd)
 mkdir -p "$out"
 as="riscv64-linux-gnu-as -march=rv64im -mabi=lp64 -mno-relax"

@@ -20,7 +20,6 @@ the same files, with one thread, and qemu-riscv64 runs what it made. Times are t
 processor and wall seconds, and how often that of the fewest objects goes into that of the most is said at the end of a
 row. Output and exit status are compared with what the programs are made to answer; the exit status is 1 where one
 differs. What isn't installed is passed over."""
-import argparse
 import os
 import pathlib
 import random
@@ -30,6 +29,8 @@ import subprocess
 import sys
 import tempfile
 import time
+
+from tool_words import Parser, built
 
 FUNCTIONS, OBJECT_BYTES, REACHED = 50, 30_000, 3
 WORKERS = (0, 1, 4, 16)
@@ -337,8 +338,8 @@ def try_many(table, orc, folder, runs):
 
 
 def main():
-    parser = argparse.ArgumentParser(description=__doc__, formatter_class=argparse.RawDescriptionHelpFormatter)
-    parser.add_argument("orc", type=pathlib.Path)
+    parser = Parser(__doc__)
+    parser.add_argument("orc", metavar="ORC", type=lambda it: pathlib.Path(built(it)))
     parser.add_argument("--sizes", default="100,1000", metavar="N,..")
     parser.add_argument("--only", choices=[*SHAPES, "many"])
     parser.add_argument("--runs", default=3, type=int, metavar="N")

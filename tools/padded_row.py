@@ -1,7 +1,7 @@
 #!/usr/bin/env python3
 """Runs an object whose padding is left to the linker, and looks at its journal and its end.
 
-    padded_row.py ORC
+    tools/padded_row.py ORC
 
 The object has 28 bytes of text: two instructions, ALIGN with 12 bytes of padding at 8, a jump at 20 and the
 return that it leads to. Four bytes of padding are deleted, so that six instructions are done. The same
@@ -11,6 +11,8 @@ import struct
 import subprocess
 import sys
 import tempfile
+
+from tool_words import arguments, built
 
 TOP = pathlib.Path(__file__).resolve().parent.parent
 OBJECT = TOP / "crates" / "graph_dump" / "data" / "padded.o"
@@ -32,7 +34,7 @@ JOURNAL = """\
 
 
 def main():
-    orc, unlike = pathlib.Path(sys.argv[1]).resolve(), 0
+    orc, unlike = built(*arguments(__doc__, 1, 1)), 0
     with tempfile.TemporaryDirectory() as folder:
         path = pathlib.Path(folder, "padded.o")
         for align in (16, 8):

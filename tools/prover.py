@@ -10,6 +10,8 @@ import subprocess
 import time
 from pathlib import Path
 
+from tool_words import NO_KIT
+
 TOP = Path(__file__).resolve().parent.parent
 # What a check reads of a crate.
 PARTS = ("src", "specs", "proofs")
@@ -19,8 +21,8 @@ def kit():
     """The folder of the toolchain."""
     try:
         page = subprocess.run(["rt", "doc"], stdout=subprocess.PIPE, text=True, check=True).stdout
-    except (OSError, subprocess.CalledProcessError) as error:
-        raise SystemExit(f"rt, the command of the toolchain, is not on the path ({error})") from None
+    except (OSError, subprocess.CalledProcessError):
+        raise SystemExit(NO_KIT) from None
     return Path(page.strip()).parent
 
 

@@ -1,7 +1,7 @@
 #!/usr/bin/env python3
 """Runs random scripts on threads, and sums up what was found of them.
 
-usage: random_scripts.py LAB [COUNT [FIRST]]
+    tools/random_scripts.py LAB [COUNT [FIRST]]
 
 LAB is the built program of the crate script_lab. It makes the scripts of COUNT numbers (10,000) from FIRST (1)
 on, runs each with 0 to 16 workers, and judges its journal, the ends of its lines and its notifiers. Prints how
@@ -13,6 +13,8 @@ import os
 import subprocess
 import sys
 from concurrent.futures import ThreadPoolExecutor
+
+from tool_words import arguments, built, integers
 
 # how many scripts a call of the program runs
 PART = 100
@@ -81,11 +83,8 @@ def add(sums, line):
 
 
 def main():
-    if not 2 <= len(sys.argv) <= 4:
-        sys.exit(__doc__)
-    lab = sys.argv[1]
-    count = int(sys.argv[2]) if len(sys.argv) > 2 else 10000
-    first = int(sys.argv[3]) if len(sys.argv) > 3 else 1
+    lab, *numbers = arguments(__doc__, 1, 3)
+    lab, (count, first) = built(lab), integers(numbers, 10000, 1)
     parts = [(at, min(PART, first + count - at)) for at in range(first, first + count, PART)]
     sums, said, hung = {}, [], []
     # each script has up to 20 threads, so a few calls beside each other keep the processors busy

@@ -1,7 +1,7 @@
 #!/usr/bin/env python3
 """Plays random lists of calls on sessions, each answer of which is judged by the definitions.
 
-usage: random_sessions.py LAB [COUNT [SEED]]
+    tools/random_sessions.py LAB [COUNT [SEED]]
 
 LAB is the built program of the crate session_lab. It makes COUNT lists (100,000) of the random numbers of
 SEED (1). Prints how often each event got each answer, which answers of the event table never came, and in how
@@ -9,6 +9,8 @@ many lists an answer differed from what the definitions give; the status is 1 wh
 
 import subprocess
 import sys
+
+from tool_words import arguments, built, integers
 
 ANSWERS = {
     "dylib": "NameTaken TooMany Made",
@@ -47,11 +49,9 @@ def pairs():
 
 
 def main():
-    if not 2 <= len(sys.argv) <= 4:
-        sys.exit(__doc__)
-    count = sys.argv[2] if len(sys.argv) > 2 else "100000"
-    seed = sys.argv[3] if len(sys.argv) > 3 else "1"
-    done = subprocess.run([sys.argv[1], seed, count], stdout=subprocess.PIPE, text=True, check=True)
+    lab, *numbers = arguments(__doc__, 1, 3)
+    count, seed = map(str, integers(numbers, 100000, 1))
+    done = subprocess.run([built(lab), seed, count], stdout=subprocess.PIPE, text=True, check=True)
     *lines, last = done.stdout.splitlines()
     came = {}
     for line in lines:

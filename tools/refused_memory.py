@@ -15,6 +15,7 @@ import tempfile
 from collections import Counter
 
 import edge
+import tool_words
 
 ALL = 1 << 62
 SESSION = edge.TWO_CLIENTS + "watch resolved main:all main\n"
@@ -74,7 +75,8 @@ def wants_memory(words, told):
 
 
 def main():
-    orc = os.path.abspath(sys.argv[1] if len(sys.argv) > 1 else f"{edge.ROOT}/orc")
+    orc = tool_words.orc(*tool_words.arguments(__doc__, 0, 1))
+    tool_words.installed("cc")
     wrong = 0
     with tempfile.TemporaryDirectory(prefix="orc-refused-") as folder:
         kept = [open(f"{edge.ROOT}/examples/{name}.o", "rb").read() for name in ("hello", "parity/even", "parity/odd")]

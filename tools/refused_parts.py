@@ -18,6 +18,7 @@ from collections import Counter
 
 import edge
 from refused_memory import ALL, Refusals
+from tool_words import arguments, built, installed, integers
 
 LISTS = ("names_lab", "orders_lab", "trackers_lab", "units_lab", "lookup_lab")
 EMISSIONS = [("random", "up"), ("random", "down"), ("rings", "down"), ("tree", "fail")]
@@ -73,12 +74,13 @@ def refuse_each(refusals, words):
 
 
 def main():
-    seed, count = (sys.argv[1:] + ["1", "2"][len(sys.argv) - 1 :])[:2]
+    seed, count = map(str, integers(arguments(__doc__, 0, 2), 1, 2))
+    installed("cc")
     calls = [(lab, [seed, count]) for lab in LISTS] + [("frontier_lab", [*words, "40"]) for words in EMISSIONS]
     wrong = 0
     with tempfile.TemporaryDirectory(prefix="orc-refused-") as folder:
         for lab, words in calls:
-            refusals = Refusals(f"{edge.ROOT}/crates/{lab}/out/{lab}", folder)
+            refusals = Refusals(built(f"{edge.ROOT}/crates/{lab}/out/{lab}"), folder)
             made, ends = refuse_each(refusals, words)
             wrong += ends["otherwise"]
             print(f"{lab} {' '.join(words)}: {made} requests; {dict(ends)}", flush=True)

@@ -1,7 +1,7 @@
 #!/usr/bin/env python3
 """Measures the processor time of sessions of many units, by the program of the crate ring_lab.
 
-    ring_times.py RINGS [MOST]
+    tools/ring_times.py RINGS [MOST]
 
 Runs RINGS at 1,024 units, 2,048 and so on up to MOST (65,536), up to each of the phases: definitions, lookups
 of heads, removals, lookups of all. Prints the least of three times of each, in milliseconds of one processor,
@@ -10,6 +10,8 @@ and for each size the time of a unit in microseconds.
 import resource
 import subprocess
 import sys
+
+from tool_words import arguments, built, integers
 
 
 def processor_time(words):
@@ -20,15 +22,14 @@ def processor_time(words):
 
 
 def main():
-    if not 2 <= len(sys.argv) <= 3:
-        sys.exit(__doc__)
-    most = int(sys.argv[2]) if len(sys.argv) > 2 else 65536
-    empty = min(processor_time([sys.argv[1], "0"]) for _ in range(3))
+    rings, *numbers = arguments(__doc__, 1, 2)
+    rings, (most,) = built(rings), integers(numbers, 65536)
+    empty = min(processor_time([rings, "0"]) for _ in range(3))
     print(f"no unit: {empty * 1000:.0f} ms")
     print("  units  defined    heads  removed      all   a unit")
     count = 1024
     while count <= most:
-        times = [min(processor_time([sys.argv[1], str(count), str(phase)]) for _ in range(3)) for phase in (1, 2, 3, 4)]
+        times = [min(processor_time([rings, str(count), str(phase)]) for _ in range(3)) for phase in (1, 2, 3, 4)]
         columns = "".join(f"{time * 1000:9.0f}" for time in times)
         print(f"{count:7}{columns}{times[3] / count * 1e6:7.2f} us")
         count *= 2

@@ -12,6 +12,8 @@ import re
 import subprocess
 import sys
 
+from tool_words import arguments, installed
+
 ROOT = os.path.dirname(os.path.dirname(os.path.realpath(__file__)))
 # what `rt try` says of the run, after what the program wrote
 REPORT = re.compile(rb"^(checked: |races: |run=|rt: ).*\n?", re.M)
@@ -23,18 +25,17 @@ def place(number, name):
     return f"elsewhere/{number}/{os.path.basename(plain)}" if plain.startswith(("/", "..")) else plain
 
 
-def main(words):
-    if not words:
-        sys.exit(__doc__)
-    script = sys.stdin.read() if words[0] == "session" else ""
-    named = sorted({it for it in [*words, *script.split()] if os.path.isfile(it)})
+def main(given):
+    installed("rt")
+    script = sys.stdin.read() if given[0] == "session" else ""
+    named = sorted({it for it in [*given, *script.split()] if os.path.isfile(it)})
     inside = {name: place(number, name) for number, name in enumerate(named)}
     given = [it for name, to in inside.items() for it in ("--data", f"{to}={os.path.abspath(name)}")]
     script = re.sub(r"\S+", lambda word: inside.get(word[0], word[0]), script)
     if sys.stderr.isatty():
         print("compiling without a proof", file=sys.stderr, flush=True)
     ran = subprocess.run(
-        ["rt", "try", *given, "--", *[inside.get(word, word) for word in words]],
+        ["rt", "try", *given, "--", *[inside.get(word, word) for word in given]],
         cwd=f"{ROOT}/crates/orc", input=script.encode(), stdout=subprocess.PIPE, stderr=subprocess.PIPE,
     )
     sys.stdout.buffer.write(ran.stdout)
@@ -44,4 +45,4 @@ def main(words):
 
 
 if __name__ == "__main__":
-    sys.exit(main(sys.argv[1:]))
+    sys.exit(main(arguments(__doc__, 1)))

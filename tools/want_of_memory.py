@@ -1,7 +1,7 @@
 #!/usr/bin/env python3
 """Lists the public functions whose answer may be want of memory, and which tests and programs call each.
 
-    want_of_memory.py [CRATE ..]
+    tools/want_of_memory.py [CRATE ..]
 
 A contract lets any such call be answered so, and a body that always answers so is proved too: only a call with
 enough memory shows that it doesn't. Tests are those of the crates whose names end in `_tests` and of the libraries
@@ -12,6 +12,8 @@ each other, and doesn't see which arguments a call has.
 import re
 import sys
 from pathlib import Path
+
+from tool_words import arguments, end
 
 CRATES = Path(__file__).resolve().parent.parent / "crates"
 TYPE = re.compile(r"^pub (?:enum|struct) (\w+)[^{;(]*(\{.*?^\}|\(.*?\);)", re.M | re.S)
@@ -82,6 +84,9 @@ def is_caller(crate, other, name, files):
 
 def main(only):
     files = read_sources()
+    for crate in only:
+        if crate not in files:
+            end(f"{crate}: there is no such crate")
     wanting = wanting_types(files)
     called = {crate: called_in(texts) for crate, texts in files.items()}
     missing = 0
@@ -96,4 +101,4 @@ def main(only):
 
 
 if __name__ == "__main__":
-    sys.exit(main(sys.argv[1:]))
+    sys.exit(main(arguments(__doc__, 0)))
