@@ -51,7 +51,7 @@ def in_file(name, path, known):
             return False
         words = all(re.search(rf"\b{word}\b", text) for word in before)
         return words and last in [*FUNCTION.findall(text), *TYPE.findall(text), path.name, path.parts[-3]]
-    return last in (path.name, path.stem)
+    return last in (path.name, path.stem) or ("labs" in path.parts and last in path.parts)
 
 
 def has_part(name, owner, path):
@@ -72,7 +72,7 @@ def everything(known):
             names |= {path.name, path.stem}
             names |= set(DEFINED.findall(text) if path.suffix == ".antt" else FUNCTION.findall(text) + TYPE.findall(text) + CLAUSE.findall(text))
             names |= set(re.findall(r"^\s+([A-Z]\w*)\b", text, re.M))
-    return names | {path.name for path in (TOP / "tools").iterdir()}
+    return names | {path.name for folder in ("tools", "tools/labs") for path in (TOP / folder).iterdir()}
 
 
 def slug(heading):

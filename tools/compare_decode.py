@@ -2,8 +2,8 @@
 """Compares what rv_lab decodes with what llvm-mc-14 decodes, and what it encodes with the word.
 
 The words are forty of each row of the table in crates/rv_insn/src/table.rt, their other bits drawn
-at random, and 100,000 random words. Needs llvm-mc-14, and crates/rv_lab/out/rv_lab, which
-`rt run -- decode </dev/null` in crates/rv_lab makes.
+at random, and 100,000 random words. Needs llvm-mc-14, and the laboratory rv_lab, which
+tools/lab.py proves and builds.
 
     tools/compare_decode.py [SEED]
 """
@@ -13,10 +13,10 @@ import subprocess
 import sys
 from pathlib import Path
 
-from tool_words import arguments, built, installed, integers
+import lab
+from tool_words import arguments, installed, integers
 
 ROOT = Path(__file__).resolve().parent.parent
-LAB = ROOT / "crates/rv_lab/out/rv_lab"
 OPCODES = {
     "op": 0x33, "op_32": 0x3B, "imm": 0x13, "shift": 0x13, "imm_32": 0x1B, "shift_32": 0x1B,
     "load": 0x03, "store": 0x23, "branch": 0x63, "jump_register": 0x67, "fence": 0x0F,
@@ -76,7 +76,7 @@ def normal(word, name, operands):
 
 def ours(words):
     text = "".join(f"{w:08x}\n" for w in words)
-    out = subprocess.run([LAB, "decode"], input=text, capture_output=True, text=True, check=True).stdout
+    out = subprocess.run([lab.path("rv_lab"), "decode"], input=text, capture_output=True, text=True, check=True).stdout
     answers = {}
     for word, line in zip(words, out.splitlines(), strict=True):
         parts = line.split()
@@ -92,7 +92,6 @@ def ours(words):
 
 def main():
     (seed,) = integers(arguments(__doc__, 0, 1), 1)
-    built(LAB)
     installed("llvm-mc-14")
     rng = random.Random(seed)
     rows = list(table_words(rng))

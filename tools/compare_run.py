@@ -4,8 +4,8 @@ and the data.
 
 Each program has 300 instructions of all the rows: values of any registers, loads and stores at any
 alignment, branches and jumps over one instruction, fences, and registers that start at edges. Needs
-riscv64-linux-gnu-as, -ld and -objcopy, qemu-riscv64, and crates/rv_lab/out/rv_lab, which
-`rt run -- decode </dev/null` in crates/rv_lab makes.
+riscv64-linux-gnu-as, -ld and -objcopy, qemu-riscv64, and the laboratory rv_lab, which
+tools/lab.py proves and builds.
 
     tools/compare_run.py [SEED [PROGRAMS]]
 """
@@ -16,10 +16,10 @@ import sys
 import tempfile
 from pathlib import Path
 
-from tool_words import arguments, built, installed, integers
+import lab
+from tool_words import arguments, installed, integers
 
 ROOT = Path(__file__).resolve().parent.parent
-LAB = ROOT / "crates/rv_lab/out/rv_lab"
 TEXT, DATA, SIZE = 0x1000_0000, 0x1001_0000, 512
 WORD = 2**64
 R = ("add sub sll slt sltu xor srl sra or and mul mulh mulhsu mulhu div divu rem remu "
@@ -129,13 +129,12 @@ def ours(words, registers, data):
     lines = [f"x {r:x} {v:x}" for r, v in enumerate(registers)]
     lines += [f"w {TEXT + 4 * k:x} {w:x}" for k, w in enumerate([*words[:-1], 0x73])]
     lines += [f"w {DATA + k:x} {int.from_bytes(bytes(data[k:k + 4]), 'little'):x}" for k in range(0, SIZE, 4)]
-    out = subprocess.run([LAB, "run"], input="\n".join(lines) + "\n", capture_output=True, text=True, check=True)
+    out = subprocess.run([lab.path("rv_lab"), "run"], input="\n".join(lines) + "\n", capture_output=True, text=True, check=True)
     return [int(n, 16) for n in out.stdout.split()]
 
 
 def main():
     seed, programs = integers(arguments(__doc__, 0, 2), 1, 50)
-    built(LAB)
     installed("riscv64-linux-gnu-as", "qemu-riscv64")
     rng = random.Random(seed)
     names = set()

@@ -15,7 +15,7 @@ import tempfile
 from tool_words import arguments, built
 
 TOP = pathlib.Path(__file__).resolve().parent.parent
-OBJECT = TOP / "crates" / "graph_dump" / "data" / "padded.o"
+OBJECT = TOP / "tools" / "labs" / "graph_dump" / "data" / "padded.o"
 SECTION_ALIGN = 392
 JOURNAL = """\
 1 s0 dylib main = made d0

@@ -3,7 +3,7 @@
 
     tools/refused_parts.py [SEED [COUNT]]
 
-`rt run` in crates/names_lab, orders_lab, trackers_lab, units_lab, lookup_lab and frontier_lab builds them. Needs `cc`,
+They are names_lab, orders_lab, trackers_lab, units_lab, lookup_lab and frontier_lab, which lab.py proves and builds. Needs `cc`,
 which makes a library of refused_memory.c that is loaded before libc. Each makes COUNT lists of calls (2) of SEED (1), or
 emissions of 40 instances, and is called once for each of its requests: with this one refused, and with this one and all
 after it. A call of the part that wants memory and doesn't get it has to leave the part as it was, so that all that comes
@@ -16,9 +16,9 @@ import sys
 import tempfile
 from collections import Counter
 
-import edge
+import lab
 from refused_memory import ALL, Refusals
-from tool_words import arguments, built, installed, integers
+from tool_words import arguments, installed, integers
 
 LISTS = ("names_lab", "orders_lab", "trackers_lab", "units_lab", "lookup_lab")
 EMISSIONS = [("random", "up"), ("random", "down"), ("rings", "down"), ("tree", "fail")]
@@ -76,14 +76,14 @@ def refuse_each(refusals, words):
 def main():
     seed, count = map(str, integers(arguments(__doc__, 0, 2), 1, 2))
     installed("cc")
-    calls = [(lab, [seed, count]) for lab in LISTS] + [("frontier_lab", [*words, "40"]) for words in EMISSIONS]
+    calls = [(name, [seed, count]) for name in LISTS] + [("frontier_lab", [*words, "40"]) for words in EMISSIONS]
     wrong = 0
     with tempfile.TemporaryDirectory(prefix="orc-refused-") as folder:
-        for lab, words in calls:
-            refusals = Refusals(built(f"{edge.ROOT}/crates/{lab}/out/{lab}"), folder)
+        for name, words in calls:
+            refusals = Refusals(str(lab.path(name)), folder)
             made, ends = refuse_each(refusals, words)
             wrong += ends["otherwise"]
-            print(f"{lab} {' '.join(words)}: {made} requests; {dict(ends)}", flush=True)
+            print(f"{name} {' '.join(words)}: {made} requests; {dict(ends)}", flush=True)
     return 1 if wrong else 0
 
 
