@@ -10,13 +10,14 @@
   --beside DIR      takes those of another checkout's gate, where the texts are the same
 
 A wrong body is a file as those of `crates/CRATE/must-fail/`. The prover judges each function by the contracts of
-what it calls, so all bodies of a crate that touch different functions stand in one text, and one check tries them: a
-round. A body whose function calls one that was refused waits for the next round. One that seems to be let through is
-tried once more by itself.
+what it calls, so all bodies of a crate that touch different functions stand in one text, and one check of just these
+functions tries them: a round. A body whose function calls one that was refused waits for the next round. One that seems
+to be let through is tried once more by itself, with the whole crate.
 
-What came of it stands in `tools/wrong_bodies/CRATE/verdicts`, with a sum of what it depends on: the crate's texts, its
-wrong bodies, and the definitions and contracts of all crates below (a body or a comment there changes no refusal). Without
-words a crate whose sum is another fails, as does a body that can't be applied or wasn't refused.
+What came of it stands in `tools/wrong_bodies/CRATE/verdicts`, with a sum of what it depends on: the crate's code and
+definitions, its wrong bodies, and the definitions and contracts of all crates below. Proofs are no part of it, nor are
+bodies below, comments and derives: they make no lie true. Without words a crate whose sum is another fails, as does a
+body that can't be applied or wasn't refused.
 """
 import argparse
 import functools
@@ -27,6 +28,7 @@ import subprocess
 import sys
 import tempfile
 import time
+from dataclasses import dataclass
 from pathlib import Path
 
 from prover import PARTS, TOP, Crates, Prover
@@ -59,7 +61,7 @@ class Body:
         return (texts, None) if self.changes else (None, "it changes nothing")
 
     def functions(self, crate, folder):
-        """The functions that it changes, as the prover names them; none where it changes something else too."""
+        """The functions that it changes; none where it changes something else too."""
         found = set()
         for file, old, _ in self.changes:
             text = (folder / file).read_text()
@@ -67,8 +69,32 @@ class Body:
             if not place:
                 return set()
             parts = [it for it in Path(file).with_suffix("").parts[1:] if it not in ("lib", "main", "mod")]
-            found.add(("::".join([crate, *parts]), *place))
+            found.add(Function(crate, "::".join(parts), *place))
         return found
+
+
+@dataclass(frozen=True)
+class Function:
+    """A function of a crate: its module, the type and the trait of its impl, and its name."""
+
+    crate: str
+    module: str
+    owner: str
+    of: str
+    name: str
+
+    def path(self):
+        """What the prover calls it, or the module that has it, where its impl is of a trait with parameters."""
+        inside = [it for it in [self.module, f"{self.owner}{self.of}", self.name] if it]
+        return self.module if "<" in self.of else "::".join(inside)
+
+    def is_named(self, named):
+        """Whether this name of the prover's is that of the function."""
+        front = "::".join(it for it in [self.crate, self.module] if it) + "::"
+        if not named.startswith(front):
+            return False
+        rest = named[len(front) :]
+        return rest == self.name if not self.owner else bool(re.fullmatch(rf"{self.owner}\w*::{self.name}", rest))
 
 
 def changes(text):
@@ -84,8 +110,11 @@ def changes(text):
             old = None
 
 
+IMPL = re.compile(r"\s*(?:pub )?impl\b(?:<(?:[^<>]|<[^<>]*>)*>)?\s+(?:(?P<of>[\w:]+(?:<.*?>)?) for )?&?(?:'\w+ )?(?P<owner>\w+)")
+
+
 def function_at(text, line):
-    """The type and the name of the function that a line stands in, by the layout that the gate asks for, or None."""
+    """The type, the trait and the name of the function that a line stands in, by the layout that the gate asks for, or None."""
     lines, depth = text.split("\n"), None
     for at in range(line, -1, -1):
         it = lines[at]
@@ -95,35 +124,35 @@ def function_at(text, line):
             if named:
                 name, depth = named[1], indent
                 if indent == 0:
-                    return "", name
+                    return "", "", name
             elif it.startswith("}") and at < line:
                 return None
-        elif indent < depth:
-            owner = re.match(r"\s*(?:pub )?(?:impl\b.*?(?:\bfor )?(\w+)(?:<[^{]*)?\s*(?:where\b.*)?\{?$|trait (\w+)|mod (\w+))", it)
-            if owner and not it.strip().startswith("//"):
-                return owner[1] or owner[2] or "", name
+        elif indent < depth and not it.strip().startswith(("//", "#")):
+            found = IMPL.match(it)
+            if found:
+                return found["owner"], (found["of"] or "").rpartition("::")[2], name
+            found = re.match(r"\s*(?:pub )?trait (\w+)", it)
+            if found:
+                return found[1], "", name
     return None
 
 
-def is_of(function, named):
-    """Whether a name of the prover's is that of a function."""
-    module, owner, name = function
-    rest = named.removeprefix(module + "::")
-    if rest == named:
-        return False
-    return rest == name if not owner else bool(re.fullmatch(rf"{re.escape(owner)}\w*::{re.escape(name)}", rest))
+TESTS = re.compile(r"^#\[cfg\(test\)\]\nmod \w+ \{\n.*?^\}\n", re.M | re.S)
+
+
+def code_of(text):
+    """The lines of a file without tests, comments, attributes and imports."""
+    return [it for it in TESTS.sub("", text).split("\n") if it.strip() and not it.strip().startswith(("//", "#[", "#![", "use ", "mod ", "ghost use "))]
 
 
 def contract_of(text):
-    """The text of a file without bodies of functions, comments and attributes: what a crate above can know of it."""
+    """The text of a file without bodies of functions too: what a crate above can know of it."""
     kept, closing = [], None
-    for line in text.split("\n"):
+    for line in code_of(text):
         indent, it = len(line) - len(line.lstrip()), line.strip()
         if closing is not None:
             if line == closing:
                 closing = None
-            continue
-        if it.startswith(("//", "#[", "#![", "use ", "mod ")) or not it:
             continue
         kept.append(line)
         begins = it == "{" or re.search(r"\bfn \w+.*[^{]\{$", it)
@@ -159,9 +188,11 @@ class Room:
 
     def sum(self):
         """A sum of what the verdicts depend on."""
-        it = hashlib.sha256(repr(self.crates.uses[self.name]).encode())
-        for file in [*self.crates.files(self.name), *(body.path for body in self.bodies)]:
+        it = hashlib.sha256()
+        for file in [*self.crates.files(self.name, ("specs",)), *(body.path for body in self.bodies)]:
             it.update(repr((file.name, file.read_bytes())).encode())
+        for file in self.crates.files(self.name, ("src",)):
+            it.update(repr((file.name, code_of(file.read_text()))).encode())
         for below in self.crates.below(self.name):
             it.update(sum_of_contracts(self.crates, below).encode())
         return it.hexdigest()
@@ -197,12 +228,13 @@ class Room:
             while left:
                 rounds += 1
                 taken, texts = self.round(left)
-                said = self.check(prover, texts, kept)
+                paths = sorted({it.path() for body in taken for it in body.functions(self.name, self.folder)})
+                said = self.check(prover, texts, kept, paths)
                 found = {it.name: self.verdict(it, said) if len(taken) > 1 else self.alone(said) for it in taken}
                 for it in taken:
                     # (what a round doesn't refuse is tried by itself, as is the first where all wait)
                     waits = found[it.name] is None and (it is not taken[0] or any(found.values()))
-                    if not waits and not (found[it.name] or "").startswith(REFUSED) and len(taken) > 1:
+                    if not waits and not (found[it.name] or "").startswith(REFUSED) and (len(taken) > 1 or paths):
                         found[it.name] = self.alone(self.check(prover, it.applied({}, self.folder)[0], kept))
                 verdicts |= {name: verdict for name, verdict in found.items() if verdict}
                 left = [it for it in left if it.name not in verdicts]
@@ -223,24 +255,24 @@ class Room:
                 break
         return taken, texts
 
-    def check(self, prover, texts, kept):
-        """Checks the crate with these texts in place of its own, and gives the status and what was said."""
+    def check(self, prover, texts, kept, paths=()):
+        """Checks the crate with these texts in place of its own, or some of its functions, and gives the status and what was said."""
         with tempfile.TemporaryDirectory(prefix="wrong-bodies-") as room:
             for part in PARTS:
                 if (self.folder / part).is_dir():
                     shutil.copytree(self.folder / part, f"{room}/{part}")
             for file, text in (texts or {}).items():
                 (Path(room) / file).write_text(text)
-            ran = prover.check(self.name, room, kept)
+            ran = prover.check(self.name, room, kept, [word for it in paths for word in ("--only", it)])
             return ran.returncode, ran.stdout
 
     def verdict(self, body, said):
         """What a round's check says of one of its bodies, or None where it has to wait."""
         status, text = said
-        if status not in (0, 1) or UNREAD.search(text) or not text.rstrip().split("\n")[-1].startswith("logic="):
+        if status not in (0, 1) or UNREAD.search(text) or not text.rstrip().split("\n")[-1].startswith(("logic=", "only=")):
             return BAD
         functions = body.functions(self.name, self.folder)
-        rows = [(named, how) for named, how in JUDGED.findall(text) if any(is_of(it, named) for it in functions)]
+        rows = [(named, how) for named, how in JUDGED.findall(text) if any(it.is_named(named) for it in functions)]
         own = [named for named, how in rows if how != "proved" and not WAITS.match(how)]
         if own:
             return f"{REFUSED} by {own[0]}"
@@ -252,7 +284,7 @@ class Room:
         status, text = said
         last = text.rstrip().split("\n")[-1]
         unread = UNREAD.search(text)
-        if unread or status not in (0, 1) or status == 1 and not last.startswith("logic=not-proved"):
+        if unread or status not in (0, 1) or status == 1 and not last.startswith(("logic=not-proved", "only=")):
             return f"{BAD}: {(unread[0] if unread else last)[:150]}"
         if status == 0:
             return LET_THROUGH
