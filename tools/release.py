@@ -9,6 +9,7 @@
 gate's program has the same bytes wherever it is built. `--compare` ends with 1 where the sources agree and the bytes
 don't, and says in one line where the sources are others.
 """
+import functools
 import hashlib
 import os
 import platform
@@ -24,8 +25,14 @@ BUILT = TOP / "crates" / PROGRAM / "out" / PROGRAM
 RELEASE, SOURCES = TOP / "release" / "orc-x86_64-linux", TOP / "release" / "SOURCES"
 
 
+@functools.lru_cache(maxsize=None)
 def kit_name():
     """The name of the toolchain's kit, or None where there is none."""
+    command = shutil.which("rt")
+    beside = Path(command).resolve().parent.parent / "KIT-ID" if command else None
+    if beside and beside.is_file():
+        # (what `rt version` prints, which takes as long as all else here)
+        return beside.read_text().split()[0]
     try:
         return subprocess.run(["rt", "version"], stdout=subprocess.PIPE, stderr=subprocess.DEVNULL, text=True, check=True).stdout.split()[0]
     except (OSError, subprocess.CalledProcessError, IndexError):
@@ -36,9 +43,10 @@ def sum_of(data):
     return hashlib.sha256(data).hexdigest()
 
 
-def sources(crates=None):
+@functools.lru_cache(maxsize=None)
+def sources():
     """A sum for each part that the program is made of, by its name."""
-    crates = crates or Crates()
+    crates = Crates()
     sums = {"HANDLES": sum_of((TOP / "HANDLES").read_bytes())}
     for name in [*crates.below(PROGRAM), PROGRAM]:
         it = hashlib.sha256(repr(crates.uses[name]).encode())
@@ -89,7 +97,7 @@ def note(origin):
     """Notes beside the program that it is of the sources as they stand, and where it came from."""
     crates = Crates()
     names = [*crates.below(PROGRAM), PROGRAM]
-    BUILT.with_name(f"{PROGRAM}.origin").write_text(f"{sum_of_all(sources(crates))} {origin}\n")
+    BUILT.with_name(f"{PROGRAM}.origin").write_text(f"{sum_of_all(sources())} {origin}\n")
     BUILT.with_name(f"{PROGRAM}.crates").write_text("\n".join(f"crates/{it}" for it in names) + "\n")
     BUILT.with_name(f"{PROGRAM}.sources").write_text(state(names))
 
