@@ -100,14 +100,14 @@ def unit_data(explanation, unit):
 
 def data_of(explanation):
     log, session = explanation.log, explanation.session
-    small = is_small(session)
+    small, told = is_small(session), Results(explanation)
     return {
         "entries": [[it.seat, it.word, it.reply.word, unit_of(it), it.text] for it in log.entries],
         "refusals": sorted(REFUSALS),
         "units": [unit_data(explanation, it) for it in session.units],
         "instances": [[it.unit, it.name, [[at, PHASES.index(phase)] for at, phase in it.changes]] for it in session.instances],
         "groups": session.groups,
-        "told": {it.number: f"Refused: {Results(explanation).refusal(it)}." for it in log.entries if it.reply.word == "gone"},
+        "told": {it.number: f"Refused: {told.refusal(it)}." for it in log.entries if it.reply.word == "gone"},
         "phases": [[phase, COLOURS[phase]] for phase in PHASES],
         "columns": columns(session) if small else None,
     }

@@ -158,9 +158,13 @@ class ObjectFile:
                     return self.target(kind, symbol), at
         return type_name(kind), offset
 
+    @functools.cached_property
+    def local_names(self):
+        return {self.symbol_name(j) for j, it in enumerate(self.symbols) if it.info >> 4 == 0 and it.shndx != UNDEFINED}
+
     def is_local(self, name):
         """Whether a local symbol of the object has this name."""
-        return any(it.info >> 4 == 0 and it.shndx != UNDEFINED and self.symbol_name(j) == name for j, it in enumerate(self.symbols))
+        return name in self.local_names
 
     # -- the unit of the object
 

@@ -56,6 +56,11 @@ def is_entry_of(result, entry):
 class Results:
     def __init__(self, explanation):
         self.explanation, self.log, self.session = explanation, explanation.log, explanation.session
+        # the units that each removal took
+        self.removed = {}
+        for unit in self.session.units:
+            if unit.removed is not None:
+                self.removed.setdefault(unit.removed, []).append(unit)
 
     def entries(self):
         """The entry of each result line, or none where it has none."""
@@ -134,7 +139,7 @@ class Results:
 
     def hint(self, name, asked, entry):
         """Why a name that is somewhere isn't seen."""
-        rows = [(dylib, row) for (dylib, named), rows in self.explanation.named.items() if named == name for row in rows]
+        rows = [(dylib, row) for dylib in range(len(self.session.dylibs)) for row in self.explanation.named.get((dylib, name), ())]
         at = entry.number if entry else len(self.log.entries)
         items = dict(it.split(":") for it in asked.items) if asked else {}
         for dylib, row in rows:
@@ -164,7 +169,7 @@ class Results:
     def say_removed(self, result, entry, line):
         if not entry:
             return "removed"
-        units = [self.explanation.unit_name(it) for it in self.session.units if it.removed == entry.number]
+        units = [self.explanation.unit_name(it) for it in self.removed.get(entry.number, ())]
         had = joined(units if len(units) < 6 else [*units[:4], f"{len(units) - 4} more"]) if units else "no unit"
         return f"{self.explanation.tracker(entry.event.tracker)} was removed, which had {had}"
 
