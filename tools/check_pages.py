@@ -3,7 +3,7 @@
 
     tools/check_pages.py [ORC]
 
-ORC is the program, by default the one that `./orc` has built. A page is read from top to bottom:
+ORC is the program, by default `./orc`. A page is read from top to bottom:
 
 - A fenced block that begins with `$ ` is a session of a shell at the top of the repository. Each of its commands is run, and
   what stands after it is all that it writes, on either stream. What a command makes is there for those after it on the same
@@ -26,18 +26,19 @@ import subprocess
 import sys
 import tempfile
 import time
+from concurrent.futures import ThreadPoolExecutor
 from dataclasses import dataclass, field
 
 from tool_words import arguments, orc, where
 
 TOP = pathlib.Path(__file__).resolve().parent.parent
 PARTS = ("docs", "examples", "tools")
-SECONDS, LONGEST = 110, 60
+SECONDS, LONGEST, LANES = 110, 60, 4
 FENCE = re.compile(r"^```(\w*)\n(.*?)^```$", re.M | re.S)
 INLINE = re.compile(r"(?<!`)`([^`\n]+)`(?!`)")
 # what stands for a word of the reader's own: in capitals, in brackets, or two dots for more of the same
 OPEN = re.compile(r"\b[A-Z]{1,}\b|\.\.|[\[\]…]")
-SHELL = re.compile(r"[|;&<>]")
+SHELL = re.compile(r"[|;&<>]|\$\(")
 # commands that a machine may lack
 MAY_LACK = ("riscv64-linux-gnu-gcc", "riscv64-linux-gnu-as", "riscv64-linux-gnu-ld", "qemu-riscv64", "clang", "ld.lld", "dot")
 KIT = ("rt",)
@@ -132,10 +133,13 @@ class Page:
                 self.skip(step.line, f"`{step.command}`" + (f" and {len(steps) - k - 1} after it" if k + 1 < len(steps) else ""), f"{missing} isn't installed, which is in {where(missing)}")
                 steps = steps[:k]
                 break
+        folder = self.copy
         for step in steps:
+            if found := re.fullmatch(r"cd ([\w./-]+)", step.command):
+                folder /= found[1]
             found = re.fullmatch(r"cat ([\w./-]+)", step.command)
-            if found and not (self.copy / found[1]).exists() and not made_before(found[1], steps, step):
-                (self.copy / found[1]).write_text(step.shown, encoding="utf-8")
+            if found and not (folder / found[1]).exists() and not made_before(found[1], steps, step):
+                (folder / found[1]).write_text(step.shown, encoding="utf-8")
         for step, got in zip(steps, self.run([it.command for it in steps])):
             self.tally.run += 1
             if got is None:
@@ -203,8 +207,9 @@ class Page:
                 continue
             self.look_at_tool(number, f"tools/{found[1]}", found[1])
             own = forms_of(TOP / "tools" / found[1])
-            if own and found[1] + found[2].replace("\\|", "|") not in own:
-                self.wrong(number, f"`{found[1]}{found[2]}`: its description says {' or '.join(f'`{it}`' for it in own)}")
+            # (a tool with several forms has one row)
+            if len(own) == 1 and found[1] + found[2].replace("\\|", "|") != own[0]:
+                self.wrong(number, f"`{found[1]}{found[2]}`: its description says `{own[0]}`")
 
 
 def forms_of(path):
@@ -227,27 +232,28 @@ def stop(shell):
 
 
 def copy_of(folder, program):
-    """What the commands of a page need, without the sources of the program."""
+    """What the commands of a page need, without the sources of the program. What `./orc` answers itself it answers here too."""
     folder.mkdir()
     for part in PARTS:
         shutil.copytree(TOP / part, folder / part, ignore=shutil.ignore_patterns("__pycache__", "wrong_bodies", "c_programs"))
     for name in ("README.md", "crates.txt", "HANDLES"):
         shutil.copy(TOP / name, folder)
-    (folder / "orc").write_text(f'#!/bin/sh\nexec "{program}" "$@"\n', encoding="utf-8")
+    (folder / "orc").write_text(f'#!/bin/sh\ncase ${{1-}} in help | explain | page) exec "{TOP}/orc" "$@" ;; esac\nexec "{program}" "$@"\n', encoding="utf-8")
     (folder / "orc").chmod(0o755)
     return folder
 
 
 def main():
-    given = arguments(__doc__, 0, 1)
-    program = orc(*given) if given else orc() and f"{TOP}/crates/orc/out/orc"
+    program = orc(*arguments(__doc__, 0, 1))
     begun = time.monotonic()
     pages = [TOP / "README.md", *sorted((TOP / "docs").glob("*.md")), TOP / "tools" / "README.md"]
     failed, skipped = False, []
     with tempfile.TemporaryDirectory(prefix="orc-pages-") as room:
-        for number, path in enumerate(pages):
-            page = Page(path, copy_of(pathlib.Path(room, str(number)), program), begun + SECONDS)
-            told = page.check()
+        # (each page has a copy of its own, so that pages can be checked beside each other)
+        made = [Page(path, copy_of(pathlib.Path(room, str(number)), program), begun + SECONDS) for number, path in enumerate(pages)]
+        with ThreadPoolExecutor(LANES) as pool:
+            tallies = list(pool.map(Page.check, made))
+        for page, told in zip(made, tallies):
             if told.run or told.looked_at or told.wrong:
                 print(f"{page.name}: {told.run} commands run, {told.looked_at} looked at, {len(told.wrong)} not as the page says")
             print("\n".join(told.wrong), end="\n" * bool(told.wrong))

@@ -3,8 +3,8 @@
 
     ./orc help [COMMAND]             what the commands are, or one of them, with an example
     ./orc --version                  the sum of the sources, the kit, and where the program came from
-    ./orc explain LOG [FILE ..]      tools/explain.py with these words
-    ./orc page LOG [FILE ..] [-o PAGE.html]      tools/journal_page.py with these words
+    ./orc explain LOG [FILE ..] [--script SCRIPT]                tools/explain.py with these words
+    ./orc page LOG [FILE ..] [--script SCRIPT] [-o PAGE.html]    tools/journal_page.py with these words
 
 All other words go to the program as they are.
 """
@@ -71,8 +71,9 @@ Makes the calls of a session of N generated objects, 1 to 4096, and writes what 
 Example: ./orc gen 512""",
     "explain": """./orc explain LOG [FILE..]
 
-Says in words how a log ended, and why. LOG is what `orc` wrote on standard error (of a session, what it wrote on
-standard output), FILE.. are the files of the command in order: with them, symbols and sections are called by name.
+Says in words how a log ended, and why; of a session what each line came to. LOG is what `orc` wrote on standard error
+(of a session, what it wrote on standard output), FILE.. are the files of the command in order: with them, symbols and
+sections are called by name. Of a session `--script SCRIPT` tells the files.
 
 Example: ./orc run examples/sieve.o 2>/tmp/log; ./orc explain /tmp/log examples/sieve.o""",
     "page": """./orc page LOG [FILE..] [-o PAGE.html]
