@@ -12,7 +12,7 @@ ORC is the program, by default `./orc`. A page is read from top to bottom:
 - A command between single backquotes is run too, and has to fit the program; its output isn't shown. One with words to be
   filled in, as `FILE` or `N`, and one of the kit, which takes long, is only looked at: a tool has to be there, to have its
   run bit, and to know the options.
-- A row of a table of scripts has the words that the script's own description has.
+- A row of a table of scripts has the words that the script's own description has, which `--help` prints.
 
 What differs is shown with its page and line, what isn't run is counted, and what can't be run, since a command isn't
 installed, is named. The exit status is 1 where something differs, or where the pages take longer than two minutes."""
@@ -188,6 +188,14 @@ class Page:
             self.wrong(line, f"tools/{name} knows no {option}")
         self.tally.looked_at += 1
 
+    def ask_for_help(self, line, path):
+        """A tool that says its words by `--help` says them."""
+        if path.is_file() and re.search(r"^(import|from) tool_words", path.read_text(encoding="utf-8"), re.M):
+            (said,) = self.run([f"tools/{path.name} --help >help && echo $?"])
+            self.tally.run += 1
+            if said != "0\n":
+                self.wrong(line, f"tools/{path.name} --help: {said}")
+
     def look_at_orc(self, line, command, may_run):
         """The words of the program, in place of those to be filled in with what fits, have to fit it."""
         words = re.split(SHELL, command)[0].split()[1:]
@@ -206,6 +214,7 @@ class Page:
             if not found:
                 continue
             self.look_at_tool(number, f"tools/{found[1]}", found[1])
+            self.ask_for_help(number, TOP / "tools" / found[1])
             own = forms_of(TOP / "tools" / found[1])
             # (a tool with several forms has one row)
             if len(own) == 1 and found[1] + found[2].replace("\\|", "|") != own[0]:
@@ -254,8 +263,7 @@ def main():
         with ThreadPoolExecutor(LANES) as pool:
             tallies = list(pool.map(Page.check, made))
         for page, told in zip(made, tallies):
-            if told.run or told.looked_at or told.wrong:
-                print(f"{page.name}: {told.run} commands run, {told.looked_at} looked at, {len(told.wrong)} not as the page says")
+            print(f"{page.name}: {told.run} commands run, {told.looked_at} looked at, {len(told.wrong)} not as the page says")
             print("\n".join(told.wrong), end="\n" * bool(told.wrong))
             skipped += told.skipped
             failed = failed or bool(told.wrong)

@@ -479,7 +479,9 @@ class Explanation:
                 yield f"set-up, entry {entry.number}: {results.refusal(entry)}."
 
     def warnings(self):
-        """Definitions that were taken where another linker takes another one."""
+        """Definitions that were taken where another linker takes another one; and files that don't fit the log."""
+        if not self.session.is_known:
+            yield "Warning: the files don't fit the definitions of the log, so symbols aren't named. Are they those of the command, in order?"
         smaller = {}
         for unit, offer, number in self.session.discarded:
             taken = self.session.instances[number].offer

@@ -20,7 +20,7 @@ from journal import PHASES, REFUSALS, LogError, refusal
 from journal_dot import COLOURS
 from object_names import object_of
 from result_lines import Results
-from tool_words import Parser
+from tool_words import Parser, end
 
 TEMPLATE = pathlib.Path(__file__).resolve().parent / "journal_page.html"
 # more than this isn't drawn at once, but a unit with its neighbours
@@ -193,6 +193,8 @@ def main():
         explanation = explanation_of(arguments)
         name = "standard input" if arguments.log == "-" else pathlib.Path(arguments.log).name
         made = page(name, explanation, log_text(explanation.log)).encode("utf-8", errors="backslashreplace")
+        if not arguments.page and sys.stdout.isatty():
+            end("the page would fill the terminal: -o PAGE.html says where it is to stand")
         if arguments.page:
             pathlib.Path(arguments.page).write_bytes(made)
         else:

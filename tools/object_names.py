@@ -348,7 +348,8 @@ def object_of(objects, unit):
 def session_of(log, objects, script=None):
     """What a log tells, with its instances named by the symbols that the files offer, and by the script's lines.
 
-    Where a definition took other names than the files have, they aren't those of the log, and nothing is called by them."""
+    Where a definition took other names than the files have, they aren't those of the log, and nothing is called by them: its
+    `is_known` is false."""
 
     def offers(unit):
         kind, number = unit[0], int(unit[1:])
@@ -358,4 +359,7 @@ def session_of(log, objects, script=None):
         return it.offers if it and it.file else None
 
     session = Session(log, offers)
-    return session if session.is_known else Session(log)
+    if not session.is_known:
+        session = Session(log)
+        session.is_known = False
+    return session

@@ -651,7 +651,8 @@ class Lines(unittest.TestCase):
         self.assertEqual(warnings("small.o", "weak.o", (2, 1)), [])
         # a strong one replaces either, and what isn't of these files isn't told
         self.assertEqual(warnings("small.o", "strong.o", (2, 2)), [])
-        self.assertEqual(warnings("small.o", "large.o", (2, 2)), [])
+        (line,) = warnings("small.o", "large.o", (2, 2))
+        self.assertIn("don't fit the definitions of the log", line)
         self.assertIn("the common v of small.o", made(ONE + "3 s0 define d0 t0 o0 = defined u0 i0 2\n4 s0 define d0 t0 o1 = defined u1 i2 1\nend exited 0\n", ["small.o", "large.o"]))
 
     def test_what_lies_behind_the_blocks(self):
