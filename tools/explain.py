@@ -17,7 +17,7 @@ from journal import OBJECT, Fail, LogError, Remove, read_file, refusal
 from object_names import EXTENSIONS, RUN, extension_of, extensions, object_of, objects_of, session_of, type_name, without_versions
 from result_lines import Results, joined
 from script_text import oddity, quoted, read_script
-from tool_words import Parser
+from tool_words import Parser, end_with_reader
 
 MIB = 1 << 20
 STACK = range(0x7FFF0000 - MIB, 0x7FFF0000)
@@ -527,6 +527,7 @@ def main():
     inputs(parser)
     arguments = parser.parse_args()
     sys.stdout.reconfigure(errors="backslashreplace")
+    end_with_reader()
     try:
         print("\n".join(explanation_of(arguments).text()))
     except (LogError, OSError) as error:

@@ -9,7 +9,7 @@ instance that it depends on. An instance has its symbol's name where the log tel
 import sys
 
 from journal import LogError, Session, read_file, refusal
-from tool_words import Parser
+from tool_words import Parser, end_with_reader
 
 COLOURS = {
     "defined": "#e6e8eb", "started": "#f5dfa6", "resolved": "#a9cdf0", "emitted": "#cbbcec", "ready": "#a3d6ae",
@@ -52,6 +52,7 @@ def main():
     parser.add_argument("--at", type=int, metavar="ENTRY")
     arguments = parser.parse_args()
     sys.stdout.reconfigure(errors="backslashreplace")
+    end_with_reader()
     try:
         log = read_file(arguments.log)
         if arguments.at is not None and not 1 <= arguments.at <= len(log.entries):

@@ -20,7 +20,7 @@ from journal import PHASES, REFUSALS, LogError, refusal
 from journal_dot import COLOURS
 from object_names import object_of
 from result_lines import Results
-from tool_words import Parser, end
+from tool_words import Parser, end, end_with_reader
 
 TEMPLATE = pathlib.Path(__file__).resolve().parent / "journal_page.html"
 # more than this isn't drawn at once, but a unit with its neighbours
@@ -189,6 +189,7 @@ def main():
     inputs(parser)
     parser.add_argument("-o", dest="page", metavar="PAGE.html")
     arguments = parser.parse_args()
+    end_with_reader()
     try:
         explanation = explanation_of(arguments)
         name = "standard input" if arguments.log == "-" else pathlib.Path(arguments.log).name

@@ -5,6 +5,7 @@ import argparse
 import os
 import re
 import shutil
+import signal
 import sys
 
 ROOT = os.path.dirname(os.path.dirname(os.path.realpath(__file__)))
@@ -22,6 +23,11 @@ def end(line):
     sys.exit(2)
 
 
+def end_with_reader():
+    """Who reads a part alone, as `head` does, ends the tool without a word."""
+    signal.signal(signal.SIGPIPE, signal.SIG_DFL)
+
+
 def usage(doc):
     """The line of a tool's description that says its words."""
     return re.search(r"^ {4}(\S+\.py.*?)(?: {2,}.*)?$", doc, re.M)[1]
@@ -31,6 +37,7 @@ def arguments(doc, least, most=None):
     """The words of the call, where there are so many; `--help` prints the description."""
     given = sys.argv[1:]
     if given in (["--help"], ["-h"]):
+        end_with_reader()
         print(doc.strip())
         sys.exit(0)
     if len(given) < least or (most is not None and len(given) > most):
