@@ -32,8 +32,7 @@ from dataclasses import dataclass, field
 from tool_words import arguments, orc, where
 
 TOP = pathlib.Path(__file__).resolve().parent.parent
-PARTS = ("docs", "examples", "tools")
-SECONDS, LONGEST, LANES = 110, 60, 4
+SECONDS, LONGEST, LANES = 90, 60, 4
 LATE = "the two minutes are over"
 FENCE = re.compile(r"^```(\w*)\n(.*?)^```$", re.M | re.S)
 INLINE = re.compile(r"(?<!`)`([^`\n]+)`(?!`)")
@@ -256,8 +255,12 @@ def stop(shell):
 def copy_of(folder, program):
     """What the commands of a page need, without the sources of the program. What `./orc` answers itself it answers here too."""
     folder.mkdir()
-    for part in PARTS:
-        shutil.copytree(TOP / part, folder / part, ignore=shutil.ignore_patterns("__pycache__", "wrong_bodies", "c_programs"))
+    shutil.copytree(TOP / "examples", folder / "examples")
+    for part in ("docs", "tools"):
+        (folder / part).mkdir()
+        for it in (TOP / part).iterdir():
+            if it.is_file():
+                shutil.copy2(it, folder / part)
     for name in ("README.md", "crates.txt", "HANDLES"):
         shutil.copy(TOP / name, folder)
     (folder / "orc").write_text(f'#!/bin/sh\ncase ${{1-}} in help | explain | page) exec "{TOP}/orc" "$@" ;; esac\nexec "{program}" "$@"\n', encoding="utf-8")
