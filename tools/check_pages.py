@@ -32,7 +32,7 @@ from dataclasses import dataclass, field
 from tool_words import arguments, orc, where
 
 TOP = pathlib.Path(__file__).resolve().parent.parent
-SECONDS, LONGEST, LANES = 90, 60, 4
+SECONDS, LONGEST, LANES = 90, 80, 4
 LATE = "the two minutes are over"
 FENCE = re.compile(r"^```(\w*)\n(.*?)^```$", re.M | re.S)
 INLINE = re.compile(r"(?<!`)`([^`\n]+)`(?!`)")
