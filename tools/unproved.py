@@ -25,17 +25,17 @@ def place(number, name):
     return f"elsewhere/{number}/{os.path.basename(plain)}" if plain.startswith(("/", "..")) else plain
 
 
-def main(given):
+def main(asked):
     installed("rt")
-    script = sys.stdin.read() if given[0] == "session" else ""
-    named = sorted({it for it in [*given, *script.split()] if os.path.isfile(it)})
+    script = sys.stdin.read() if asked[0] == "session" else ""
+    named = sorted({it for it in [*asked, *script.split()] if os.path.isfile(it)})
     inside = {name: place(number, name) for number, name in enumerate(named)}
     given = [it for name, to in inside.items() for it in ("--data", f"{to}={os.path.abspath(name)}")]
     script = re.sub(r"\S+", lambda word: inside.get(word[0], word[0]), script)
     if sys.stderr.isatty():
         print("compiling without a proof", file=sys.stderr, flush=True)
     ran = subprocess.run(
-        ["rt", "try", *given, "--", *[inside.get(word, word) for word in given]],
+        ["rt", "try", *given, "--", *[inside.get(word, word) for word in asked]],
         cwd=f"{ROOT}/crates/orc", input=script.encode(), stdout=subprocess.PIPE, stderr=subprocess.PIPE,
     )
     sys.stdout.buffer.write(ran.stdout)
