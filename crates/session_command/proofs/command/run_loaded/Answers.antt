@@ -60,7 +60,7 @@ put_in_order-notes-requires g c =
     let unused = c.in_ok-plan.field-0.unused.items in
     let few = few_unused c.args.notes.items unused c.in_ok-plan.field-0.plan c.in_ok-plan.ensures.notes in
     let is = ap (λ u. length u.items) c.in_ok-plan.unused-is in
-    let first : c.first_unused ≡ length c.args.notes.items - length unused = omega (arith, few, c.len.ensures, c.len-count.ensures, is, c.args.notes.ok.0) in
+    let first : c.len-count.result - c.len.result ≡ length c.args.notes.items - length unused = omega (arith, few, c.len.ensures, c.len-count.ensures, is, c.args.notes.ok.0) in
     let numbered = subst (λ n. AreNumberedFrom g.N.Notify.number n unused) (sym first) c.in_ok-plan.ensures.numbered in
     (omega arith, (places, (c.in_ok-session.ensures.notified.unlodged, (c.in_ok-plan.ensures.unheard, (numbered, omega (arith, few, first, c.args.notes.ok.0))))))
 
