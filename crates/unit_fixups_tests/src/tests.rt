@@ -268,6 +268,49 @@ fn a_weak_reference_without_a_match(rt: HostRuntime) -> Result<(), Fail> {
     Ok(())
 }
 
+/// What GNU as makes of `main: auipc a0, %got_pcrel_hi(w); ld a0, %pcrel_lo(main)(a0); auipc a1,
+/// %got_pcrel_hi(w); call w; addi a0, zero, 9; ret`: as `W`, but for two instructions and their entries.
+fn by_the_table() -> [u8; 992] {
+    let mut file = W;
+    // ld a0, 0(a0) and auipc a1, 0
+    file[0x44] = 0x03;
+    file[0x45] = 0x35;
+    file[0x48] = 0x97;
+    file[0x49] = 0x05;
+    file[0x4a] = 0;
+    // the entries of the first and the third are GOT_HI20 of `w`
+    file[0x150] = 20;
+    file[0x180] = 20;
+    file[0x184] = 6;
+    file
+}
+
+/// Two instructions load the address of one symbol, and a third calls it: all three use the one cell.
+#[test]
+fn one_cell_for_a_symbol(rt: HostRuntime) -> Result<(), Fail> {
+    let file = by_the_table();
+    let w = Unit {
+        file: &file,
+        live: &[true],
+        base: 0x1000_0000,
+        bound: &[Some(0x1000_0100)],
+    };
+    let fixed = [
+        0x17u8, 0x05, 0, 0, // auipc a0, 0
+        0x03, 0x35, 0x05, 0x02, // ld a0, 32(a0)
+        0x97, 0x05, 0, 0, // auipc a1, 0
+        0x97, 0, 0, 0, 0xe7, 0x80, 0x40, 0x02, // call +36
+        0x13, 0x05, 0x90, 0, // addi a0, zero, 9
+        0x67, 0x80, 0, 0, // ret
+        0, 0, 0, 0, // padding
+        0, 0x01, 0, 0x10, 0, 0, 0, 0, // the cell of w
+        0, 0, 0, 0, 0, 0, 0, 0, // padding
+        0x17, 0x0e, 0, 0, 0x03, 0x3e, 0x0e, 0xff, 0x67, 0x03, 0x0e, 0, 0x13, 0, 0, 0, // its stub
+    ];
+    assert!(rt; is_image(rt.alloc(), w, &fixed)?);
+    Ok(())
+}
+
 /// A jump doesn't reach from code memory to address 0.
 #[test]
 fn a_jump_to_nothing_is_refused(rt: HostRuntime) -> Result<(), Fail> {
