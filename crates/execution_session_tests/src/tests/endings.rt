@@ -36,6 +36,48 @@ fn a_unit_that_is_held_is_removed(rt: HostRuntime) {
     plays::<64>(&rt, rt.alloc(), tables, "entries: 14");
 }
 
+/// A second tracker takes over what the first one has, while a unit of it is held.
+const MOVED: Table = &[
+    By(SETUP, Call::Tracker(0), "Ok(Tracker(TrackId(1)))"),
+    By(SEAT, Call::LookUp(0, Some(3)), WAITS),
+    By(SEAT, Call::TakeAndPlace(0), "Ok(Placed(268435456))"),
+    By(SETUP, Call::MoveTracker(0, 1), "Ok(Moved)"),
+    By(SETUP, Call::Remove(0), "Ok(TrackerGone(TrackId(0)))"),
+];
+
+/// What its emission is answered, with what it tells.
+const MOVED_EMISSION: &str =
+    "Ok(Emitted), 3 hears Some(Outcome { query: QueryId(0), end: Found(13) })";
+
+/// The unit goes on to its end.
+const GOES_ON: Table = &[
+    By(SEAT, Call::Resolve, "Ok(Resolved)"),
+    By(SEAT, Call::Link, "Ok(Done(QueryId(1)))"),
+    By(SEAT, Call::TakeAndEmit, MOVED_EMISSION),
+];
+
+#[test]
+fn a_unit_that_is_held_goes_on_under_another_tracker(rt: HostRuntime) {
+    let tables = &[PREPARED, MOVED, GOES_ON];
+    plays::<64>(&rt, rt.alloc(), tables, "entries: 13");
+}
+
+/// What the second tracker's removal is answered, with what it tells.
+const MOVED_REMOVAL: &str =
+    "Ok(Removed), 3 hears Some(Outcome { query: QueryId(0), end: Failed(10, InstId(0)) })";
+
+/// It goes with what the second tracker has.
+const GOES_WITH_IT: Table = &[
+    By(SETUP, Call::Remove(1), MOVED_REMOVAL),
+    By(SEAT, Call::Resolve, "Ok(Defunct(UnitId(0)))"),
+];
+
+#[test]
+fn a_unit_that_is_held_is_removed_with_its_new_tracker(rt: HostRuntime) {
+    let tables = &[PREPARED, MOVED, GOES_WITH_IT];
+    plays::<64>(&rt, rt.alloc(), tables, "entries: 11");
+}
+
 /// What the failure is answered, with what it tells.
 const FAILURE: &str =
     "Ok(Failed), 4 hears Some(Outcome { query: QueryId(0), end: Failed(8, InstId(0)) })";
