@@ -89,3 +89,8 @@ c1 l2 full
 fn a_journal_of_nineteen_has_the_whole_session(rt: HostRuntime) -> Result<(), Fail> {
     expect_sized::<_, 19>(&rt, &of_the_cycle(CYCLE_TEXT, "end done\n", 0))
 }
+
+#[test]
+fn a_place_more_changes_nothing(rt: HostRuntime) -> Result<(), Fail> {
+    expect_sized::<_, 20>(&rt, &of_the_cycle(CYCLE_TEXT, "end done\n", 0))
+}
