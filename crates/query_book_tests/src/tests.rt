@@ -11,7 +11,7 @@ const LOOKUP: Lookup = Lookup {
     matched: &[Some(InstId(0))],
     level: Level::Ready,
     unit: Some(3),
-    note: Some(0),
+    note: Some(2),
 };
 
 /// The first instance came to be ready.
@@ -55,7 +55,7 @@ fn an_open_lookup_gives_its_notifier_back(rt: HostRuntime) {
 #[test]
 fn a_lookup_settles_and_fires_its_notifier(rt: HostRuntime) {
     let steps = &[
-        Step::Told(0, FOUND),
+        Step::Told(2, FOUND),
         Step::NobodyTold,
         Step::Lookup(0, Known::Found(5, &[FIRST])),
         Step::Unit(Some(UnitId(3))),
@@ -67,7 +67,7 @@ fn a_lookup_settles_and_fires_its_notifier(rt: HostRuntime) {
 #[test]
 fn a_lookup_of_a_failed_instance_fails(rt: HostRuntime) {
     let steps = &[
-        Step::Told(0, LOST),
+        Step::Told(2, LOST),
         Step::Lookup(0, Known::Failed(5, InstId(0))),
         Step::Unit(Some(UnitId(3))),
     ];
