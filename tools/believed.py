@@ -12,7 +12,7 @@ The toolchain's own library is left out: its words are those of its pages.
 import re
 import sys
 from collections import defaultdict
-from functools import lru_cache
+from functools import cached_property, lru_cache
 from pathlib import Path
 
 from prover import TOP, Crates
@@ -40,7 +40,7 @@ class Source:
                 name, _, other = it.partition(" as ")
                 self.names[other or name] = crate, module, name
 
-    @property
+    @cached_property
     def definitions(self):
         """The blocks of a file of specs: a head, and all up to the next head that isn't a field of it."""
         found, name, indent, is_record = {}, None, 0, False
@@ -60,8 +60,41 @@ class Source:
 class House:
     """All files of the crates, by their modules."""
 
-    def __init__(self):
-        self.crates = Crates()
+    def __init__(self, crates=None):
+        self.crates = crates or Crates()
+
+    def reached(self, begin):
+        """The definitions and types of the code that texts come to, by their files, each with its text. `begin` are texts with their files."""
+        found, todo = defaultdict(dict), list(begin)
+        while todo:
+            source, text = todo.pop()
+            for it, name in self.named(source, text):
+                if name not in found[it.path]:
+                    block = it.definitions.get(name) if it.path.suffix == ".antt" else model_of(it.text, name)
+                    if block is not None:
+                        found[it.path][name] = block
+                        todo.append((it, block))
+        return {path: names for path, names in found.items() if names}
+
+    def named(self, source, text):
+        """What the words of a text stand for, by the imports of its file."""
+        own = source.definitions if source.path.suffix == ".antt" else {}
+        operators = [it for it in {**own, **source.names} if "◌" in it and all(part in text for part in it.split("◌"))]
+        for word in {*WORD.findall(text), *operators}:
+            first, _, rest = (word, "", "") if "◌" in word else word.partition(".")
+            if first in own:
+                yield source, first
+                continue
+            if first in source.names:
+                crate, module, name = source.names[first]
+            elif first in source.modules and rest:
+                crate, module = source.modules[first]
+                name = rest.split(".")[0]
+            else:
+                continue
+            it, name = self.declared(crate, module, name) if module.startswith("declared.") else (self.source(crate, module), name)
+            if it:
+                yield it, name
 
     @lru_cache(maxsize=None)
     def source(self, crate, module):
@@ -76,6 +109,7 @@ class House:
                     return Source(crate, path)
         return None
 
+    @lru_cache(maxsize=None)
     def declared(self, crate, module, name):
         """The file and the name of a type or constant of the code that a module of specs stands for."""
         parts = module.split(".")[1:]
@@ -119,47 +153,13 @@ def clauses_of(source, function):
     return text[first.start():] if first else ""
 
 
-def reached(house, crate, function):
-    """The definitions that a function's clauses reach, by file, and the types of the code."""
-    found, todo = defaultdict(dict), []
+def clauses(house, crate, function):
+    """A function's clauses, with the file that they stand in."""
     sources = (Source(crate, it) for it in house.crates.files(crate, ("src",)) if it.suffix == ".rt")
-    begin = next(((it, text) for it in sources for text in [clauses_of(it, function)] if text is not None), None)
-    if not begin:
+    found = next(((it, text) for it in sources for text in [clauses_of(it, function)] if text is not None), None)
+    if not found:
         raise SystemExit(f"{crate} has no function {function}")
-    todo.append(begin)
-    while todo:
-        source, text = todo.pop()
-        own = source.definitions if source.path.suffix == ".antt" else {}
-        operators = [it for it in {**own, **source.names} if "◌" in it and all(part in text for part in it.split("◌"))]
-        for word in [*WORD.findall(text), *operators]:
-            first, _, rest = (word, "", "") if "◌" in word else word.partition(".")
-            if first in own and source.path.suffix == ".antt":
-                targets = [(source, first)]
-            elif first in source.names:
-                targets = [source.names[first]]
-            elif first in source.modules and rest:
-                targets = [(*source.modules[first], rest.split(".")[0])]
-            else:
-                continue
-            for target in targets:
-                if len(target) == 2:
-                    it, name = target
-                elif target[1].startswith("declared."):
-                    it, name = house.declared(*target)
-                else:
-                    it, name = house.source(target[0], target[1]), target[2]
-                if it is None or name in found[it.path]:
-                    continue
-                if it.path.suffix == ".antt":
-                    block = it.definitions.get(name)
-                    if block is None:
-                        continue
-                    found[it.path][name] = it
-                    todo.append((it, block))
-                else:
-                    found[it.path][name] = it
-                    todo.append((it, model_of(it.text, name)))
-    return {path: sorted(names) for path, names in found.items() if names}
+    return found
 
 
 def table(house, found):
@@ -179,7 +179,7 @@ def main(words):
     found = defaultdict(set)
     for it in functions:
         crate, _, function = it.rpartition("::")
-        for path, names in reached(house, crate, function).items():
+        for path, names in house.reached([clauses(house, crate, function)]).items():
             found[path] |= set(names)
     found = {path: sorted(names) for path, names in found.items()}
     text = table(house, found)

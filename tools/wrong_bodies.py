@@ -15,12 +15,11 @@ functions tries them: a round. A body whose function calls one that was refused 
 to be let through is tried once more by itself, with the whole crate.
 
 What came of it stands in `tools/wrong_bodies/CRATE/verdicts`, with a sum of what it depends on: the crate's code and
-definitions, its wrong bodies, and the definitions and contracts of all crates below. Proofs are no part of it, nor are
-bodies below, comments and derives: they make no lie true. Without words a crate whose sum is another fails, as does a
+definitions, its wrong bodies, all definitions that these come to, and the contracts below of what the code names. Proofs
+are no part of it, nor are bodies below, comments and derives: they make no lie true. Without words a crate whose sum is another fails, as does a
 body that can't be applied or wasn't refused.
 """
 import argparse
-import functools
 import hashlib
 import re
 import shutil
@@ -31,6 +30,7 @@ import time
 from dataclasses import dataclass
 from pathlib import Path
 
+from believed import House, Source
 from prover import PARTS, TOP, Crates, Prover
 
 HOME = TOP / "tools" / "wrong_bodies"
@@ -138,6 +138,8 @@ def function_at(text, line):
 
 
 TESTS = re.compile(r"^#\[cfg\(test\)\]\nmod \w+ \{\n.*?^\}\n", re.M | re.S)
+DECLARED = re.compile(r"(?:pub(?:\([^)]*\))? )?(?:struct|enum|trait|type|const|static|macro_rules!) (?P<owner>\w+)")
+FUNCTION = re.compile(r"\s*(?:pub(?:\([^)]*\))? )?(?:const )?(?:ghost )?fn (\w+)")
 
 
 def code_of(text):
@@ -145,44 +147,71 @@ def code_of(text):
     return [it for it in TESTS.sub("", text).split("\n") if it.strip() and not it.strip().startswith(("//", "#[", "#![", "use ", "mod ", "ghost use "))]
 
 
-def contract_of(text):
-    """The text of a file without bodies of functions too: what a crate above can know of it."""
-    kept, closing = [], None
-    for line in code_of(text):
-        indent, it = len(line) - len(line.lstrip()), line.strip()
-        if closing is not None:
-            if line == closing:
-                closing = None
-            continue
-        kept.append(line)
-        begins = it == "{" or re.search(r"\bfn \w+.*[^{]\{$", it)
-        if begins and (it != "{" or is_header(kept, indent)):
-            closing = " " * indent + "}"
-    return "\n".join(kept)
+def items_of(text):
+    """What a file says to a crate above, item by item: the type of its impl or its trait, its name, and its text without a body."""
+    lines, owner, at = code_of(text), "", 0
+    while at < len(lines):
+        line = lines[at]
+        indent = len(line) - len(line.lstrip())
+        if indent == 0 and line != "}":
+            found = IMPL.match(line) or DECLARED.match(line)
+            owner = found["owner"] if found else ""
+        begun = at
+        named = FUNCTION.match(line)
+        at += 1
+        if named:
+            while at < len(lines) and not ends(lines[at - 1], indent) and (len(lines[at]) - len(lines[at].lstrip()) > indent or lines[at].strip() in ("{", ")") or lines[at].lstrip().startswith((")", ">("))):
+                at += 1
+            yield owner, named[1], "\n".join(lines[begun:at])
+            if lines[at - 1].rstrip().endswith("{"):
+                while at < len(lines) and lines[at] != " " * indent + "}":
+                    at += 1
+                at += 1
+        else:
+            # a line of a type, a constant, a ghost member or a clause of an impl
+            yield owner, "", line
 
 
-def is_header(kept, indent):
-    """Whether a brace that stands alone opens the body of a function: what stands above it at its depth begins one."""
-    above = next((it for it in reversed(kept[:-1]) if len(it) - len(it.lstrip()) <= indent), "")
-    return bool(re.search(r"\bfn \w+|^\s*\)", above))
+def ends(line, indent):
+    """Whether a function's head ends with this line: its body begins, or it has none."""
+    it = line.rstrip()
+    return it == " " * indent + "{" or it.endswith((" {", "{}", ";")) and not re.match(r"\s*(?:requires|ensures)", it)
 
 
-@functools.lru_cache(maxsize=None)
-def sum_of_contracts(crates, name):
-    """A sum of a crate's definitions, and of what its files say to a crate above."""
-    it = hashlib.sha256(name.encode())
-    for file in crates.files(name, ("specs",)):
-        it.update(repr((file.name, file.read_bytes())).encode())
-    for file in crates.files(name, ("src",)):
-        it.update(repr((file.name, contract_of(file.read_text()))).encode())
-    return it.hexdigest()
+class Standing:
+    """What a crate's wrong bodies depend on beside its own code: the definitions that it comes to, and what it can call."""
+
+    def __init__(self, crates):
+        self.house, self.crates, self.read = House(crates), crates, {}
+
+    def items(self, path):
+        if path not in self.read:
+            self.read[path] = list(items_of(path.read_text()))
+        return self.read[path]
+
+    def of(self, name):
+        """The texts of these, in an order that is always the same."""
+        own = [Source(name, it) for it in self.crates.files(name, ("src", "specs")) if it.suffix in (".rt", ".antt")]
+        words = set(re.findall(r"\w+", "\n".join("\n".join(code_of(it.text)) for it in own)))
+        begin, found = [(it, it.text) for it in own], []
+        for below in self.crates.below(name):
+            for path in self.crates.files(below, ("src",)):
+                taken = [text for owner, named, text in self.items(path) if (not owner or owner in words) and (not named or named in words)]
+                if taken:
+                    found.append((str(path.relative_to(self.crates.top)), taken))
+                    begin.append((Source(below, path), "\n".join(taken)))
+        definitions = self.house.reached(begin)
+        for path in sorted(definitions):
+            if self.crates.folder(name) not in path.parents:
+                found.append((str(path.relative_to(self.crates.top)), sorted(definitions[path].items())))
+        return found
 
 
 class Room:
     """A crate's wrong bodies, and a copy of the crate to try them in."""
 
-    def __init__(self, crates, name):
-        self.crates, self.name, self.folder = crates, name, crates.folder(name)
+    def __init__(self, crates, name, standing):
+        self.crates, self.name, self.folder, self.standing = crates, name, crates.folder(name), standing
         self.home = HOME / name
         self.bodies = [Body(it) for it in sorted(self.home.glob("*.edit"))]
 
@@ -193,8 +222,7 @@ class Room:
             it.update(repr((file.name, file.read_bytes())).encode())
         for file in self.crates.files(self.name, ("src",)):
             it.update(repr((file.name, code_of(file.read_text()))).encode())
-        for below in self.crates.below(self.name):
-            it.update(sum_of_contracts(self.crates, below).encode())
+        it.update(repr(self.standing.of(self.name)).encode())
         return it.hexdigest()
 
     def recorded(self):
@@ -334,7 +362,8 @@ def main():
     words.add_argument("--beside", metavar="DIR")
     asked = words.parse_args()
     crates = Crates()
-    rooms = [Room(crates, it) for it in crates.uses if (HOME / it).is_dir()]
+    standing = Standing(crates)
+    rooms = [Room(crates, it, standing) for it in crates.uses if (HOME / it).is_dir()]
     unknown = [it for it in asked.names if not any(it in (room.name, *(f"{room.name}/{body.name}" for body in room.bodies)) for room in rooms)]
     for it in unknown:
         print(f"{it}: there is no such wrong body, and no crate that has one here")
