@@ -51,7 +51,7 @@ module _ {U N : Type 0} (means : U → Meaning) (units : List Meaning) (script :
     unused_numbered = numbered_after number (watches plan) notes unused made.taken numbered
 
     -- each watch has the notifier of its note's number
-    all_fresh : All (IsFresh heard number) (watches plan)
+    all_fresh : All (IsFresh means heard number) (watches plan)
     all_fresh = all_both (λ w. heard w.1 ≡ None) (λ w. number w.1 ≡ w.0) (watches plan)
         (all_unmapped (λ n. heard n ≡ None) (λ w. w.1) (watches plan) (all_front (λ n. heard n ≡ None) (map (λ w. w.1) (watches plan)) unused all_unheard))
         (all_front (λ w. number w.1 ≡ w.0) (watches plan) (enumerate_from (length (watches plan)) unused) (subst (All (λ w. number w.1 ≡ w.0)) (sym handed_out) (all_numbered number 0 notes numbered)))
