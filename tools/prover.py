@@ -78,6 +78,7 @@ class Prover:
 
     def library(self, name):
         """The folder of a crate's library, which is built where there is none of its text."""
+        # (a second thread that asks for the same waits in `built`)
         if name not in self.chosen:
             self.chosen[name] = self.of_gate(name) or self.of_beside(name) or self.built(name)
         return self.chosen[name]

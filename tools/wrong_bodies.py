@@ -6,6 +6,7 @@
     tools/wrong_bodies.py --stale | --all   tries those of all crates that changed, or all
     tools/wrong_bodies.py --sample HASH MINUTES      tries whole crates that the hash picks, for about so long
 
+  --lanes N         tries so many crates at once
   --after-gate      takes the libraries that the gate has just built here
   --beside DIR      takes those of another checkout's gate, where the texts are the same
 
@@ -27,6 +28,7 @@ import subprocess
 import sys
 import tempfile
 import time
+from concurrent.futures import ThreadPoolExecutor
 from dataclasses import dataclass
 from pathlib import Path
 
@@ -320,27 +322,30 @@ class Room:
         return f"{REFUSED} by {named}" if named else REFUSED
 
 
-def try_crates(prover, rooms, only=()):
-    """Tries the wrong bodies of crates, one after the other, while there is time, and gives whether each was refused."""
-    well, count = True, 0
-    for room in rooms:
-        begun = time.monotonic()
-        bodies = [it for it in room.bodies if f"{room.name}/{it.name}" in only] or room.bodies
-        try:
-            verdicts, rounds = room.tried(prover, bodies)
-        except subprocess.TimeoutExpired:
-            print(f"{room.name}: not tried to its end in the time that was left")
-            break
-        for name, verdict in sorted(verdicts.items()):
-            if not verdict.startswith(REFUSED):
-                print(f"{room.name}/{name}: {verdict}", flush=True)
-        if len(bodies) == len(room.bodies) and not prover.until:
-            room.record(verdicts)
-        refused = sum(it.startswith(REFUSED) for it in verdicts.values())
-        print(f"{room.name}: {refused} of {len(bodies)} refused, in {rounds} checks, {time.monotonic() - begun:.0f} s", flush=True)
-        well, count = well and refused == len(bodies), count + len(bodies)
-    print(f"{count} wrong bodies tried: {'each refused' if well else 'not each refused'}")
-    return well
+def try_crate(prover, room, only):
+    """Tries wrong bodies of one crate, and gives how many there are and how many were refused; none where time ran out."""
+    begun = time.monotonic()
+    bodies = [it for it in room.bodies if f"{room.name}/{it.name}" in only] or room.bodies
+    try:
+        verdicts, rounds = room.tried(prover, bodies)
+    except subprocess.TimeoutExpired:
+        print(f"{room.name}: not tried to its end in the time that was left", flush=True)
+        return 0, 0
+    wrong = [f"{room.name}/{name}: {verdict}\n" for name, verdict in sorted(verdicts.items()) if not verdict.startswith(REFUSED)]
+    if len(bodies) == len(room.bodies) and not prover.until:
+        room.record(verdicts)
+    refused = sum(it.startswith(REFUSED) for it in verdicts.values())
+    print(f"{''.join(wrong)}{room.name}: {refused} of {len(bodies)} refused, in {rounds} checks, {time.monotonic() - begun:.0f} s", flush=True)
+    return len(bodies), refused
+
+
+def try_crates(prover, rooms, only=(), lanes=1):
+    """Tries the wrong bodies of crates, so many at once, while there is time, and gives whether each was refused."""
+    with ThreadPoolExecutor(lanes) as pool:
+        ends = list(pool.map(lambda room: try_crate(prover, room, only), rooms))
+    count, refused = sum(it for it, _ in ends), sum(it for _, it in ends)
+    print(f"{count} wrong bodies tried: {'each refused' if refused == count else 'not each refused'}")
+    return refused == count
 
 
 def look(rooms):
@@ -360,6 +365,7 @@ def main():
     words.add_argument("--sample", nargs=2, metavar=("HASH", "MINUTES"))
     words.add_argument("--after-gate", action="store_true")
     words.add_argument("--beside", metavar="DIR")
+    words.add_argument("--lanes", type=int, default=1, metavar="N")
     asked = words.parse_args()
     crates = Crates()
     standing = Standing(crates)
@@ -380,7 +386,7 @@ def main():
         rooms = [it for it in rooms if it.wrong()]
     elif asked.names:
         rooms = [it for it in rooms if any(name.split("/")[0] == it.name for name in asked.names)]
-    return int(not try_crates(prover, rooms, set(asked.names)))
+    return int(not try_crates(prover, rooms, set(asked.names), asked.lanes))
 
 
 if __name__ == "__main__":

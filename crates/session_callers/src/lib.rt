@@ -6,7 +6,7 @@
 //! Nothing stands on it. Read `execution_session`.
 #![tactic(auto)]
 
-ghost use Rattle.std.specs.Prelude.{◌≡◌, ◌≤◌, ⊥, Err, length};
+ghost use Rattle.std.specs.Prelude.{◌≡◌, ◌≤◌, Err, length};
 ghost use Rattle.orc_ids.specs.declared.limits.TheConstants.{ORDER_LIMIT};
 ghost use Rattle.orc_ids.specs.declared.lookup.Stop.TheVariants.{NoMemory};
 ghost use Rattle.session_model.specs.declared.entry.Event.TheVariants as event;
