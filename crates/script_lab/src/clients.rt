@@ -1,5 +1,6 @@
 //! Random lines of clients.
-ghost use Rattle.std.specs.Prelude.{◌≡◌, ◌≤◌, All, length, IfOk, IfSome, None};
+ghost use Rattle.std.specs.Prelude.{◌≡◌, ◌≤◌, All, length, IfOk};
+ghost use Rattle.script_calls.specs.Plans.{IsUnheard};
 ghost use Rattle.script_lab.specs.Plans.{IsCallable};
 ghost use Rattle.script_lab.specs.SettingUp.{IsMade};
 
@@ -72,8 +73,7 @@ impl Maker {
 
     /// A note with its number, for half of the lookups.
     fn watch(&mut self, random: &mut Random) -> Option<(u32, LabNote)>
-        ensures unheard { IfSome result (λ w. w.1.outcome ≡ None) }
-        ensures number { IfSome result (λ w. w.1.number ≡ w.0) }
+        ensures fresh { IsUnheard (λ n. n.outcome) (λ n. n.number) result }
         ensures set_up { self.new.set_up ≡ self.old.set_up }
     {
         if random.once_in(2) {

@@ -149,7 +149,7 @@ fn make<
 ) -> Result<Ended<Note>, Fail> {
     let alloc = rt.alloc();
     let words = words_of(alloc, call.words)?;
-    let notes = Note::numbered(alloc, call.notes.len() as u32)?;
+    let notes = Note::numbered(alloc, u32::try_from(call.notes.len())?)?;
     Ok(orc(
         rt,
         alloc,
@@ -173,7 +173,7 @@ fn make_sized<R: Threads + Wait + Sync + RandomSource + AllocGlobal, const JMAX:
 {
     let alloc = rt.alloc();
     let words = words_of(alloc, call.words)?;
-    let notes = Note::numbered(alloc, call.notes.len() as u32)?;
+    let notes = Note::numbered(alloc, u32::try_from(call.notes.len())?)?;
     Ok(orc_sized::<_, _, _, _, _, _, _, JMAX>(
         rt,
         alloc,
