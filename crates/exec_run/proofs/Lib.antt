@@ -7,6 +7,7 @@ pub mod Places
 pub mod Regions
 pub mod Runs
 pub mod Spans
+pub mod Still
 pub mod Stretches
 pub mod Tops
 pub mod Wider

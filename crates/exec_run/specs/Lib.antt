@@ -1,4 +1,5 @@
 pub mod Bytes
+pub mod Decoded
 pub mod Host
 pub mod Larger
 pub mod Machine

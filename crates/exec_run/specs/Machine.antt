@@ -1,5 +1,6 @@
 -- What a machine is as the state of a run, and how its calls end.
-use Rattle.std.specs.Prelude.{◌≡◌, Option, Some, None}
+use Rattle.std.specs.Prelude.{◌≡◌, ℕ, Option, Some, None}
+use Rattle.rv_hart.specs.Parts.{hart_of}
 use Rattle.code_memory.specs.Mapped.{byte_at}
 use Rattle.exec_run.specs.declared.machine.Machine.{Machine}
 use Rattle.exec_run.specs.declared.ran.RunEnd.{RunEnd}
@@ -9,6 +10,10 @@ use Rattle.exec_run.specs.Run.{IsTurn}
 -- the state of a run that a machine is in
 abbrev pub state_of : Machine → State
 state_of m = record { hart = m.hart; map = byte_at m.memory; output = m.output.items }
+
+-- the same with the program counter apart
+abbrev pub state_at : ℕ → Machine → State
+state_at pc m = record { hart = hart_of pc m.hart.x; map = byte_at m.memory; output = m.output.items }
 
 -- a call to the host from one state: the run goes on in another, or it has ended with what was written
 abbrev pub IsCalled : State → Option RunEnd → State → Type 0

@@ -18,6 +18,7 @@
 #![tactic(auto)]
 
 mod access;
+mod decoded;
 mod find;
 mod host;
 mod laws;

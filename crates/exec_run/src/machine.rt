@@ -1,4 +1,4 @@
-ghost use Rattle.std.specs.Prelude.{◌≡◌, ◌≤◌, length, IfOk};
+ghost use Rattle.std.specs.Prelude.{◌≡◌, ◌≤◌, length, slice_index, IfOk};
 ghost use Rattle.code_memory.specs.Mapped.{byte_at};
 ghost use Rattle.exec_run.specs.Host.{State, answered, write_call, called};
 ghost use Rattle.exec_run.specs.Run.{start, RunsFrom};
@@ -11,7 +11,7 @@ use crate::memory::RunMemory;
 use crate::pieces::{append, has_bytes};
 use crate::ran::RunEnd;
 use code_memory::Image;
-use rv_hart::{Hart, Step};
+use rv_hart::{Hart, Step, step_at};
 use std::alloc::{AllocError, Global};
 
 /// A hart with its memory, and what it wrote.
@@ -23,7 +23,7 @@ pub(crate) struct Machine<'a> {
 }
 
 impl<'a> Machine<'a> {
-    ghost use Rattle.exec_run.specs.Machine.{state_of, IsCalled, IsWritten, IsTaken};
+    ghost use Rattle.exec_run.specs.Machine.{state_of, state_at, IsCalled, IsWritten, IsTaken};
 
     /// A machine at the start of a run.
     pub(crate) fn new(
@@ -50,19 +50,22 @@ impl<'a> Machine<'a> {
         output
     }
 
-    /// Runs up to the end, or until the fuel is spent.
+    /// Runs up to the end, or until the fuel is spent. The program counter is held apart from the
+    /// machine, and stands in it at calls alone.
     pub(crate) fn run(&mut self, fuel: u64) -> Result<RunEnd, AllocError>
+        requires { slice_index self.old.hart.x 0 ≡ 0 }
         ensures { IfOk result (λ end. RunsFrom fuel (state_of self.old) end self.new.output.items) }
     {
+        let mut pc = self.hart.pc;
         for _turn in 0..fuel {
-            if self.hart.pc == HOME {
+            if pc == HOME {
                 return Ok(RunEnd::Exited(self.hart.register(10)));
             }
-            if let Some(end) = self.turn()? {
+            if let Some(end) = self.turn(&mut pc)? {
                 return Ok(end);
             }
         }
-        if self.hart.pc != HOME {
+        if pc != HOME {
             return Ok(RunEnd::OutOfFuel);
         }
         Ok(RunEnd::Exited(self.hart.register(10)))
@@ -70,19 +73,34 @@ impl<'a> Machine<'a> {
 
     /// Does one instruction, and the call to the host where it is one.
     #[inline(always)]
-    fn turn(&mut self) -> Result<Option<RunEnd>, AllocError>
-        ensures { IfOk result (λ end. IsTaken (state_of self.old) end (state_of self.new)) }
+    fn turn(&mut self, pc: &mut u64) -> Result<Option<RunEnd>, AllocError>
+        requires { slice_index self.old.hart.x 0 ≡ 0 }
+        ensures taken { IfOk result (λ end. IsTaken (state_at pc.old self.old) end (state_at pc.new self.new)) }
+        ensures zero { slice_index self.new.hart.x 0 ≡ 0 }
     {
-        match self.hart.step(&mut self.memory) {
+        match step_at(pc, &mut self.hart.x, &mut self.memory) {
             Step::Next => Ok(None),
-            Step::Trap(pc, cause) => Ok(Some(RunEnd::Trap(pc, cause))),
-            Step::Ecall => self.call(),
+            Step::Trap(at, cause) => Ok(Some(RunEnd::Trap(at, cause))),
+            Step::Ecall => self.call_at(pc),
         }
+    }
+
+    /// The call of the instruction at a program counter.
+    #[inline(always)]
+    fn call_at(&mut self, pc: &mut u64) -> Result<Option<RunEnd>, AllocError>
+        ensures called { IfOk result (λ end. IsCalled (state_at pc.old self.old) end (state_at pc.new self.new)) }
+        ensures zero { slice_index self.new.hart.x 0 ≡ slice_index self.old.hart.x 0 }
+    {
+        self.hart.pc = *pc;
+        let end = self.call()?;
+        *pc = self.hart.pc;
+        Ok(end)
     }
 
     /// The call to the host that the registers ask for.
     fn call(&mut self) -> Result<Option<RunEnd>, AllocError>
-        ensures { IfOk result (λ end. IsCalled (state_of self.old) end (state_of self.new)) }
+        ensures called { IfOk result (λ end. IsCalled (state_of self.old) end (state_of self.new)) }
+        ensures zero { slice_index self.new.hart.x 0 ≡ slice_index self.old.hart.x 0 }
     {
         let number = self.hart.register(17);
         if number == EXIT {
@@ -97,7 +115,8 @@ impl<'a> Machine<'a> {
 
     /// The write that the registers ask for.
     fn write(&mut self) -> Result<Option<RunEnd>, AllocError>
-        ensures { IfOk result (λ end. IsWritten (state_of self.old) end (state_of self.new)) }
+        ensures written { IfOk result (λ end. IsWritten (state_of self.old) end (state_of self.new)) }
+        ensures zero { slice_index self.new.hart.x 0 ≡ slice_index self.old.hart.x 0 }
     {
         if self.hart.register(10) != STDOUT {
             self.answer(BAD_DESCRIPTOR);
@@ -119,7 +138,8 @@ impl<'a> Machine<'a> {
 
     /// The result of a call, and on to the next instruction.
     fn answer(&mut self, value: u64)
-        ensures { state_of self.new ≡ answered (state_of self.old) value }
+        ensures answered { state_of self.new ≡ answered (state_of self.old) value }
+        ensures zero { slice_index self.new.hart.x 0 ≡ slice_index self.old.hart.x 0 }
     {
         self.hart.set_register(10, value);
         self.hart.pc = self.hart.pc.wrapping_add(4);

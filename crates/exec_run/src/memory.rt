@@ -1,16 +1,20 @@
-ghost use Rattle.std.specs.Prelude.{◌≡◌, ◌≤◌, ◌<◌, Some, None, IsSome, IfSome, IfNone, IfOk};
+ghost use Rattle.std.specs.Prelude.{◌≡◌, ◌≤◌, ◌<◌, ◌%◌, Some, None, IsSome, IfSome, IfNone, IfOk};
 ghost use Rattle.std.specs.Bool.{OnTrue, OnFalse};
+ghost use Rattle.rv_hart.specs.Fetched.{IsKnown};
 ghost use Rattle.rv_hart.specs.Map.{read, stored, with_byte};
 ghost use Rattle.code_memory.specs.Mapped.{byte_at};
 ghost use Rattle.exec_run.specs.Regions.{IsRest};
 ghost use Rattle.exec_run.specs.Start.{with_stack};
 
 use crate::access::{fetch, load, store};
+use crate::decoded::Decoded;
 use crate::find::{find, rest_from};
+use crate::host::STACK_START;
 use crate::ranges::Ranges;
 use crate::stack::{Stack, is_on_stack};
 use code_memory::Image;
-use rv_hart::Memory;
+use rv_hart::{Fetched, Memory};
+use rv_insn::FlatInsn;
 use std::alloc::{AllocError, Global};
 use std::cell::Cell;
 use std::marker::Model;
@@ -23,6 +27,7 @@ pub(crate) struct RunMemory<'a> {
     stack: Stack,
     code: Cell<usize>,
     data: Cell<usize>,
+    decoded: Decoded,
 }
 
 impl<'a> Model for RunMemory<'a> {
@@ -31,11 +36,12 @@ impl<'a> Model for RunMemory<'a> {
 
     ghost Value = { List Segment };
 
-    ghost use Rattle.exec_run.specs.Regions.{with_top, HasTop};
+    ghost use Rattle.exec_run.specs.Decoded.{IsMemory};
+    ghost use Rattle.exec_run.specs.Regions.{with_top};
 
     ghost view = { λ m. with_top m.ranges m.stack };
 
-    ghost invariant = { λ m. HasTop m.ranges m.stack };
+    ghost invariant = { λ m. IsMemory m.ranges m.stack m.decoded };
 }
 
 impl<'a> Memory for RunMemory<'a> {
@@ -55,6 +61,19 @@ impl<'a> Memory for RunMemory<'a> {
     fn fetch(&self, at: u64) -> Option<u32> {
         fetch(self, at)
     }
+
+    #[inline(always)]
+    fn known(&self, at: u64) -> Option<FlatInsn> {
+        self.decoded.get(at)
+    }
+
+    fn instruction(&mut self, at: u64) -> Fetched {
+        let fetched = Fetched::of_word(fetch(self, at));
+        if let Fetched::Known(insn) = fetched {
+            self.keep(at, insn);
+        }
+        fetched
+    }
 }
 
 impl<'a> RunMemory<'a> {
@@ -67,6 +86,7 @@ impl<'a> RunMemory<'a> {
             stack: Stack::new(alloc)?,
             code: Cell::new(0),
             data: Cell::new(0),
+            decoded: Decoded::new(alloc)?,
         })
     }
 
@@ -101,6 +121,7 @@ impl<'a> RunMemory<'a> {
     /// nothing.
     #[inline(always)]
     pub(crate) fn put(&mut self, at: u64, width: u8, value: u64) -> bool
+        requires { width ≤ 8 }
         ensures mapped { OnTrue result (IsSome (read (byte_at self.old) at width)) }
         ensures done { OnTrue result (byte_at self.new ≡ stored (byte_at self.old) at width value) }
         ensures kept { OnFalse result (self.new ≡ self.old) }
@@ -109,7 +130,13 @@ impl<'a> RunMemory<'a> {
             return self.stack.put(at, width, value);
         }
         match find(&self.ranges, &self.data, at) {
-            Some(k) => self.ranges.put(k, at, width, value),
+            Some(k) => {
+                if !self.ranges.put(k, at, width, value) {
+                    return false;
+                }
+                self.decoded.forget(at, width);
+                true
+            }
             None => false,
         }
     }
@@ -123,6 +150,18 @@ impl<'a> RunMemory<'a> {
             self.stack.set(at, byte);
         } else if let Some(k) = find(&self.ranges, &self.data, at) {
             self.ranges.set(k, at, byte);
+            self.decoded.forget(at, 1);
+        }
+    }
+
+    /// Keeps the instruction at an address, unless it is on the stack.
+    fn keep(&mut self, at: u64, insn: FlatInsn)
+        requires aligned { at % 4 ≡ 0 }
+        requires known { IsKnown (byte_at self.old) at insn }
+        ensures { self.new ≡ self.old }
+    {
+        if at < STACK_START {
+            self.decoded.keep(at, insn);
         }
     }
 }

@@ -35,6 +35,15 @@ pub(crate) fn put(bytes: &mut Vec<u8>, place: usize, width: u8, value: u64)
     ensures items { bytes.new.items ≡ with_number bytes.old.items place width value }
     ensures capacity { vec_capacity bytes.new ≡ vec_capacity bytes.old }
 {
+    put_in(bytes.as_mut_slice(), place, width, value);
+}
+
+/// The same in a slice, whose stores are one.
+#[inline(always)]
+fn put_in(bytes: &mut [u8], place: usize, width: u8, value: u64)
+    requires { place + width ≤ length bytes.old }
+    ensures { bytes.new ≡ with_number bytes.old place width value }
+{
     let mut rest = value;
     for k in 0..width {
         bytes[place + usize::from(k)] = (rest % 256) as u8;

@@ -1,5 +1,7 @@
 pub mod Arithmetic
-pub mod Classes
+pub mod Effects
+pub mod Fetched
 pub mod Map
+pub mod Parts
 pub mod Registers
 pub mod Step

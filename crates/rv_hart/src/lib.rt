@@ -11,10 +11,11 @@
 #![tactic(auto)]
 
 mod arithmetic;
+mod effect;
 mod hart;
 mod memory;
 mod step;
 
 pub use hart::Hart;
-pub use memory::Memory;
-pub use step::{Cause, Step};
+pub use memory::{Fetched, Memory};
+pub use step::{Cause, Step, step_at};

@@ -1,6 +1,33 @@
-ghost use Rattle.std.specs.Prelude.{◌≡◌, ◌↔◌, ◌⊎◌, ℕ, Option, IsTrue, IsSome};
+ghost use Rattle.std.specs.Prelude.{◌≡◌, ◌↔◌, ◌⊎◌, ◌%◌, ℕ, Option, IsTrue, IsSome, IfSome};
 ghost use Rattle.std.specs.Bool.{OnTrue, OnFalse};
-ghost use Rattle.rv_hart.specs.Map.{read, stored};
+ghost use Rattle.rv_hart.specs.Fetched.{IsFetched, IsKnown};
+ghost use Rattle.rv_hart.specs.Map.{Map, read, stored};
+
+use rv_insn::{FlatInsn, decode_flat};
+
+/// What stands at a program counter: an instruction, a word that no row fits, or bytes of which one
+/// isn't mapped.
+#[derive(Clone, Copy)]
+pub enum Fetched {
+    Known(FlatInsn),
+    Illegal(u32),
+    Unmapped,
+}
+
+impl Fetched {
+    /// What a word that was fetched is, if there is one.
+    pub fn of_word(word: Option<u32>) -> Fetched
+        ensures { (map : Map) (at : ℕ) → read map at 4 ≡ word → IsFetched map at result }
+    {
+        match word {
+            Some(word) => match decode_flat(word) {
+                Ok(insn) => Fetched::Known(insn),
+                Err(_) => Fetched::Illegal(word),
+            },
+            None => Fetched::Unmapped,
+        }
+    }
+}
 
 /// A memory that a hart runs on: little-endian, with a byte at each address that is mapped.
 /// `bytes` is the map that contracts see.
@@ -23,4 +50,22 @@ pub trait Memory {
     /// The four bytes from `at` on as an instruction's word.
     fn fetch(&self, at: u64) -> Option<u32>
         ensures { result ≡ read (bytes self.now) at 4 };
+
+    /// The instruction at `at`, where the memory knows it without decoding its word: a memory may
+    /// keep what it decoded for as long as the bytes there stay.
+    fn known(&self, at: u64) -> Option<FlatInsn>
+        requires { at % 4 ≡ 0 }
+        ensures { IfSome result (λ insn. IsKnown (bytes self.now) at insn) }
+    {
+        None
+    }
+
+    /// What stands at `at`, which the memory may keep.
+    fn instruction(&mut self, at: u64) -> Fetched
+        requires { at % 4 ≡ 0 }
+        ensures fetched { IsFetched (bytes self.old) at result }
+        ensures same { bytes self.new ≡ bytes self.old }
+    {
+        Fetched::of_word(self.fetch(at))
+    }
 }

@@ -1,15 +1,15 @@
-ghost use Rattle.std.specs.Prelude.{◌≡◌, ◌<◌, ◌-◌, ◌*◌, ◌%◌, ◌⊎◌};
+ghost use Rattle.std.specs.Prelude.{◌≡◌, ◌<◌, ◌*◌, ◌%◌, ◌⊎◌, ℕ, List, slice_index};
+ghost use Rattle.rv_insn.specs.Flat.{insn_of, HasRegisters};
+ghost use Rattle.rv_hart.specs.Map.{read};
+ghost use Rattle.rv_hart.specs.Parts.{hart_of};
+ghost use Rattle.rv_hart.specs.Registers.{reg};
+ghost use Rattle.rv_hart.specs.Step.{IsStep, row_of, passed, writes, jumps, loads, loads_signed, stores};
 
-use crate::arithmetic::{
-    difference, difference_32, extended_bytes, is_less, is_less_signed, product, product_32,
-    quotient, quotient_32, quotient_signed, quotient_signed_32, remainder, remainder_32,
-    remainder_signed, remainder_signed_32, shifted_left, shifted_left_32, shifted_right,
-    shifted_right_32, shifted_right_signed, shifted_right_signed_32, signed, sum, sum_32,
-    upper_product, upper_product_mixed, upper_product_signed, word_of,
-};
-use crate::hart::Hart;
-use crate::memory::Memory;
-use rv_insn::{Insn, decode};
+use crate::arithmetic::extended_bytes;
+use crate::effect::Effect;
+use crate::hart::{Hart, read_register, register, set_register};
+use crate::memory::{Fetched, Memory};
+use rv_insn::FlatInsn;
 
 /// Why a hart could not do an instruction. `Misaligned` has the program counter or the target of a
 /// jump, `Load` and `Store` the address that the instruction names.
@@ -32,290 +32,173 @@ pub enum Step {
 }
 
 impl Hart {
-    ghost use Rattle.rv_hart.specs.Map.{Map, read};
-    ghost use Rattle.rv_hart.specs.Registers.{reg};
-    ghost use Rattle.rv_hart.specs.Classes.{IsCombined, IsCombined32, IsComputed};
-    ghost use Rattle.rv_insn.specs.Range.{InRange};
-    ghost use Rattle.rv_hart.specs.Step.{
-      IsStep,
-      row_of,
-      over,
-      passed,
-      writes,
-      jumps,
-      branches,
-      loads,
-      loads_signed,
-      stores,
-      address,
-    };
-
     /// Does one instruction. After a trap the hart and the memory are as they were; after `Ecall`
     /// the program counter still names the call.
     pub fn step<M: Memory>(&mut self, memory: &mut M) -> Step
         ensures { IsStep self.old (M.bytes memory.old) (record { hart = self.new; map = M.bytes memory.new; answer = result }) }
     {
-        let pc = self.pc;
-        if pc % 4 != 0 {
-            return Step::Trap(pc, Cause::Misaligned(pc));
-        }
-        match memory.fetch(pc) {
-            None => Step::Trap(pc, Cause::Fetch),
-            Some(word) => match decode(word) {
-                Ok(insn) => self.execute(memory, insn),
-                Err(_) => Step::Trap(pc, Cause::Illegal(word)),
-            },
-        }
-    }
-
-    #[inline(always)]
-    fn execute<M: Memory>(&mut self, memory: &mut M, insn: Insn) -> Step
-        requires { InRange insn }
-        ensures { row_of insn self.old (M.bytes memory.old) ≡ record { hart = self.new; map = M.bytes memory.new; answer = result } }
-    {
-        match insn {
-            Insn::Lb { rd, rs1, imm } => self.load_signed(memory, rd, self.address(rs1, imm), 1),
-            Insn::Lh { rd, rs1, imm } => self.load_signed(memory, rd, self.address(rs1, imm), 2),
-            Insn::Lw { rd, rs1, imm } => self.load_signed(memory, rd, self.address(rs1, imm), 4),
-            Insn::Ld { rd, rs1, imm } => self.load(memory, rd, self.address(rs1, imm), 8),
-            Insn::Lbu { rd, rs1, imm } => self.load(memory, rd, self.address(rs1, imm), 1),
-            Insn::Lhu { rd, rs1, imm } => self.load(memory, rd, self.address(rs1, imm), 2),
-            Insn::Lwu { rd, rs1, imm } => self.load(memory, rd, self.address(rs1, imm), 4),
-            Insn::Sb { rs1, rs2, imm } => self.store(memory, self.address(rs1, imm), 1, rs2),
-            Insn::Sh { rs1, rs2, imm } => self.store(memory, self.address(rs1, imm), 2, rs2),
-            Insn::Sw { rs1, rs2, imm } => self.store(memory, self.address(rs1, imm), 4, rs2),
-            Insn::Sd { rs1, rs2, imm } => self.store(memory, self.address(rs1, imm), 8, rs2),
-            Insn::Beq { rs1, rs2, imm } => self.branch(self.reg(rs1) == self.reg(rs2), imm),
-            Insn::Bne { rs1, rs2, imm } => self.branch(self.reg(rs1) != self.reg(rs2), imm),
-            Insn::Blt { rs1, rs2, imm } => self.branch(
-                signed(self.reg(rs1)) < signed(self.reg(rs2)),
-                imm,
-            ),
-            Insn::Bge { rs1, rs2, imm } => self.branch(
-                signed(self.reg(rs1)) >= signed(self.reg(rs2)),
-                imm,
-            ),
-            Insn::Bltu { rs1, rs2, imm } => self.branch(self.reg(rs1) < self.reg(rs2), imm),
-            Insn::Bgeu { rs1, rs2, imm } => self.branch(self.reg(rs1) >= self.reg(rs2), imm),
-            Insn::Lui { rd, imm } => self.write(rd, word_of(imm)),
-            Insn::Auipc { rd, imm } => self.write(rd, sum(self.pc, word_of(imm))),
-            Insn::Jal { rd, imm } => self.jump(rd, sum(self.pc, word_of(imm))),
-            Insn::Jalr { rd, rs1, imm } => self.jump(rd, even(self.address(rs1, imm))),
-            Insn::Fence { .. } => self.pass(),
-            Insn::Ecall => Step::Ecall,
-            Insn::Ebreak => self.trap(Cause::Break),
-            _ => {
-                let (rd, value) = self.computed(insn);
-                self.write(rd, value)
-            }
-        }
-    }
-
-    // The register that is written and its value, of a row on a register and an immediate.
-    #[inline(always)]
-    fn computed(&self, insn: Insn) -> (u8, u64)
-        requires in_range { InRange insn }
-        requires computed { IsComputed insn }
-        ensures named { result.0 < 32 }
-        ensures value { (map : Map) → row_of insn self.now map ≡ over map (writes self.now result.0 result.1) }
-    {
-        match insn {
-            Insn::Addi { rd, rs1, imm } => (rd, sum(self.reg(rs1), word_of(imm))),
-            Insn::Slti { rd, rs1, imm } => (rd, is_less_signed(self.reg(rs1), word_of(imm))),
-            Insn::Sltiu { rd, rs1, imm } => (rd, is_less(self.reg(rs1), word_of(imm))),
-            Insn::Xori { rd, rs1, imm } => (rd, self.reg(rs1) ^ word_of(imm)),
-            Insn::Ori { rd, rs1, imm } => (rd, self.reg(rs1) | word_of(imm)),
-            Insn::Andi { rd, rs1, imm } => (rd, self.reg(rs1) & word_of(imm)),
-            Insn::Slli { rd, rs1, amount } => (rd, shifted_left(self.reg(rs1), word_of(amount))),
-            Insn::Srli { rd, rs1, amount } => (rd, shifted_right(self.reg(rs1), word_of(amount))),
-            Insn::Srai { rd, rs1, amount } => (
-                rd,
-                shifted_right_signed(self.reg(rs1), word_of(amount)),
-            ),
-            Insn::Addiw { rd, rs1, imm } => (rd, sum_32(self.reg(rs1), word_of(imm))),
-            Insn::Slliw { rd, rs1, amount } => (
-                rd,
-                shifted_left_32(self.reg(rs1), word_of(amount)),
-            ),
-            Insn::Srliw { rd, rs1, amount } => (
-                rd,
-                shifted_right_32(self.reg(rs1), word_of(amount)),
-            ),
-            Insn::Sraiw { rd, rs1, amount } => (
-                rd,
-                shifted_right_signed_32(self.reg(rs1), word_of(amount)),
-            ),
-            _ => self.combined(insn),
-        }
-    }
-
-    // The same of a row on two registers.
-    #[inline(always)]
-    fn combined(&self, insn: Insn) -> (u8, u64)
-        requires in_range { InRange insn }
-        requires combined { IsCombined insn }
-        ensures named { result.0 < 32 }
-        ensures value { (map : Map) → row_of insn self.now map ≡ over map (writes self.now result.0 result.1) }
-    {
-        match insn {
-            Insn::Add { rd, rs1, rs2 } => (rd, sum(self.reg(rs1), self.reg(rs2))),
-            Insn::Sub { rd, rs1, rs2 } => (rd, difference(self.reg(rs1), self.reg(rs2))),
-            Insn::Sll { rd, rs1, rs2 } => (rd, shifted_left(self.reg(rs1), self.reg(rs2))),
-            Insn::Slt { rd, rs1, rs2 } => (rd, is_less_signed(self.reg(rs1), self.reg(rs2))),
-            Insn::Sltu { rd, rs1, rs2 } => (rd, is_less(self.reg(rs1), self.reg(rs2))),
-            Insn::Xor { rd, rs1, rs2 } => (rd, self.reg(rs1) ^ self.reg(rs2)),
-            Insn::Srl { rd, rs1, rs2 } => (rd, shifted_right(self.reg(rs1), self.reg(rs2))),
-            Insn::Sra { rd, rs1, rs2 } => (rd, shifted_right_signed(self.reg(rs1), self.reg(rs2))),
-            Insn::Or { rd, rs1, rs2 } => (rd, self.reg(rs1) | self.reg(rs2)),
-            Insn::And { rd, rs1, rs2 } => (rd, self.reg(rs1) & self.reg(rs2)),
-            Insn::Mul { rd, rs1, rs2 } => (rd, product(self.reg(rs1), self.reg(rs2))),
-            Insn::Mulh { rd, rs1, rs2 } => (rd, upper_product_signed(self.reg(rs1), self.reg(rs2))),
-            Insn::Mulhsu { rd, rs1, rs2 } => (
-                rd,
-                upper_product_mixed(self.reg(rs1), self.reg(rs2)),
-            ),
-            Insn::Mulhu { rd, rs1, rs2 } => (rd, upper_product(self.reg(rs1), self.reg(rs2))),
-            Insn::Div { rd, rs1, rs2 } => (rd, quotient_signed(self.reg(rs1), self.reg(rs2))),
-            Insn::Divu { rd, rs1, rs2 } => (rd, quotient(self.reg(rs1), self.reg(rs2))),
-            Insn::Rem { rd, rs1, rs2 } => (rd, remainder_signed(self.reg(rs1), self.reg(rs2))),
-            Insn::Remu { rd, rs1, rs2 } => (rd, remainder(self.reg(rs1), self.reg(rs2))),
-            _ => self.combined_32(insn),
-        }
-    }
-
-    // The same of a row on the low 32 bits of two registers.
-    #[inline(always)]
-    fn combined_32(&self, insn: Insn) -> (u8, u64)
-        requires in_range { InRange insn }
-        requires combined { IsCombined32 insn }
-        ensures named { result.0 < 32 }
-        ensures value { (map : Map) → row_of insn self.now map ≡ over map (writes self.now result.0 result.1) }
-    {
-        match insn {
-            Insn::Addw { rd, rs1, rs2 } => (rd, sum_32(self.reg(rs1), self.reg(rs2))),
-            Insn::Subw { rd, rs1, rs2 } => (rd, difference_32(self.reg(rs1), self.reg(rs2))),
-            Insn::Sllw { rd, rs1, rs2 } => (rd, shifted_left_32(self.reg(rs1), self.reg(rs2))),
-            Insn::Srlw { rd, rs1, rs2 } => (rd, shifted_right_32(self.reg(rs1), self.reg(rs2))),
-            Insn::Sraw { rd, rs1, rs2 } => (
-                rd,
-                shifted_right_signed_32(self.reg(rs1), self.reg(rs2)),
-            ),
-            Insn::Mulw { rd, rs1, rs2 } => (rd, product_32(self.reg(rs1), self.reg(rs2))),
-            Insn::Divw { rd, rs1, rs2 } => (rd, quotient_signed_32(self.reg(rs1), self.reg(rs2))),
-            Insn::Divuw { rd, rs1, rs2 } => (rd, quotient_32(self.reg(rs1), self.reg(rs2))),
-            Insn::Remw { rd, rs1, rs2 } => (rd, remainder_signed_32(self.reg(rs1), self.reg(rs2))),
-            Insn::Remuw { rd, rs1, rs2 } => (rd, remainder_32(self.reg(rs1), self.reg(rs2))),
-            _ => unreachable!(),
-        }
-    }
-
-    #[inline(always)]
-    fn trap(&self, cause: Cause) -> Step
-        ensures { result ≡ Step.Trap self.now.pc cause }
-    {
-        Step::Trap(self.pc, cause)
-    }
-
-    #[inline(always)]
-    fn pass(&mut self) -> Step
-        ensures { passed self.old ≡ record { hart = self.new; answer = result } }
-    {
-        self.pc = self.pc.wrapping_add(4);
-        Step::Next
-    }
-
-    #[inline(always)]
-    fn write(&mut self, rd: u8, value: u64) -> Step
-        requires { rd < 32 }
-        ensures { writes self.old rd value ≡ record { hart = self.new; answer = result } }
-    {
-        self.set_register(rd, value);
-        self.pass()
-    }
-
-    #[inline(always)]
-    fn jump(&mut self, rd: u8, target: u64) -> Step
-        requires { rd < 32 }
-        ensures { jumps self.old rd target ≡ record { hart = self.new; answer = result } }
-    {
-        if target % 4 != 0 {
-            return self.trap(Cause::Misaligned(target));
-        }
-        self.set_register(rd, self.pc.wrapping_add(4));
-        self.pc = target;
-        Step::Next
-    }
-
-    #[inline(always)]
-    fn branch(&mut self, taken: bool, imm: i64) -> Step
-        ensures { branches self.old taken imm ≡ record { hart = self.new; answer = result } }
-    {
-        if taken {
-            self.jump(0, self.pc.wrapping_add(word_of(imm)))
-        } else {
-            self.pass()
-        }
-    }
-
-    #[inline(always)]
-    fn load<M: Memory>(&mut self, memory: &M, rd: u8, at: u64, width: u8) -> Step
-        requires wide { (width ≡ 1) ⊎ (width ≡ 2) ⊎ (width ≡ 4) ⊎ (width ≡ 8) }
-        requires named { rd < 32 }
-        ensures { loads self.old rd at (read (M.bytes memory.now) at width) ≡ record { hart = self.new; answer = result } }
-    {
-        match memory.load(at, width) {
-            Some(value) => self.write(rd, value),
-            None => self.trap(Cause::Load(at)),
-        }
-    }
-
-    #[inline(always)]
-    fn load_signed<M: Memory>(&mut self, memory: &M, rd: u8, at: u64, width: u8) -> Step
-        requires wide { (width ≡ 1) ⊎ (width ≡ 2) ⊎ (width ≡ 4) }
-        requires named { rd < 32 }
-        ensures { loads_signed self.old rd at (8 * width) (read (M.bytes memory.now) at width) ≡ record { hart = self.new; answer = result } }
-    {
-        match memory.load(at, width) {
-            Some(value) => self.write(rd, extended_bytes(value, width)),
-            None => self.trap(Cause::Load(at)),
-        }
-    }
-
-    #[inline(always)]
-    fn store<M: Memory>(&mut self, memory: &mut M, at: u64, width: u8, rs2: u8) -> Step
-        requires wide { (width ≡ 1) ⊎ (width ≡ 2) ⊎ (width ≡ 4) ⊎ (width ≡ 8) }
-        requires named { rs2 < 32 }
-        ensures { stores self.old (M.bytes memory.old) at width (reg self.old rs2) (read (M.bytes memory.old) at width) ≡ record { hart = self.new; map = M.bytes memory.new; answer = result } }
-    {
-        if memory.store(at, width, self.reg(rs2)) {
-            self.pass()
-        } else {
-            self.trap(Cause::Store(at))
-        }
-    }
-
-    #[inline(always)]
-    fn address(&self, rs1: u8, imm: i64) -> u64
-        requires { rs1 < 32 }
-        ensures { result ≡ address self.now rs1 imm }
-    {
-        sum(self.reg(rs1), word_of(imm))
-    }
-
-    // Short, since the rows say it so often.
-    #[inline(always)]
-    fn reg(&self, r: u8) -> u64
-        requires { r < 32 }
-        ensures { result ≡ reg self.now r }
-    {
-        self.register(r)
+        step_any(&mut self.pc, &mut self.x, memory)
     }
 }
 
-/// The target of a jump, whose bit 0 is cleared.
+/// A step of a hart in two parts, so that a loop can hold the program counter by itself. Where the
+/// memory knows the instruction, it is not decoded, and registers are read without a look at their
+/// number, since place 0 has 0.
 #[inline(always)]
-fn even(target: u64) -> u64
-    ensures { result ≡ target - target % 2 }
+pub fn step_at<M: Memory>(pc: &mut u64, x: &mut [u64; 32], memory: &mut M) -> Step
+    requires { slice_index x.old 0 ≡ 0 }
+    ensures step { IsStep (hart_of pc.old x.old) (M.bytes memory.old) (record { hart = hart_of pc.new x.new; map = M.bytes memory.new; answer = result }) }
+    ensures zero { slice_index x.new 0 ≡ 0 }
 {
-    target - target % 2
+    if *pc % 4 != 0 {
+        return Step::Trap(*pc, Cause::Misaligned(*pc));
+    }
+    match memory.known(*pc) {
+        Some(insn) => {
+            let (a, b) = (read_register(x, insn.rs1), read_register(x, insn.rs2));
+            execute(pc, x, memory, insn, a, b)
+        }
+        None => step_apart(pc, x, memory),
+    }
+}
+
+/// A step by a call, which is given no place of the caller's but the registers.
+#[inline(always)]
+fn step_apart<M: Memory>(pc: &mut u64, x: &mut [u64; 32], memory: &mut M) -> Step
+    ensures step { IsStep (hart_of pc.old x.old) (M.bytes memory.old) (record { hart = hart_of pc.new x.new; map = M.bytes memory.new; answer = result }) }
+    ensures zero { slice_index x.new 0 ≡ slice_index x.old 0 }
+{
+    let (next, step) = step_from(*pc, x, memory);
+    *pc = next;
+    step
+}
+
+#[inline(never)]
+fn step_from<M: Memory>(pc: u64, x: &mut [u64; 32], memory: &mut M) -> (u64, Step)
+    ensures step { IsStep (hart_of pc x.old) (M.bytes memory.old) (record { hart = hart_of result.0 x.new; map = M.bytes memory.new; answer = result.1 }) }
+    ensures zero { slice_index x.new 0 ≡ slice_index x.old 0 }
+{
+    let mut at = pc;
+    let step = step_any(&mut at, x, memory);
+    (at, step)
+}
+
+/// A step whose instruction is looked for, whatever stands at place 0 of the registers.
+fn step_any<M: Memory>(pc: &mut u64, x: &mut [u64; 32], memory: &mut M) -> Step
+    ensures step { IsStep (hart_of pc.old x.old) (M.bytes memory.old) (record { hart = hart_of pc.new x.new; map = M.bytes memory.new; answer = result }) }
+    ensures zero { slice_index x.new 0 ≡ slice_index x.old 0 }
+{
+    let at = *pc;
+    if at % 4 != 0 {
+        return Step::Trap(at, Cause::Misaligned(at));
+    }
+    match memory.instruction(at) {
+        Fetched::Known(insn) => {
+            let (a, b) = (register(x, insn.rs1), register(x, insn.rs2));
+            execute(pc, x, memory, insn, a, b)
+        }
+        Fetched::Illegal(word) => Step::Trap(at, Cause::Illegal(word)),
+        Fetched::Unmapped => Step::Trap(at, Cause::Fetch),
+    }
+}
+
+/// What is left of an instruction is done, with what its registers hold.
+#[inline(always)]
+fn execute<M: Memory>(pc: &mut u64, x: &mut [u64; 32], memory: &mut M, insn: FlatInsn, a: u64, b: u64) -> Step
+    requires registers { HasRegisters insn }
+    requires first { reg (hart_of pc.old x.old) insn.rs1 ≡ a }
+    requires second { reg (hart_of pc.old x.old) insn.rs2 ≡ b }
+    ensures row { row_of (insn_of insn) (hart_of pc.old x.old) (M.bytes memory.old) ≡ record { hart = hart_of pc.new x.new; map = M.bytes memory.new; answer = result } }
+    ensures zero { slice_index x.new 0 ≡ slice_index x.old 0 }
+{
+    let rd = insn.rd;
+    match Effect::of_insn(insn, *pc, a, b) {
+        Effect::Writes(value) => write(pc, x, rd, value),
+        Effect::Passes => pass(pc),
+        Effect::Goes(target) => jump(pc, x, 0, target),
+        Effect::Links(target) => jump(pc, x, rd, target),
+        Effect::Lb(at) => load_signed(pc, x, memory, rd, at, 1),
+        Effect::Lh(at) => load_signed(pc, x, memory, rd, at, 2),
+        Effect::Lw(at) => load_signed(pc, x, memory, rd, at, 4),
+        Effect::Ld(at) => load(pc, x, memory, rd, at, 8),
+        Effect::Lbu(at) => load(pc, x, memory, rd, at, 1),
+        Effect::Lhu(at) => load(pc, x, memory, rd, at, 2),
+        Effect::Lwu(at) => load(pc, x, memory, rd, at, 4),
+        Effect::Sb(at, value) => store(pc, memory, at, 1, value),
+        Effect::Sh(at, value) => store(pc, memory, at, 2, value),
+        Effect::Sw(at, value) => store(pc, memory, at, 4, value),
+        Effect::Sd(at, value) => store(pc, memory, at, 8, value),
+        Effect::Calls => Step::Ecall,
+        Effect::Breaks => Step::Trap(*pc, Cause::Break),
+    }
+}
+
+#[inline(always)]
+fn pass(pc: &mut u64) -> Step
+    ensures { (x : List ℕ) → passed (hart_of pc.old x) ≡ record { hart = hart_of pc.new x; answer = result } }
+{
+    *pc = pc.wrapping_add(4);
+    Step::Next
+}
+
+#[inline(always)]
+fn write(pc: &mut u64, x: &mut [u64; 32], rd: u8, value: u64) -> Step
+    requires { rd < 32 }
+    ensures turn { writes (hart_of pc.old x.old) rd value ≡ record { hart = hart_of pc.new x.new; answer = result } }
+    ensures zero { slice_index x.new 0 ≡ slice_index x.old 0 }
+{
+    set_register(x, rd, value);
+    pass(pc)
+}
+
+#[inline(always)]
+fn jump(pc: &mut u64, x: &mut [u64; 32], rd: u8, target: u64) -> Step
+    requires { rd < 32 }
+    ensures turn { jumps (hart_of pc.old x.old) rd target ≡ record { hart = hart_of pc.new x.new; answer = result } }
+    ensures zero { slice_index x.new 0 ≡ slice_index x.old 0 }
+{
+    if target % 4 != 0 {
+        return Step::Trap(*pc, Cause::Misaligned(target));
+    }
+    set_register(x, rd, pc.wrapping_add(4));
+    *pc = target;
+    Step::Next
+}
+
+#[inline(always)]
+fn load<M: Memory>(pc: &mut u64, x: &mut [u64; 32], memory: &M, rd: u8, at: u64, width: u8) -> Step
+    requires wide { (width ≡ 1) ⊎ (width ≡ 2) ⊎ (width ≡ 4) ⊎ (width ≡ 8) }
+    requires named { rd < 32 }
+    ensures turn { loads (hart_of pc.old x.old) rd at (read (M.bytes memory.now) at width) ≡ record { hart = hart_of pc.new x.new; answer = result } }
+    ensures zero { slice_index x.new 0 ≡ slice_index x.old 0 }
+{
+    match memory.load(at, width) {
+        Some(value) => write(pc, x, rd, value),
+        None => Step::Trap(*pc, Cause::Load(at)),
+    }
+}
+
+#[inline(always)]
+fn load_signed<M: Memory>(pc: &mut u64, x: &mut [u64; 32], memory: &M, rd: u8, at: u64, width: u8) -> Step
+    requires wide { (width ≡ 1) ⊎ (width ≡ 2) ⊎ (width ≡ 4) }
+    requires named { rd < 32 }
+    ensures turn { loads_signed (hart_of pc.old x.old) rd at (8 * width) (read (M.bytes memory.now) at width) ≡ record { hart = hart_of pc.new x.new; answer = result } }
+    ensures zero { slice_index x.new 0 ≡ slice_index x.old 0 }
+{
+    match memory.load(at, width) {
+        Some(value) => write(pc, x, rd, extended_bytes(value, width)),
+        None => Step::Trap(*pc, Cause::Load(at)),
+    }
+}
+
+#[inline(always)]
+fn store<M: Memory>(pc: &mut u64, memory: &mut M, at: u64, width: u8, value: u64) -> Step
+    requires { (width ≡ 1) ⊎ (width ≡ 2) ⊎ (width ≡ 4) ⊎ (width ≡ 8) }
+    ensures { (x : List ℕ) → stores (hart_of pc.old x) (M.bytes memory.old) at width value (read (M.bytes memory.old) at width) ≡ record { hart = hart_of pc.new x; map = M.bytes memory.new; answer = result } }
+{
+    if memory.store(at, width, value) {
+        pass(pc)
+    } else {
+        Step::Trap(*pc, Cause::Store(at))
+    }
 }

@@ -1,10 +1,12 @@
 ghost use Rattle.std.specs.Prelude.{◌≡◌, IfOk, OnErr};
 ghost use Rattle.orc_words.specs.Bits.{bits_at};
+ghost use Rattle.rv_insn.specs.Flat.{insn_of, HasRegisters};
 ghost use Rattle.rv_insn.specs.Range.{InRange};
 ghost use Rattle.rv_insn.specs.Rows.{Fits};
 ghost use Rattle.rv_insn.specs.declared.insn.Insn.{Insn};
 
 use crate::fields::{amount_5, amount_6, f3, f6, f7, opcode, rd, rs1, rs2};
+use crate::flat::FlatInsn;
 use crate::insn::{Illegal, Insn};
 use crate::rows;
 use orc_words::{b_immediate, i_immediate, j_immediate, s_immediate, u_immediate};
@@ -72,6 +74,16 @@ pub fn decode(word: u32) -> Result<Insn, Illegal>
     ensures in_range { IfOk result InRange }
 {
     fitting(word)
+}
+
+/// The same with its parts side by side.
+#[inline(always)]
+pub fn decode_flat(word: u32) -> Result<FlatInsn, Illegal>
+    ensures found { IfOk result (λ i. Fits (insn_of i) word) }
+    ensures illegal { OnErr result ((i : Insn) → Fits i word → ⊥) }
+    ensures registers { IfOk result HasRegisters }
+{
+    Ok(FlatInsn::of_insn(decode(word)?))
 }
 
 #[inline(always)]

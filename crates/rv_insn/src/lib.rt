@@ -13,10 +13,12 @@
 mod decoding;
 mod encoding;
 mod fields;
+mod flat;
 mod formats;
 mod insn;
 mod table;
 
-pub use decoding::decode;
+pub use decoding::{decode, decode_flat};
 pub use encoding::encode;
+pub use flat::{FlatInsn, Kind};
 pub use insn::{Illegal, Insn};

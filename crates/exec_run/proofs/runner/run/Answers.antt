@@ -1,9 +1,14 @@
 -- The machine starts where the run does, and a run has one end.
-use Rattle.std.proofs.Common.{◌∙◌, sym, subst}
+use Rattle.std.proofs.Common.{◌∙◌, ap, sym, subst}
+use Rattle.std.specs.Prelude.{slice_index}
+use Rattle.exec_run.specs.Host.{State}
 use Rattle.code_memory.specs.Mapped.{byte_at}
 use Rattle.exec_run.specs.Run.{RunsFrom, RunsTo, start}
 use Rattle.exec_run.proofs.Runs.{runs_same}
 use Rattle.exec_run.proofs.runner.run.Goals as goal
+
+pub run-requires : goal.run-requires
+run-requires c = ap (λ (s : State). slice_index s.hart.x 0) c.in_ok-machine.ensures
 
 pub returns : goal.returns
 returns c =

@@ -5,7 +5,7 @@ use Rattle.exec_run.specs.Machine.{state_of}
 use Rattle.exec_run.proofs.Calls.{call_none}
 use Rattle.exec_run.proofs.machine.Machine.call.Goals as goal
 
-pub returns : goal.returns
-returns c =
+pub returns-clause-called : goal.returns-clause-called
+returns-clause-called c =
     call_none (state_of c.args.self.now) (λ e. c.if-number-eq-EXIT.false (c.register-number.ensures ∙ e)) (λ e. c.if-number-eq-WRITE.false (c.register-number.ensures ∙ e))
-    ∙ ap goes (sym c.answer.ensures)
+    ∙ ap goes (sym c.answer.ensures.answered)

@@ -9,17 +9,17 @@ pub returns-then-is_on_stack-clause-found : goal.returns-then-is_on_stack-clause
 returns-then-is_on_stack-clause-found c =
     let i = c.self.inside in
     let on = c.is_on_stack.ensures.0 c.if-is_on_stack.true in
-    subst (λ ss. IsRest ss c.args.at c.bytes_from.result.now) c.self.view_is (rest_top i.ranges i.stack c.args.at c.bytes_from.result.now c.self.invariant on.0 c.bytes_from.ensures)
+    subst (λ ss. IsRest ss c.args.at c.bytes_from.result.now) c.self.view_is (rest_top i.ranges i.stack c.args.at c.bytes_from.result.now c.self.invariant.top on.0 c.bytes_from.ensures)
 
 pub returns-clause-found : goal.returns-clause-found
 returns-clause-found c =
     let i = c.self.inside in
     some_so c.rest_from.result _ _ c.rest_from.ensures.found
-    (λ rest part. subst (λ ss. IsRest ss c.args.at rest.now) c.self.view_is (rest_low i.ranges i.stack c.args.at rest.now c.self.invariant part))
+    (λ rest part. subst (λ ss. IsRest ss c.args.at rest.now) c.self.view_is (rest_low i.ranges i.stack c.args.at rest.now c.self.invariant.top part))
 
 pub returns-clause-missing : goal.returns-clause-missing
 returns-clause-missing c =
     let i = c.self.inside in
     let off = off_stack c.is_on_stack.result c.args.at c.is_on_stack.ensures c.if-is_on_stack.false in
     none_so c.rest_from.result _ _ c.rest_from.ensures.missing
-    (λ none. subst (λ ss. byte_at ss c.args.at ≡ None) c.self.view_is (none_low i.ranges i.stack c.args.at c.self.invariant off none))
+    (λ none. subst (λ ss. byte_at ss c.args.at ≡ None) c.self.view_is (none_low i.ranges i.stack c.args.at c.self.invariant.top off none))
