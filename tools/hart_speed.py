@@ -27,15 +27,16 @@ def loop(body, start=""):
 
 
 def pushed(rng, count):
-    """Straight code as a compiler for a stack machine makes it: each step pops two values and pushes one."""
+    """Straight code as a compiler for a stack machine makes it: it pushes a number, pops two and pushes what comes of them."""
     lines = []
-    for _ in range(count // 4):
-        lines += ["  ld t0, 0(sp)", "  ld t1, 8(sp)", f"  {rng.choice(['add', 'sub', 'xor', 'and', 'or'])} t0, t0, t1", "  sd t0, 8(sp)"]
+    for _ in range(count // 8):
+        lines += [f"  li t0, {rng.randrange(2048)}", "  addi sp, sp, -8", "  sd t0, 0(sp)"]
+        lines += ["  ld t1, 0(sp)", "  addi sp, sp, 8", "  ld t0, 0(sp)", f"  {rng.choice(['add', 'sub', 'xor', 'and', 'or'])} t0, t0, t1", "  sd t0, 0(sp)"]
     return "\n".join(lines) + "\n"
 
 
 def stack_machine(count):
-    """A loop of 64 such steps."""
+    """A loop of 32 such steps."""
     body = pushed(random.Random(1), 256)
     return [f".globl main\nmain: addi sp, sp, -32\n  li a1, {count}\n  li a0, 0\n1:\n{body}  addi a0, a0, 1\n  beq a0, a1, 2f\n  j 1b\n2: andi a0, a0, 63\n  addi sp, sp, 32\n  ret\n"]
 

@@ -1,5 +1,5 @@
 -- What a call to the host does, case by case.
-use Rattle.std.proofs.Common.{◌≡◌, ◌≢◌, ⊎_elim, ℕ, true, false, Option, Some, None, Result, Ok, Err, ◌+◌, ◌<◌, ◌≤◌, List, ◌++◌, length, refl, ap, sym, ◌∙◌, cond, arith}
+use Rattle.std.proofs.Common.{◌≡◌, ◌≢◌, ⊎_elim, inr, ℕ, true, false, Option, Some, None, Result, Ok, Err, ◌+◌, ◌<◌, ◌≤◌, List, ◌++◌, length, refl, ap, sym, ◌∙◌, cond, arith}
 use Rattle.std.specs.Prelude.{◌==◌, IfOk, IsSome, IsSomeAnd, is_some}
 use Rattle.std.proofs.lemmas.Bool.{eq-eqb}
 use Rattle.std.proofs.lemmas.Bool.Decides.{eqb_tells}
@@ -13,8 +13,8 @@ use Rattle.exec_run.specs.declared.ran.RunEnd.{RunEnd}
 use Rattle.exec_run.specs.declared.ran.RunEnd.TheVariants.{Exited, OutputFull}
 use Rattle.exec_run.specs.Bytes.{bytes_from}
 use Rattle.exec_run.specs.Host.{State, goes, ends, answered, wrote, write_call, called}
-use Rattle.exec_run.specs.Machine.{IsCalled, IsWritten, IsTaken}
-use Rattle.exec_run.specs.Run.{after, stepped}
+use Rattle.exec_run.specs.Machine.{IsCalled, IsWritten, IsTaken, IsPassed}
+use Rattle.exec_run.specs.Run.{after, stepped, is_home}
 use Rattle.exec_run.proofs.Regions.{below_is, not_below}
 
 pub not_equal : (a b : ℕ) → a ≢ b → (a == b) ≡ false
@@ -69,6 +69,11 @@ pub taken_of : {E : Type 0} (r : Result (Option RunEnd) E) (old new : State) (d 
 taken_of (Ok None) old new d step call h = record { done = d; is_step = step; leads = sym h ∙ sym (ap (after (stepped old d)) call) }
 taken_of (Ok (Some e)) old new d step call h = (record { done = d; is_step = step; leads = sym h.0 ∙ sym (ap (after (stepped old d)) call) }, h.1)
 taken_of (Err e) old new d step call h = tt
+
+pub passed_of : {E : Type 0} (r : Result (Option RunEnd) E) (old new : State) → is_home old ≡ false → IfOk r (λ end. IsTaken old end new) → IfOk r (λ end. IsPassed old end new)
+passed_of (Ok None) old new away h = record { away = away; taken = h }
+passed_of (Ok (Some e)) old new away h = inr (record { away = away; taken = h })
+passed_of (Err e) old new away h = tt
 
 -- the bytes that the registers name
 pub at_registers : (map : Map) (a b x y : ℕ) (o : Option (List ℕ)) → a ≡ x → b ≡ y → bytes_from map a b ≡ o → bytes_from map x y ≡ o

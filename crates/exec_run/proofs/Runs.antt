@@ -1,16 +1,19 @@
 -- How a run goes on turn by turn, and that it has one end.
-use Rattle.std.proofs.Common.{◌≡◌, ℕ, Bool, true, false, Some, List, zero, suc, refl, ap, sym, ◌∙◌, subst}
+use Rattle.std.proofs.Common.{◌≡◌, ◌≢◌, ◌⊎◌, ⊎_elim, ◌%◌, ℕ, Bool, true, false, Some, List, zero, suc, refl, ap, sym, ◌∙◌, cond, subst, arith}
 use Rattle.std.specs.Bool.{MatchBool}
 use Rattle.rv_hart.specs.declared.hart.Hart.{Hart}
 use Rattle.rv_hart.specs.Map.{Map}
 use Rattle.rv_hart.specs.Registers.{reg}
-use Rattle.rv_hart.specs.declared.step.Cause.TheVariants.{Illegal}
+use Rattle.std.specs.Prelude.{◌==◌, if◌then◌else◌}
+use Rattle.rv_hart.specs.declared.step.Cause.TheVariants.{Illegal, Misaligned}
 use Rattle.rv_hart.specs.Step.{Stepped, IsStep, misaligned, unmapped, fits, illegal, row_of, over, trapped}
 use Rattle.rv_insn.specs.Rows.{Fits}
 use Rattle.rv_insn.proofs.OneInsn.{one_insn}
 use Rattle.exec_run.specs.declared.ran.RunEnd.{RunEnd}
-use Rattle.exec_run.specs.declared.ran.RunEnd.TheVariants.{Exited, OutOfFuel}
+use Rattle.exec_run.specs.declared.ran.RunEnd.TheVariants.{Exited, OutOfFuel, Trap}
 use Rattle.exec_run.specs.Host.{State, Turn, goes, ends}
+use Rattle.exec_run.proofs.Calls.{not_equal}
+use Rattle.exec_run.specs.Machine.{IsPassed, IsHome, IsAway}
 use Rattle.exec_run.specs.Run.{IsTurn, IsEnd, Continues, is_home, after, stepped, RunsFrom}
 
 pub runs_home : (n : ℕ) (s : State) → is_home s ≡ true → RunsFrom n s (Exited (reg s.hart 10)) s.output
@@ -103,3 +106,18 @@ unfolding RunsFrom
 runs_same zero s end end' output output' a b = out_same s end end' output output' (is_home s) a b
 runs_same (suc n) s end end' output output' a b =
     turns_same (λ next e o. RunsFrom n next e o) s end end' output output' (is_home s) (λ next x y. runs_same n next end end' output output' x y) a b
+
+-- a run that ends here, at home or by a turn
+pub runs_over : (n m : ℕ) (s new : State) (e : RunEnd) → n ≡ suc m → IsPassed s (Some e) new → RunsFrom n s e new.output
+runs_over n m s new e more passed =
+    ⊎_elim (λ (h : IsHome s e new). subst (λ o. RunsFrom n s e o) (sym h.same) (subst (λ x. RunsFrom n s x s.output) (sym h.exited) (runs_home n s h.home)))
+    (λ (h : IsAway s (Some e) new). let taken = h.taken in runs_end n m s e new.output more h.away taken.0 taken.1) passed
+
+-- a run that begins where no instruction can stand
+pub runs_misaligned : (n : ℕ) (s : State) → s.hart.pc % 4 ≢ 0 → is_home s ≡ false → RunsFrom n s (if n == 0 then OutOfFuel else Trap s.hart.pc (Misaligned s.hart.pc)) s.output
+runs_misaligned zero s odd away = runs_out zero s refl away
+runs_misaligned (suc n) s odd away =
+    let more : (suc n == 0) ≡ false = not_equal (suc n) 0 (λ e. let no : ⊥ = omega (arith, e) in no) in
+    subst (λ b. RunsFrom (suc n) s (cond b OutOfFuel (Trap s.hart.pc (Misaligned s.hart.pc))) s.output) (sym more)
+    (runs_end (suc n) n s (Trap s.hart.pc (Misaligned s.hart.pc)) s.output refl away
+    (record { done = over s.map (trapped s.hart (Misaligned s.hart.pc)); is_step = misaligned odd refl; leads = refl }) refl)

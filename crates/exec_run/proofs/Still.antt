@@ -1,6 +1,6 @@
 -- What is kept of instructions, and that stores elsewhere leave it right.
 use Rattle.std.proofs.Common.{◌≡◌, ◌≢◌, ◌⊎◌, ⊎_elim, inl, inr, ℕ, zero, suc, Bool, true, false, Option, Some, None, ◌+◌, ◌-◌, ◌/◌, ◌%◌, ◌^◌, ◌<◌, ◌≤◌, List, length, set, refl, ap, sym, ◌∙◌, cond, subst, arith, length-set}
-use Rattle.std.specs.Prelude.{slice_get, nat_lt, ◌==◌}
+use Rattle.std.specs.Prelude.{slice_get, nat_lt, IfSome, ◌==◌}
 use Rattle.std.specs.Bool.{OnTrue, OnFalse}
 use Rattle.std.proofs.lemmas.Bool.Decides.{eqb_tells}
 use Rattle.list_laws.proofs.Lists.{set_there, set_elsewhere}
@@ -11,7 +11,7 @@ use Rattle.code_memory.specs.declared.image.Segment.{Segment}
 use Rattle.code_memory.specs.Mapped.{byte_at, AreSegments}
 use Rattle.orc_ids.specs.declared.limits.TheConstants.{CODE_START, CODE_END}
 use Rattle.exec_run.specs.declared.decoded.Place.{Place}
-use Rattle.exec_run.specs.declared.host.TheConstants.{STACK_START}
+use Rattle.exec_run.specs.declared.host.TheConstants.{HOME, STACK_START}
 use Rattle.exec_run.specs.Decoded.{place_of, kept_in, kept_at, IsKept, IsForgotten, AreForgotten, IsStill, AreStill}
 use Rattle.exec_run.specs.Regions.{IsIn}
 use Rattle.exec_run.proofs.Calls.{not_equal}
@@ -79,6 +79,14 @@ still_kept ss d e at insn kept aligned low known still = λ other i even there.
     let here : IsStill ss at insn = record { known = known; low = omega (arith, aligned, low) } in
     subst (λ a. IsStill ss a i) (sym fresh.0) (subst (λ k. IsStill ss at k) (sym fresh.1) here))
     (λ (old : kept_at d other ≡ Some i). still other i even old) (kept other i even there)
+
+pub kept_still : (ss : List Segment) (d : List Place) (at : ℕ) (o : Option FlatInsn) → o ≡ kept_at d at → at % 4 ≡ 0 → AreStill ss d → IfSome o (λ insn. IsStill ss at insn)
+kept_still ss d at None is aligned still = tt
+kept_still ss d at (Some insn) is aligned still = still at insn aligned (sym is)
+
+-- nothing is kept of home
+pub is_away : (ss : List Segment) (pc : ℕ) (insn : FlatInsn) → IsStill ss pc insn → (pc == HOME) ≡ false
+is_away ss pc insn still = not_equal pc HOME (λ e. let no : ⊥ = omega (arith, e, still.low) in no)
 
 pub in_code : (ss : List Segment) (k at : ℕ) → AreSegments ss → IsIn ss k at → at ≤ STACK_START
 in_code ss k at apart is =

@@ -65,7 +65,11 @@ impl Decoded {
         ensures { result ≡ kept_at self.now at }
     {
         let place = &self.places[place_of(self.mask, at)];
-        if place.at == at { Some(place.insn) } else { None }
+        if place.at == at {
+            Some(place.insn)
+        } else {
+            None
+        }
     }
 
     /// Keeps the instruction at an address.

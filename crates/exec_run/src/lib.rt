@@ -13,7 +13,9 @@
 //! of the image is copied when the run first writes to it, for which a place is listed for each
 //! range up to it, and the stack's bytes are kept as far down as was written. Room for all of them
 //! is reserved when the run starts, so that no store is refused for memory. The range of the last
-//! access is looked at first, and any other is found by halves. Read `rv_hart` for the step, and
+//! access is looked at first, and any other is found by halves. An instruction is decoded once: it is
+//! kept at a place that its address names, and done from there until a store touches its word
+//! (`Decoded`). Code on the stack isn't kept, so that stores there look at no place. Read `rv_hart` for the step, and
 //! `code_memory` for the image.
 #![tactic(auto)]
 

@@ -3,6 +3,7 @@ ghost use Rattle.std.specs.Bool.{OnTrue, OnFalse};
 ghost use Rattle.rv_hart.specs.Fetched.{IsKnown};
 ghost use Rattle.rv_hart.specs.Map.{read, stored, with_byte};
 ghost use Rattle.code_memory.specs.Mapped.{byte_at};
+ghost use Rattle.exec_run.specs.Decoded.{IsStill};
 ghost use Rattle.exec_run.specs.Regions.{IsRest};
 ghost use Rattle.exec_run.specs.Start.{with_stack};
 
@@ -62,11 +63,6 @@ impl<'a> Memory for RunMemory<'a> {
         fetch(self, at)
     }
 
-    #[inline(always)]
-    fn known(&self, at: u64) -> Option<FlatInsn> {
-        self.decoded.get(at)
-    }
-
     fn instruction(&mut self, at: u64) -> Fetched {
         let fetched = Fetched::of_word(fetch(self, at));
         if let Fetched::Known(insn) = fetched {
@@ -88,6 +84,15 @@ impl<'a> RunMemory<'a> {
             data: Cell::new(0),
             decoded: Decoded::new(alloc)?,
         })
+    }
+
+    /// The instruction at an address, where it is kept.
+    #[inline(always)]
+    pub(crate) fn kept(&self, at: u64) -> Option<FlatInsn>
+        requires { at % 4 ≡ 0 }
+        ensures { IfSome result (λ insn. IsStill self.now at insn) }
+    {
+        self.decoded.get(at)
     }
 
     /// Mapped bytes of data, from the address on.

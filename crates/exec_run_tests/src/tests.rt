@@ -32,6 +32,56 @@ const SELF_MODIFYING: [u8; 36] = [
     0x13, 0x05, 0xa0, 0x02,
 ];
 
+/// Adds up what three instructions in a row make, and stores over the upper half of the first, the
+/// second and the lower half of the third, so that it makes another number the second time.
+/// ```text
+/// auipc t0, 0
+/// li t2, 2
+/// ld t1, 48(t0)
+/// 1:  li a0, 1
+/// addi a0, a0, 2
+/// addi a0, a0, 4
+/// add a1, a1, a0
+/// sd t1, 14(t0)
+/// addi t2, t2, -1
+/// bnez t2, 1b
+/// mv a0, a1
+/// ret
+/// .dword 0x0513020505130100
+/// ```
+const WRITING_OVER_WHAT_RAN: [u8; 56] = [
+    0x97, 0x02, 0x00, 0x00, 0x93, 0x03, 0x20, 0x00, 0x03, 0xb3, 0x02, 0x03, 0x13, 0x05, 0x10, 0x00,
+    0x13, 0x05, 0x25, 0x00, 0x13, 0x05, 0x45, 0x00, 0xb3, 0x85, 0xa5, 0x00, 0x23, 0xb7, 0x62, 0x00,
+    0x93, 0x83, 0xf3, 0xff, 0xe3, 0x94, 0x03, 0xfe, 0x13, 0x85, 0x05, 0x00, 0x67, 0x80, 0x00, 0x00,
+    0x00, 0x01, 0x13, 0x05, 0x05, 0x02, 0x13, 0x05,
+];
+
+/// Copies `addi a0, a0, 5` and `ret` to the stack and calls them, and then `addi a0, a0, 7`.
+/// ```text
+/// auipc t0, 0
+/// mv t4, ra
+/// ld t1, 48(t0)
+/// ld t2, 56(t0)
+/// addi t3, sp, -16
+/// sd t1, 0(t3)
+/// jalr t3
+/// sd t2, 0(t3)
+/// jalr t3
+/// jr t4
+/// nop
+/// nop
+/// addi a0, a0, 5
+/// ret
+/// addi a0, a0, 7
+/// ret
+/// ```
+const ON_THE_STACK: [u8; 64] = [
+    0x97, 0x02, 0x00, 0x00, 0x93, 0x8e, 0x00, 0x00, 0x03, 0xb3, 0x02, 0x03, 0x83, 0xb3, 0x82, 0x03,
+    0x13, 0x0e, 0x01, 0xff, 0x23, 0x30, 0x6e, 0x00, 0xe7, 0x00, 0x0e, 0x00, 0x23, 0x30, 0x7e, 0x00,
+    0xe7, 0x00, 0x0e, 0x00, 0x67, 0x80, 0x0e, 0x00, 0x13, 0x00, 0x00, 0x00, 0x13, 0x00, 0x00, 0x00,
+    0x13, 0x05, 0x55, 0x00, 0x67, 0x80, 0x00, 0x00, 0x13, 0x05, 0x75, 0x00, 0x67, 0x80, 0x00, 0x00,
+];
+
 /// Answers the word at its end, and writes another over it.
 /// ```text
 /// auipc t0, 0
@@ -303,6 +353,20 @@ fn memory_is_enough_for_a_run_of_no_image(rt: HostRuntime) -> Result<(), Fail> {
 fn what_is_written_to_a_range_is_read_and_fetched(rt: HostRuntime) -> Result<(), Fail> {
     let row = Row::exits(&[], 42);
     assert_eq!(rt; play(rt.alloc(), &SELF_MODIFYING, &[row])?, None);
+    Ok(())
+}
+
+#[test]
+fn an_instruction_that_was_done_is_written_over(rt: HostRuntime) -> Result<(), Fail> {
+    let row = Row::exits(&[0, 0], 59);
+    assert_eq!(rt; play(rt.alloc(), &WRITING_OVER_WHAT_RAN, &[row])?, None);
+    Ok(())
+}
+
+#[test]
+fn code_on_the_stack_is_written_over(rt: HostRuntime) -> Result<(), Fail> {
+    let row = Row::exits(&[0], 12);
+    assert_eq!(rt; play(rt.alloc(), &ON_THE_STACK, &[row])?, None);
     Ok(())
 }
 

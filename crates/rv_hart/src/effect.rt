@@ -122,7 +122,11 @@ impl Effect {
 fn branch(taken: bool, target: u64) -> Effect
     ensures { (rd : ℕ) (hart : Hart) (map : Map) → done result rd hart map ≡ over map (if taken then jumps hart 0 target else passed hart) }
 {
-    if taken { Effect::Goes(target) } else { Effect::Passes }
+    if taken {
+        Effect::Goes(target)
+    } else {
+        Effect::Passes
+    }
 }
 
 /// The target of a jump, whose bit 0 is cleared.

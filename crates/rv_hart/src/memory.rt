@@ -1,6 +1,6 @@
-ghost use Rattle.std.specs.Prelude.{◌≡◌, ◌↔◌, ◌⊎◌, ◌%◌, ℕ, Option, IsTrue, IsSome, IfSome};
+ghost use Rattle.std.specs.Prelude.{◌≡◌, ◌↔◌, ◌⊎◌, ◌%◌, ℕ, Option, IsTrue, IsSome};
 ghost use Rattle.std.specs.Bool.{OnTrue, OnFalse};
-ghost use Rattle.rv_hart.specs.Fetched.{IsFetched, IsKnown};
+ghost use Rattle.rv_hart.specs.Fetched.{IsFetched};
 ghost use Rattle.rv_hart.specs.Map.{Map, read, stored};
 
 use rv_insn::{FlatInsn, decode_flat};
@@ -50,15 +50,6 @@ pub trait Memory {
     /// The four bytes from `at` on as an instruction's word.
     fn fetch(&self, at: u64) -> Option<u32>
         ensures { result ≡ read (bytes self.now) at 4 };
-
-    /// The instruction at `at`, where the memory knows it without decoding its word: a memory may
-    /// keep what it decoded for as long as the bytes there stay.
-    fn known(&self, at: u64) -> Option<FlatInsn>
-        requires { at % 4 ≡ 0 }
-        ensures { IfSome result (λ insn. IsKnown (bytes self.now) at insn) }
-    {
-        None
-    }
 
     /// What stands at `at`, which the memory may keep.
     fn instruction(&mut self, at: u64) -> Fetched

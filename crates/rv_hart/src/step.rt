@@ -1,5 +1,6 @@
 ghost use Rattle.std.specs.Prelude.{◌≡◌, ◌<◌, ◌*◌, ◌%◌, ◌⊎◌, ℕ, List, slice_index};
 ghost use Rattle.rv_insn.specs.Flat.{insn_of, HasRegisters};
+ghost use Rattle.rv_hart.specs.Fetched.{IsKnown};
 ghost use Rattle.rv_hart.specs.Map.{read};
 ghost use Rattle.rv_hart.specs.Parts.{hart_of};
 ghost use Rattle.rv_hart.specs.Registers.{reg};
@@ -37,36 +38,43 @@ impl Hart {
     pub fn step<M: Memory>(&mut self, memory: &mut M) -> Step
         ensures { IsStep self.old (M.bytes memory.old) (record { hart = self.new; map = M.bytes memory.new; answer = result }) }
     {
+        let pc = self.pc;
+        if pc % 4 != 0 {
+            return Step::Trap(pc, Cause::Misaligned(pc));
+        }
         step_any(&mut self.pc, &mut self.x, memory)
     }
 }
 
-/// A step of a hart in two parts, so that a loop can hold the program counter by itself. Where the
-/// memory knows the instruction, it is not decoded, and registers are read without a look at their
-/// number, since place 0 has 0.
+/// A step of an instruction that the memory knows, of a hart in two parts, so that a loop can hold
+/// the program counter by itself. Registers are read without a look at their number, since place 0
+/// has 0.
 #[inline(always)]
-pub fn step_at<M: Memory>(pc: &mut u64, x: &mut [u64; 32], memory: &mut M) -> Step
-    requires { slice_index x.old 0 ≡ 0 }
+pub fn step_known<M: Memory>(
+    pc: &mut u64,
+    x: &mut [u64; 32],
+    memory: &mut M,
+    insn: FlatInsn,
+) -> Step
+    requires zero { slice_index x.old 0 ≡ 0 }
+    requires aligned { pc.old % 4 ≡ 0 }
+    requires known { IsKnown (M.bytes memory.old) pc.old insn }
     ensures step { IsStep (hart_of pc.old x.old) (M.bytes memory.old) (record { hart = hart_of pc.new x.new; map = M.bytes memory.new; answer = result }) }
     ensures zero { slice_index x.new 0 ≡ 0 }
+    ensures aligned { pc.new % 4 ≡ 0 }
 {
-    if *pc % 4 != 0 {
-        return Step::Trap(*pc, Cause::Misaligned(*pc));
-    }
-    match memory.known(*pc) {
-        Some(insn) => {
-            let (a, b) = (read_register(x, insn.rs1), read_register(x, insn.rs2));
-            execute(pc, x, memory, insn, a, b)
-        }
-        None => step_apart(pc, x, memory),
-    }
+    let (a, b) = (read_register(x, insn.rs1), read_register(x, insn.rs2));
+    execute(pc, x, memory, insn, a, b)
 }
 
-/// A step by a call, which is given no place of the caller's but the registers.
+/// A step whose instruction is looked for, by a call that is given no place of the caller's but the
+/// registers: the hart in two parts again, with the program counter as a value.
 #[inline(always)]
-fn step_apart<M: Memory>(pc: &mut u64, x: &mut [u64; 32], memory: &mut M) -> Step
+pub fn step_apart<M: Memory>(pc: &mut u64, x: &mut [u64; 32], memory: &mut M) -> Step
+    requires { pc.old % 4 ≡ 0 }
     ensures step { IsStep (hart_of pc.old x.old) (M.bytes memory.old) (record { hart = hart_of pc.new x.new; map = M.bytes memory.new; answer = result }) }
     ensures zero { slice_index x.new 0 ≡ slice_index x.old 0 }
+    ensures aligned { pc.new % 4 ≡ 0 }
 {
     let (next, step) = step_from(*pc, x, memory);
     *pc = next;
@@ -75,8 +83,10 @@ fn step_apart<M: Memory>(pc: &mut u64, x: &mut [u64; 32], memory: &mut M) -> Ste
 
 #[inline(never)]
 fn step_from<M: Memory>(pc: u64, x: &mut [u64; 32], memory: &mut M) -> (u64, Step)
+    requires { pc % 4 ≡ 0 }
     ensures step { IsStep (hart_of pc x.old) (M.bytes memory.old) (record { hart = hart_of result.0 x.new; map = M.bytes memory.new; answer = result.1 }) }
     ensures zero { slice_index x.new 0 ≡ slice_index x.old 0 }
+    ensures aligned { result.0 % 4 ≡ 0 }
 {
     let mut at = pc;
     let step = step_any(&mut at, x, memory);
@@ -85,13 +95,12 @@ fn step_from<M: Memory>(pc: u64, x: &mut [u64; 32], memory: &mut M) -> (u64, Ste
 
 /// A step whose instruction is looked for, whatever stands at place 0 of the registers.
 fn step_any<M: Memory>(pc: &mut u64, x: &mut [u64; 32], memory: &mut M) -> Step
+    requires { pc.old % 4 ≡ 0 }
     ensures step { IsStep (hart_of pc.old x.old) (M.bytes memory.old) (record { hart = hart_of pc.new x.new; map = M.bytes memory.new; answer = result }) }
     ensures zero { slice_index x.new 0 ≡ slice_index x.old 0 }
+    ensures aligned { pc.new % 4 ≡ 0 }
 {
     let at = *pc;
-    if at % 4 != 0 {
-        return Step::Trap(at, Cause::Misaligned(at));
-    }
     match memory.instruction(at) {
         Fetched::Known(insn) => {
             let (a, b) = (register(x, insn.rs1), register(x, insn.rs2));
@@ -104,12 +113,21 @@ fn step_any<M: Memory>(pc: &mut u64, x: &mut [u64; 32], memory: &mut M) -> Step
 
 /// What is left of an instruction is done, with what its registers hold.
 #[inline(always)]
-fn execute<M: Memory>(pc: &mut u64, x: &mut [u64; 32], memory: &mut M, insn: FlatInsn, a: u64, b: u64) -> Step
+fn execute<M: Memory>(
+    pc: &mut u64,
+    x: &mut [u64; 32],
+    memory: &mut M,
+    insn: FlatInsn,
+    a: u64,
+    b: u64,
+) -> Step
+    requires aligned { pc.old % 4 ≡ 0 }
     requires registers { HasRegisters insn }
     requires first { reg (hart_of pc.old x.old) insn.rs1 ≡ a }
     requires second { reg (hart_of pc.old x.old) insn.rs2 ≡ b }
     ensures row { row_of (insn_of insn) (hart_of pc.old x.old) (M.bytes memory.old) ≡ record { hart = hart_of pc.new x.new; map = M.bytes memory.new; answer = result } }
     ensures zero { slice_index x.new 0 ≡ slice_index x.old 0 }
+    ensures aligned { pc.new % 4 ≡ 0 }
 {
     let rd = insn.rd;
     match Effect::of_insn(insn, *pc, a, b) {
@@ -135,7 +153,9 @@ fn execute<M: Memory>(pc: &mut u64, x: &mut [u64; 32], memory: &mut M, insn: Fla
 
 #[inline(always)]
 fn pass(pc: &mut u64) -> Step
-    ensures { (x : List ℕ) → passed (hart_of pc.old x) ≡ record { hart = hart_of pc.new x; answer = result } }
+    requires { pc.old % 4 ≡ 0 }
+    ensures turn { (x : List ℕ) → passed (hart_of pc.old x) ≡ record { hart = hart_of pc.new x; answer = result } }
+    ensures aligned { pc.new % 4 ≡ 0 }
 {
     *pc = pc.wrapping_add(4);
     Step::Next
@@ -143,9 +163,11 @@ fn pass(pc: &mut u64) -> Step
 
 #[inline(always)]
 fn write(pc: &mut u64, x: &mut [u64; 32], rd: u8, value: u64) -> Step
-    requires { rd < 32 }
+    requires named { rd < 32 }
+    requires aligned { pc.old % 4 ≡ 0 }
     ensures turn { writes (hart_of pc.old x.old) rd value ≡ record { hart = hart_of pc.new x.new; answer = result } }
     ensures zero { slice_index x.new 0 ≡ slice_index x.old 0 }
+    ensures aligned { pc.new % 4 ≡ 0 }
 {
     set_register(x, rd, value);
     pass(pc)
@@ -153,9 +175,11 @@ fn write(pc: &mut u64, x: &mut [u64; 32], rd: u8, value: u64) -> Step
 
 #[inline(always)]
 fn jump(pc: &mut u64, x: &mut [u64; 32], rd: u8, target: u64) -> Step
-    requires { rd < 32 }
+    requires named { rd < 32 }
+    requires aligned { pc.old % 4 ≡ 0 }
     ensures turn { jumps (hart_of pc.old x.old) rd target ≡ record { hart = hart_of pc.new x.new; answer = result } }
     ensures zero { slice_index x.new 0 ≡ slice_index x.old 0 }
+    ensures aligned { pc.new % 4 ≡ 0 }
 {
     if target % 4 != 0 {
         return Step::Trap(*pc, Cause::Misaligned(target));
@@ -169,8 +193,10 @@ fn jump(pc: &mut u64, x: &mut [u64; 32], rd: u8, target: u64) -> Step
 fn load<M: Memory>(pc: &mut u64, x: &mut [u64; 32], memory: &M, rd: u8, at: u64, width: u8) -> Step
     requires wide { (width ≡ 1) ⊎ (width ≡ 2) ⊎ (width ≡ 4) ⊎ (width ≡ 8) }
     requires named { rd < 32 }
+    requires aligned { pc.old % 4 ≡ 0 }
     ensures turn { loads (hart_of pc.old x.old) rd at (read (M.bytes memory.now) at width) ≡ record { hart = hart_of pc.new x.new; answer = result } }
     ensures zero { slice_index x.new 0 ≡ slice_index x.old 0 }
+    ensures aligned { pc.new % 4 ≡ 0 }
 {
     match memory.load(at, width) {
         Some(value) => write(pc, x, rd, value),
@@ -179,11 +205,20 @@ fn load<M: Memory>(pc: &mut u64, x: &mut [u64; 32], memory: &M, rd: u8, at: u64,
 }
 
 #[inline(always)]
-fn load_signed<M: Memory>(pc: &mut u64, x: &mut [u64; 32], memory: &M, rd: u8, at: u64, width: u8) -> Step
+fn load_signed<M: Memory>(
+    pc: &mut u64,
+    x: &mut [u64; 32],
+    memory: &M,
+    rd: u8,
+    at: u64,
+    width: u8,
+) -> Step
     requires wide { (width ≡ 1) ⊎ (width ≡ 2) ⊎ (width ≡ 4) }
     requires named { rd < 32 }
+    requires aligned { pc.old % 4 ≡ 0 }
     ensures turn { loads_signed (hart_of pc.old x.old) rd at (8 * width) (read (M.bytes memory.now) at width) ≡ record { hart = hart_of pc.new x.new; answer = result } }
     ensures zero { slice_index x.new 0 ≡ slice_index x.old 0 }
+    ensures aligned { pc.new % 4 ≡ 0 }
 {
     match memory.load(at, width) {
         Some(value) => write(pc, x, rd, extended_bytes(value, width)),
@@ -193,8 +228,10 @@ fn load_signed<M: Memory>(pc: &mut u64, x: &mut [u64; 32], memory: &M, rd: u8, a
 
 #[inline(always)]
 fn store<M: Memory>(pc: &mut u64, memory: &mut M, at: u64, width: u8, value: u64) -> Step
-    requires { (width ≡ 1) ⊎ (width ≡ 2) ⊎ (width ≡ 4) ⊎ (width ≡ 8) }
-    ensures { (x : List ℕ) → stores (hart_of pc.old x) (M.bytes memory.old) at width value (read (M.bytes memory.old) at width) ≡ record { hart = hart_of pc.new x; map = M.bytes memory.new; answer = result } }
+    requires wide { (width ≡ 1) ⊎ (width ≡ 2) ⊎ (width ≡ 4) ⊎ (width ≡ 8) }
+    requires aligned { pc.old % 4 ≡ 0 }
+    ensures turn { (x : List ℕ) → stores (hart_of pc.old x) (M.bytes memory.old) at width value (read (M.bytes memory.old) at width) ≡ record { hart = hart_of pc.new x; map = M.bytes memory.new; answer = result } }
+    ensures aligned { pc.new % 4 ≡ 0 }
 {
     if memory.store(at, width, value) {
         pass(pc)

@@ -10,4 +10,4 @@ returns-in-Passes-clause-row g c =
     let map = g.M.Memory.bytes c.args.memory.now in
     c.of_insn.ensures hart map refl c.requires.first c.requires.second
     ∙ ap (λ e. done e c.args.insn.rd hart map) c.in-Passes.is
-    ∙ ap (over map) (c.pass.ensures c.args.x.now)
+    ∙ ap (over map) (c.pass.ensures.turn c.args.x.now)

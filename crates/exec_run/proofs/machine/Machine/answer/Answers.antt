@@ -1,5 +1,5 @@
 -- The result is in a0, and the next instruction is next.
-use Rattle.std.proofs.Common.{◌≡◌, ◌∙◌, ℕ, List, [], ◌∷◌, suc, set, ap, refl}
+use Rattle.std.proofs.Common.{◌≡◌, ◌∙◌, ℕ, List, [], ◌∷◌, suc, set, ap, refl, arith}
 use Rattle.std.specs.Prelude.{slice_index}
 use Rattle.rv_hart.specs.declared.hart.Hart.{Hart}
 use Rattle.rv_hart.specs.Arithmetic.{sum}
@@ -21,3 +21,9 @@ pub returns-clause-zero : goal.returns-clause-zero
 unfolding with_reg
 returns-clause-zero c =
     ap (λ (h : Hart). slice_index h.x 0) c.set_register.ensures ∙ first_kept c.args.self.now.hart.x 9 c.args.value
+
+pub returns-clause-aligned : goal.returns-clause-aligned
+unfolding with_reg
+returns-clause-aligned c = λ h.
+    let same : c.set_register.new.self.pc ≡ c.args.self.now.hart.pc = ap (λ (g : Hart). g.pc) c.set_register.ensures in
+    omega (arith, h, same)
