@@ -1,5 +1,5 @@
 -- Each line of a client leaves a script good that is good so far.
-use Rattle.std.proofs.Common.{◌≡◌, ℕ, ◌+◌, ◌<◌, ◌≤◌, Bool, true, ◌&&◌, not, if◌then◌else◌, List, [], ◌∷◌, ◌++◌, Option, Some, None, length, map, inl, inr, refl, ◌∙◌, ap, le_refl, subst, arith}
+use Rattle.std.proofs.Common.{◌≡◌, ℕ, ◌+◌, ◌<◌, ◌≤◌, Bool, true, ◌&&◌, not, List, [], ◌∷◌, ◌++◌, Option, Some, None, length, map, inl, inr, refl, ◌∙◌, ap, le_refl, subst, arith}
 use Rattle.std.specs.Prelude.{Ok, is_some, nat_le, nat_lt, unwrap_or}
 use Rattle.std.proofs.lemmas.List.{length-map, length_push}
 use Rattle.std.proofs.lemmas.Bool.{cases_Bool, and_parts, ltb-true, leb-true}
@@ -14,17 +14,13 @@ use Rattle.session_script.specs.Words.{parts, comma, is_empty, unmarked, is_name
 use Rattle.session_script.specs.Forms.{are_items, are_declared, item_in, order_of, is_level, level_of, are_wanted, wanted_in, fuel_in, argument_in, are_arguments}
 use Rattle.session_script.specs.Known.{Known, tracker_in, name_in, with_name, with_call}
 use Rattle.session_script.specs.Setup.{file_line, with_names}
-use Rattle.session_script.specs.Client.{client_line, client_count, define_line, looked_up, looking_up, lookup_line, watch_line, move_line, remove_line, run_by, run_line, call_line}
+use Rattle.session_script.specs.Client.{client_line, client_count, with_client, define_line, looked_up, looking_up, lookup_line, watch_line, move_line, remove_line, run_by, run_line, call_line}
 use Rattle.session_script.specs.WellFormed.{IsLookup}
 use Rattle.session_script.proofs.Checks.{passed, good_part}
 use Rattle.session_script.proofs.ScriptSoFar.{IsGoodSoFar, client_begun, tables_grown, call_pushed, watch_pushed}
 use Rattle.session_script.proofs.SetupKept.{file_placed}
 
--- once one more client begins
-abbrev begun_next : Known → Known
-begun_next k = record k { begun = true; earlier = if k.begun then k.earlier ++ k.current ∷ [] else k.earlier; current = [] }
-
-next_kept : (notes : ℕ) (k : Known) → nat_lt (client_count k) CLIENT_LIMIT ≡ true → IsGoodSoFar notes k → IsGoodSoFar notes (begun_next k)
+next_kept : (notes : ℕ) (k : Known) → nat_lt (client_count k) CLIENT_LIMIT ≡ true → IsGoodSoFar notes k → IsGoodSoFar notes (with_client k)
 next_kept notes k room good = record {
   setup = good.setup;
   dylibs = good.dylibs;
@@ -43,7 +39,7 @@ next_kept notes k room good = record {
 pub client_kept : (notes : ℕ) (k new : Known) (operands : List (List ℕ)) → IsGoodSoFar notes k → client_line k operands ≡ Ok new → IsGoodSoFar notes new
 client_kept notes k new [] good read =
     let room = passed (nat_lt (client_count k) CLIENT_LIMIT) _ _ new read in
-    let made : begun_next k ≡ new = cc room.1 in
+    let made : with_client k ≡ new = cc room.1 in
     subst (IsGoodSoFar notes) made (next_kept notes k room.0 good)
 client_kept notes k new (_ ∷ _) good read = absurd cc
 
@@ -88,6 +84,12 @@ looking_up_well k noted (_ ∷ []) p read = absurd cc
 looking_up_well k noted (level ∷ order ∷ words) p read =
     let some = passed (not (is_empty words)) _ _ p read in
     looked_up_well k noted level (parts comma order) words p some.1
+
+-- where a note was left for a lookup that was read, one is left still
+pub note_left : (k : Known) (operands : List (List ℕ)) (p : Known × LookupLine) → looking_up k (nat_lt k.watches k.notes) operands ≡ Ok p → p.0.watches < p.0.notes
+note_left k operands p read =
+    let well = looking_up_well k (nat_lt k.watches k.notes) operands p read in
+    subst (λ (q : Known). q.watches < q.notes) well.known.1 (ltb-true k.watches k.notes well.noted)
 
 lookup_kept : (notes : ℕ) (k new : Known) (operands : List (List ℕ)) → k.begun ≡ true → IsGoodSoFar notes k → lookup_line k operands ≡ Ok new → IsGoodSoFar notes new
 lookup_kept notes k new operands begun good read =

@@ -3,7 +3,7 @@ use Rattle.std.proofs.Common.{◌≡◌, ℕ, ◌≤◌, ◌<◌, Bool, List, []
 use Rattle.std.specs.Prelude.{Err}
 use Rattle.session_script.specs.declared.error.ScriptWhy.TheVariants.{Count}
 use Rattle.session_script.specs.Known.{Known}
-use Rattle.session_script.specs.Setup.{tracker_line, file_line, alias_line}
+use Rattle.session_script.specs.Setup.{tracker_line, file_line, absolute_line, alias_line}
 use Rattle.session_script.specs.Client.{move_line, looking_up, run_line}
 
 pub tracker_line_few : (k : Known) (ws : List (Bor (List ℕ))) → length ws < 2 → tracker_line k (map (λ w. w.now) ws) ≡ Err Count
@@ -29,6 +29,11 @@ file_line_many k (_ ∷ []) h = absurd (omega arith)
 file_line_many k (_ ∷ _ ∷ []) h = absurd (omega arith)
 file_line_many k (_ ∷ _ ∷ _ ∷ []) h = absurd (omega arith)
 file_line_many k (_ ∷ _ ∷ _ ∷ _ ∷ ws) h = refl
+
+pub absolute_line_few : (k : Known) (ws : List (Bor (List ℕ))) → length ws < 2 → absolute_line k (map (λ w. w.now) ws) ≡ Err Count
+absolute_line_few k [] h = refl
+absolute_line_few k (_ ∷ []) h = refl
+absolute_line_few k (_ ∷ _ ∷ ws) h = absurd (omega arith)
 
 pub alias_line_few : (k : Known) (ws : List (Bor (List ℕ))) → length ws < 3 → alias_line k (map (λ w. w.now) ws) ≡ Err Count
 alias_line_few k [] h = refl

@@ -5,6 +5,7 @@ pub mod Cuts
 pub mod Digits
 pub mod DylibsKept
 pub mod FileNames
+pub mod LastClient
 pub mod LinesNext
 pub mod LinesRead
 pub mod NameNumbers
@@ -12,7 +13,6 @@ pub mod NamesApart
 pub mod ScriptSoFar
 pub mod SetupKept
 pub mod Steps
-pub mod Tables
 pub mod TextNumbers
 pub mod WellFormedScripts
 pub mod WordSizes

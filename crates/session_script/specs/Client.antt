@@ -19,11 +19,19 @@ use Rattle.session_script.specs.Setup.{file_line, with_names}
 abbrev pub client_count : Known → ℕ
 client_count k = if k.begun then length k.earlier + 1 else 0
 
+-- once the current lines are those of an earlier client, if one was begun
+abbrev pub with_client_ended : Known → Known
+with_client_ended k = record k { earlier = if k.begun then k.earlier ++ k.current ∷ [] else k.earlier; current = [] }
+
+-- once the lines that come are those of one more client
+abbrev pub with_client : Known → Known
+with_client k = record (with_client_ended k) { begun = true }
+
 -- client
 abbrev pub client_line : Known → List (List ℕ) → Result Known ScriptWhy
 client_line k [] =
     checked (nat_lt (client_count k) CLIENT_LIMIT) why.TooMany
-    (Ok (record k { begun = true; earlier = if k.begun then k.earlier ++ k.current ∷ [] else k.earlier; current = [] }))
+    (Ok (with_client k))
 client_line k (_ ∷ _) = Err why.Count
 
 -- define D T FILE

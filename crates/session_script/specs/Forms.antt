@@ -1,7 +1,8 @@
 -- The operands of lines: items of search orders, levels, wanted names, definitions and numbers.
-use Rattle.std.specs.Prelude.{ℕ, Bool, List, ◌&&◌, ◌||◌, map, codes, is_some, Option, if◌then◌else◌}
+use Rattle.std.specs.Prelude.{ℕ, Bool, List, ◌&&◌, ◌||◌, map, codes, is_some, unwrap_or, Option, if◌then◌else◌}
 use Rattle.std.specs.List.{list_all}
 use Rattle.std.specs.Str.{bytes_eq}
+use Rattle.orc_ids.specs.declared.ids.NameId.{NameId}
 use Rattle.orc_ids.specs.declared.lookup.Level.{Level}
 use Rattle.orc_ids.specs.declared.lookup.Level.TheVariants.{Resolved, Ready}
 use Rattle.orc_ids.specs.declared.lookup.Scope.{Scope}
@@ -58,6 +59,10 @@ symbol_part definition = before equals definition
 
 abbrev pub address_part : List ℕ → Option ℕ
 address_part definition = at_most NUMBER_LIMIT (number_in 16 (after equals definition))
+
+-- the symbol and the address of a definition
+abbrev pub definition_in : List (List ℕ) → List ℕ → NameId × ℕ
+definition_in names definition = (record { 0 = number_of (symbol_part definition) names }, unwrap_or (address_part definition) 0)
 
 abbrev pub are_symbols : List (List ℕ) → Bool
 are_symbols definitions = list_all (λ definition. is_symbol (symbol_part definition)) definitions

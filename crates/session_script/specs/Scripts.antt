@@ -13,7 +13,7 @@ use Rattle.session_script.specs.declared.script.Script.{Script}
 use Rattle.session_script.specs.Words.{parts, space, lines_of, text_of_line, is_skipped, is_barred, is_spaced}
 use Rattle.session_script.specs.Known.{Known, nothing_known, clients_of, checked}
 use Rattle.session_script.specs.Setup.{setup_word, setup_line}
-use Rattle.session_script.specs.Client.{client_word, client_line, call_line}
+use Rattle.session_script.specs.Client.{client_word, with_client_ended, client_line, call_line}
 
 -- Setup lines stand before the first `client`, and a client's lines after its own.
 abbrev pub worded_line : Known → List (List ℕ) → Result Known ScriptWhy
@@ -49,6 +49,15 @@ lines_from k number size (line ∷ lines) =
 
 abbrev pub script_of_known : Known → Script
 script_of_known k = record { setup = k.setup; clients = clients_of k; files = k.files; names = k.names }
+
+-- the script of what is known once the last client is ended
+abbrev pub script_of_ended : Known → Script
+script_of_ended k = record { setup = k.setup; clients = if k.begun then k.earlier else []; files = k.files; names = k.names }
+
+-- what is known after all lines, and the last client's end
+abbrev pub ended : Result Known ScriptError → Result Known ScriptError
+ended (Ok k) = Ok (with_client_ended k)
+ended (Err error) = Err error
 
 abbrev pub finished : Result Known ScriptError → Result Script ScriptError
 finished (Ok k) = Ok (script_of_known k)

@@ -1,5 +1,5 @@
 -- The lines of the setup. Each takes what is known and the words after its first one.
-use Rattle.std.specs.Prelude.{ℕ, Bool, true, List, [], ◌∷◌, ◌++◌, ◌&&◌, ◌||◌, not, length, map, nat_lt, nat_le, codes, unwrap_or, Option, Some, None, Result, Ok, Err, if◌then◌else◌}
+use Rattle.std.specs.Prelude.{ℕ, Bool, true, List, [], ◌∷◌, ◌++◌, ◌&&◌, ◌||◌, not, length, map, nat_lt, nat_le, codes, Option, Some, None, Result, Ok, Err, if◌then◌else◌}
 use Rattle.std.specs.Str.{bytes_eq}
 use Rattle.orc_ids.specs.declared.ids.DylibId.{DylibId}
 use Rattle.orc_ids.specs.declared.ids.TrackId.{TrackId}
@@ -14,7 +14,7 @@ use Rattle.session_script.specs.declared.setup.SetupWord.TheVariants as word
 use Rattle.session_script.specs.Texts.{has, all_mentioned}
 use Rattle.session_script.specs.Words.{is_empty, is_name, is_file, is_symbol}
 use Rattle.session_script.specs.Known.{Known, dylib_in, tracker_in, file_in, name_in, with_file, with_name, with_setup, checked, after_good}
-use Rattle.session_script.specs.Forms.{are_items, are_declared, order_of, symbol_part, address_part, source_part, target_part, are_symbols, are_addressed}
+use Rattle.session_script.specs.Forms.{are_items, are_declared, order_of, symbol_part, definition_in, source_part, target_part, are_symbols, are_addressed}
 
 -- dylib D
 abbrev pub dylib_line : Known → List (List ℕ) → Result Known ScriptWhy
@@ -85,18 +85,20 @@ abbrev pub with_names : Known → List (List ℕ) → Known
 with_names k names = record k { names = all_mentioned names k.names }
 
 abbrev pub defined_in : Known → List ℕ → NameId × ℕ
-defined_in k definition = (name_in k (symbol_part definition), unwrap_or (address_part definition) 0)
+defined_in k definition = definition_in k.names definition
 
 -- absolute D T NAME=HEX ..
-abbrev pub absolute_line : Known → List (List ℕ) → Result Known ScriptWhy
-absolute_line k (d ∷ t ∷ definitions) =
-    checked (not (is_empty definitions)) why.Count
-    (checked (is_name d && is_name t && are_symbols definitions) why.Name
+abbrev pub placed_symbols : Known → List ℕ → List ℕ → List (List ℕ) → Result Known ScriptWhy
+placed_symbols k d t definitions =
+    checked (is_name d && is_name t && are_symbols definitions) why.Name
     (checked (are_addressed definitions) why.Number
     (checked (are_new [] definitions) why.Taken
     (checked (are_known k d t) why.Unknown
     (let named = with_names k (map symbol_part definitions) in
-    Ok (with_setup named (line.Absolute (dylib_in k d) (tracker_in k t) (map (defined_in named) definitions))))))))
+    Ok (with_setup named (line.Absolute (dylib_in k d) (tracker_in k t) (map (defined_in named) definitions)))))))
+
+abbrev pub absolute_line : Known → List (List ℕ) → Result Known ScriptWhy
+absolute_line k (d ∷ t ∷ definitions) = checked (not (is_empty definitions)) why.Count (placed_symbols k d t definitions)
 absolute_line k _ = Err why.Count
 
 -- once the alias of these five words is set up

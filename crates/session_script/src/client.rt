@@ -1,6 +1,6 @@
 ghost use Rattle.std.specs.Prelude.{◌≡◌, true, map, unwrap_or, Ok, OnOk, IfOk, IfErr};
 ghost use Rattle.session_script.specs.Known.{IsRefusal};
-ghost use Rattle.session_script.specs.Client.{client_line, define_line, looked_up, looking_up, lookup_line, watch_line, move_line, remove_line, run_by, run_line, client_word, call_line, client_count};
+ghost use Rattle.session_script.specs.Client.{client_line, define_line, looked_up, looking_up, lookup_line, watch_line, move_line, remove_line, run_by, run_line, client_word, call_line};
 
 use crate::error::{Refusal, ScriptWhy};
 use crate::forms::{Form, all_fit, is_level, is_name, is_symbol, level_of, read_fuel};
@@ -10,8 +10,7 @@ use crate::reader::Reader;
 use crate::script::{ClientLine, LookupLine};
 use crate::setup::are_names;
 use crate::words::split;
-use orc_ids::{Items, ORDER_LIMIT, WANTED_LIMIT};
-use std::mem;
+use orc_ids::{ORDER_LIMIT, WANTED_LIMIT};
 
 /// The first word of a client's line.
 #[derive(Clone, Copy)]
@@ -50,17 +49,6 @@ pub fn client_word(word: &[u8]) -> Option<ClientWord>
 }
 
 impl Reader {
-    /// How many clients were begun.
-    fn client_count(&self) -> usize
-        ensures { result ≡ client_count self.now }
-    {
-        if self.begun {
-            self.earlier.len() + 1
-        } else {
-            0
-        }
-    }
-
     pub fn read_client(&mut self, operands: &[&[u8]]) -> Result<(), Refusal>
         ensures read { OnOk result (client_line self.old (map (λ w. w.now) operands.now) ≡ Ok self.new) }
         ensures refused { IfErr result (λ e. IsRefusal (client_line self.old (map (λ w. w.now) operands.now)) e) }
@@ -71,11 +59,7 @@ impl Reader {
         if self.client_count() >= CLIENT_LIMIT {
             return Err(Refusal::Line(ScriptWhy::TooMany));
         }
-        let lines = mem::replace(&mut self.current, Vec::new(self.alloc));
-        if self.begun {
-            self.earlier.push(Items::from_vec(lines))?;
-        }
-        self.begun = true;
+        self.begin_client()?;
         Ok(())
     }
 
@@ -99,9 +83,9 @@ impl Reader {
         ensures read { OnOk result (watch_line self.old (map (λ w. w.now) operands.now) ≡ Ok self.new) }
         ensures refused { IfErr result (λ e. IsRefusal (watch_line self.old (map (λ w. w.now) operands.now)) e) }
     {
-        let note = self.watches;
-        let line = self.look_up(note < self.notes, operands)?;
-        self.watches = note + 1;
+        let note = self.note();
+        let line = self.look_up(self.has_note(), operands)?;
+        self.take_note();
         self.push_call(ClientLine::Watch(note, line))
     }
 
@@ -116,7 +100,7 @@ impl Reader {
         if words.is_empty() {
             return Err(Refusal::Line(ScriptWhy::Count));
         }
-        let items = split(self.alloc, order, b',')?;
+        let items = split(self.alloc(), order, b',')?;
         self.read_looked_up(noted, level, &items, words)
     }
 
@@ -164,7 +148,7 @@ impl Reader {
         if !are_names(t, to) {
             return Err(Refusal::Line(ScriptWhy::Name));
         }
-        if !(self.trackers.has(t) && self.trackers.has(to)) {
+        if !(self.has_tracker(t) && self.has_tracker(to)) {
             return Err(Refusal::Line(ScriptWhy::Unknown));
         }
         let (from, to) = (self.tracker(t), self.tracker(to));
@@ -181,7 +165,7 @@ impl Reader {
         if !is_name(t) {
             return Err(Refusal::Line(ScriptWhy::Name));
         }
-        if !self.trackers.has(t) {
+        if !self.has_tracker(t) {
             return Err(Refusal::Line(ScriptWhy::Unknown));
         }
         let tracker = self.tracker(t);
@@ -212,7 +196,7 @@ impl Reader {
         if !(fuel.is_some() && all_fit(Form::Argument, words)) {
             return Err(Refusal::Line(ScriptWhy::Number));
         }
-        let args = arguments(self.alloc, words)?;
+        let args = arguments(self.alloc(), words)?;
         let name = self.mention_name(name)?;
         self.push_call(ClientLine::Run(name, fuel.unwrap_or(0), args))
     }

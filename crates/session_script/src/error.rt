@@ -64,7 +64,7 @@ pub enum ScriptError {
 }
 
 /// Why a line wasn't read.
-#[derive(Clone, Copy, Debug, PartialEq, Eq)]
+#[derive(Clone, Copy)]
 pub(crate) enum Refusal {
     Line(ScriptWhy),
     NoMemory,

@@ -18,6 +18,7 @@ mod forms;
 mod key;
 mod limits;
 mod lists;
+mod names;
 mod read;
 mod reader;
 mod script;

@@ -3,7 +3,7 @@ ghost use Rattle.session_script.specs.declared.error.ScriptError.TheVariants as 
 ghost use Rattle.session_script.specs.declared.limits.TheConstants.{LINE_LIMIT};
 ghost use Rattle.session_script.specs.Words.{lines_of};
 ghost use Rattle.session_script.specs.Known.{IsRefusal};
-ghost use Rattle.session_script.specs.Scripts.{worded_line, line_in, numbered_line, lines_from, script_of_known, script_of, error_of};
+ghost use Rattle.session_script.specs.Scripts.{worded_line, line_in, numbered_line, lines_from, ended, script_of, error_of};
 ghost use Rattle.session_script.specs.WellFormed.{IsWellFormed};
 
 use crate::error::{Refusal, ScriptError, ScriptWhy};
@@ -11,9 +11,8 @@ use crate::limits::{LINE_LIMIT, SIZE_LIMIT};
 use crate::reader::Reader;
 use crate::script::Script;
 use crate::words::{cut, has_barred, is_skipped, is_spaced, split};
-use orc_ids::Items;
 use orc_names::NameHasher;
-use std::alloc::{AllocError, Global};
+use std::alloc::Global;
 
 /// The script of bytes, for a session that has so many notes. Names are found by the hash of a
 /// hasher whose seed strangers can't know, or by a fixed one.
@@ -28,11 +27,8 @@ pub fn read_script(
     ensures refused { IfErr result (λ e. e ≢ error.NoMemory → script_of notes bytes.now ≡ Err e) }
 {
     let mut reader = Reader::new(alloc, hasher, notes);
-    reader.read_lines(bytes)?;
-    let Ok(script) = reader.finish() else {
-        return Err(ScriptError::NoMemory);
-    };
-    Ok(script)
+    reader.read_all(bytes)?;
+    Ok(reader.into_script())
 }
 
 /// Why there is no script, where the line of this number wasn't read.
@@ -46,6 +42,18 @@ fn error_of(number: u32, refusal: Refusal) -> ScriptError
 }
 
 impl Reader {
+    /// Reads all lines, and ends the last client.
+    fn read_all(&mut self, bytes: &[u8]) -> Result<(), ScriptError>
+        ensures read { OnOk result (ended (lines_from self.old 0 0 (lines_of bytes.now)) ≡ Ok self.new) }
+        ensures refused { IfErr result (λ e. e ≢ error.NoMemory → ended (lines_from self.old 0 0 (lines_of bytes.now)) ≡ Err e) }
+    {
+        self.read_lines(bytes)?;
+        match self.end_client() {
+            Ok(()) => Ok(()),
+            Err(_) => Err(ScriptError::NoMemory),
+        }
+    }
+
     fn read_lines(&mut self, bytes: &[u8]) -> Result<(), ScriptError>
         ensures read { OnOk result (lines_from self.old 0 0 (lines_of bytes.now) ≡ Ok self.new) }
         ensures refused { IfErr result (λ e. e ≢ error.NoMemory → lines_from self.old 0 0 (lines_of bytes.now) ≡ Err e) }
@@ -83,7 +91,7 @@ impl Reader {
         if is_skipped(line) {
             return Ok(());
         }
-        let words = split(self.alloc, line, b' ')?;
+        let words = split(self.alloc(), line, b' ')?;
         if !(!has_barred(line) && is_spaced(&words)) {
             return Err(Refusal::Line(ScriptWhy::Bytes));
         }
@@ -100,37 +108,10 @@ impl Reader {
         if *first == b"client".as_slice() {
             return self.read_client(operands);
         }
-        if self.begun {
+        if self.has_client() {
             self.read_call(first, operands)
         } else {
             self.read_setup(first, operands)
         }
-    }
-
-    /// The script of what the lines said.
-    fn finish(self) -> Result<Script, AllocError>
-        ensures { IfOk result (λ script. script ≡ script_of_known self) }
-    {
-        let Reader {
-            alloc,
-            setup,
-            begun,
-            mut earlier,
-            current,
-            files,
-            names,
-            ..
-        } = self;
-        if !begun {
-            earlier = Vec::new(alloc);
-        } else {
-            earlier.push(Items::from_vec(current))?;
-        }
-        Ok(Script {
-            setup: Items::from_vec(setup),
-            clients: Items::from_vec(earlier),
-            files,
-            names,
-        })
     }
 }

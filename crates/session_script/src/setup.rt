@@ -1,7 +1,7 @@
 ghost use Rattle.std.specs.Prelude.{◌≡◌, ◌≤◌, ◌&&◌, ◌++◌, ◌∷◌, [], map, length, Ok, OnOk, IfOk, IfErr};
 ghost use Rattle.session_script.specs.Words.{is_name};
 ghost use Rattle.session_script.specs.Known.{IsRefusal};
-ghost use Rattle.session_script.specs.Setup.{dylib_line, order_line, tracker_line, file_line, placed_file, object_line, generator_line, absolute_line, alias_line, aliased, with_alias, setup_word, setup_line};
+ghost use Rattle.session_script.specs.Setup.{dylib_line, order_line, tracker_line, file_line, placed_file, object_line, generator_line, placed_symbols, absolute_line, alias_line, aliased, with_alias, setup_word, setup_line};
 ghost use Rattle.session_script.specs.declared.error.Refusal.TheVariants.{NoMemory};
 
 use crate::error::{Refusal, ScriptWhy};
@@ -69,14 +69,14 @@ impl Reader {
         if !is_name(d) {
             return Err(Refusal::Line(ScriptWhy::Name));
         }
-        if self.dylibs.has(d) {
+        if self.has_dylib(d) {
             return Err(Refusal::Line(ScriptWhy::Taken));
         }
-        if self.dylibs.len() >= DYLIB_LIMIT {
+        if self.dylib_count() >= DYLIB_LIMIT {
             return Err(Refusal::Line(ScriptWhy::TooMany));
         }
         let name = self.mention_name(d)?;
-        self.dylibs.mention(d)?;
+        self.declare_dylib(d)?;
         self.push_setup(SetupLine::Dylib(name))
     }
 
@@ -90,14 +90,14 @@ impl Reader {
         if !are_names(d, t) {
             return Err(Refusal::Line(ScriptWhy::Name));
         }
-        if self.trackers.has(t) {
+        if self.has_tracker(t) {
             return Err(Refusal::Line(ScriptWhy::Taken));
         }
-        if !self.dylibs.has(d) {
+        if !self.has_dylib(d) {
             return Err(Refusal::Line(ScriptWhy::Unknown));
         }
         let dylib = self.dylib(d);
-        self.trackers.mention(t)?;
+        self.declare_tracker(t)?;
         let tracker = self.tracker(t);
         self.push_setup(SetupLine::Tracker(dylib, tracker))
     }
@@ -118,7 +118,7 @@ impl Reader {
         if !all_fit(Form::Item, items) {
             return Err(Refusal::Line(ScriptWhy::Order));
         }
-        if !(self.dylibs.has(d) && self.are_declared(items)) {
+        if !(self.has_dylib(d) && self.are_declared(items)) {
             return Err(Refusal::Line(ScriptWhy::Unknown));
         }
         if items.len() > ORDER_LIMIT {
@@ -186,6 +186,13 @@ impl Reader {
         if definitions.is_empty() {
             return Err(Refusal::Line(ScriptWhy::Count));
         }
+        self.place_symbols(d, t, definitions)
+    }
+
+    fn place_symbols(&mut self, d: &[u8], t: &[u8], definitions: &[&[u8]]) -> Result<(), Refusal>
+        ensures read { OnOk result (placed_symbols self.old d.now t.now (map (λ w. w.now) definitions.now) ≡ Ok self.new) }
+        ensures refused { IfErr result (λ e. IsRefusal (placed_symbols self.old d.now t.now (map (λ w. w.now) definitions.now)) e) }
+    {
         if !(are_names(d, t) && all_fit(Form::Defined, definitions)) {
             return Err(Refusal::Line(ScriptWhy::Name));
         }
@@ -223,7 +230,7 @@ impl Reader {
         if !(are_names(d, t) && is_symbol(name) && is_name(source) && is_symbol(target)) {
             return Err(Refusal::Line(ScriptWhy::Name));
         }
-        if !(self.knows(d, t) && self.dylibs.has(source)) {
+        if !(self.knows(d, t) && self.has_dylib(source)) {
             return Err(Refusal::Line(ScriptWhy::Unknown));
         }
         self.alias(d, t, name, source, target)

@@ -8,7 +8,6 @@ use std::alloc::{AllocError, Global};
 use std::marker::Model;
 
 /// Texts, each once, in the order in which they were first mentioned; found by a hash.
-#[derive(Drop)]
 pub struct TextTable {
     texts: IndexSet<Key<'static>, NameHasher>,
     alloc: Global,
@@ -23,6 +22,14 @@ impl Model for TextTable {
     ghost view = { λ t. t.texts.keys };
 
     ghost invariant = { λ t. IsTable t.texts.keys };
+}
+
+/// Written by hand, so that who lets go of several tables calls it for each: a derived one would
+/// stand there whole, each time.
+impl Drop for TextTable {
+    fn drop(self) {
+        let TextTable { texts: _, alloc: _ } = self;
+    }
 }
 
 impl TextTable {

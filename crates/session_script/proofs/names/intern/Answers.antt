@@ -1,5 +1,5 @@
 use Rattle.session_script.proofs.NameNumbers.{mentioned_from, number_from}
-use Rattle.session_script.proofs.reader.intern.Goals as goal
+use Rattle.session_script.proofs.names.intern.Goals as goal
 
 pub returns-clause-known : goal.returns-clause-known
 returns-clause-known c = mentioned_from c.args.names.now c.intern.new.self c.args.name.now c.in-Ok.ensures.known c.in-Ok.ensures.added

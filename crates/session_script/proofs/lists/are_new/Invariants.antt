@@ -1,6 +1,6 @@
 use Rattle.std.proofs.Common.{◌≡◌, drop, map}
 use Rattle.session_script.specs.Setup.{are_new}
-use Rattle.session_script.proofs.lists.have_new.Given as goal
+use Rattle.session_script.proofs.lists.are_new.Given as goal
 
 -- the definitions that are left decide
 abbrev pub invariant-loop-definition : goal.invariant-loop-definition
