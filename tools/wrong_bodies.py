@@ -144,27 +144,33 @@ DECLARED = re.compile(r"(?:pub(?:\([^)]*\))? )?(?:struct|enum|trait|type|const|s
 FUNCTION = re.compile(r"\s*(?:pub(?:\([^)]*\))? )?(?:const )?(?:ghost )?fn (\w+)")
 
 
+IMPORT = re.compile(r"^\s*(?:pub(?:\([^)]*\))? )?(?:ghost )?use [^;]*;$", re.M)
+
+
 def code_of(text):
     """The lines of a file without tests, comments, attributes and imports."""
-    return [it for it in TESTS.sub("", text).split("\n") if it.strip() and not it.strip().startswith(("//", "#[", "#![", "use ", "mod ", "ghost use "))]
+    return [it for it in IMPORT.sub("", TESTS.sub("", text)).split("\n") if it.strip() and not it.strip().startswith(("//", "#[", "#![", "mod ", "pub mod "))]
 
 
 def items_of(text):
     """What a file says to a crate above, item by item: the type of its impl or its trait, its name, and its text without a body."""
-    lines, owner, at = code_of(text), "", 0
+    lines, owner, of_trait, at = code_of(text), "", False, 0
     while at < len(lines):
         line = lines[at]
         indent = len(line) - len(line.lstrip())
         if indent == 0 and line != "}":
             found = IMPL.match(line) or DECLARED.match(line)
             owner = found["owner"] if found else ""
+            of_trait = bool(re.match(r"(?:pub )?(?:trait\b|impl\b.* for )", line))
         begun = at
         named = FUNCTION.match(line)
         at += 1
         if named:
             while at < len(lines) and not ends(lines[at - 1], indent) and (len(lines[at]) - len(lines[at].lstrip()) > indent or lines[at].strip() in ("{", ")") or lines[at].lstrip().startswith((")", ">("))):
                 at += 1
-            yield owner, named[1], "\n".join(lines[begun:at])
+            # (a function that isn't public is no crate's above, but for those of traits)
+            if of_trait or line.lstrip().startswith("pub "):
+                yield owner, named[1], "\n".join(lines[begun:at])
             if lines[at - 1].rstrip().endswith("{"):
                 while at < len(lines) and lines[at] != " " * indent + "}":
                     at += 1
@@ -204,8 +210,9 @@ class Standing:
                     begin.append((Source(below, path), "\n".join(taken)))
         definitions = self.house.reached(begin)
         for path in sorted(definitions):
-            if self.crates.folder(name) not in path.parents:
-                found.append((str(path.relative_to(self.crates.top)), sorted(definitions[path].items())))
+            said = sorted(it for it in definitions[path].items() if it[1])
+            if said and self.crates.folder(name) not in path.parents:
+                found.append((str(path.relative_to(self.crates.top)), said))
         return found
 
 
