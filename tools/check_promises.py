@@ -1,7 +1,8 @@
 #!/usr/bin/env python3
-"""Looks whether what the documents name is there: each relative link of README.md and docs/*.md, and in their tables of
-promises, laws, crates and terms each name in backticks. And whether docs/PROMISES.md links each wrong body. Prints what isn't
-there, and exits with 1 where something isn't.
+"""Looks whether what the documents name is there: each relative link of README.md, tools/README.md and the pages of docs/, and
+in the tables of docs/ and README.md on promises, laws, crates and terms each name in backticks. And whether docs/promises/
+links each wrong body, and both docs/promises/ and docs/layers/ have a page for each layer, with its crates. Prints what
+isn't there, and exits with 1 where something isn't.
 
 A name that is a link is looked for in the file that it leads to. A name after the link of a function is a clause of its
 contract, and one after the link of a definition a field of it. Any other name may stand anywhere."""
@@ -9,6 +10,8 @@ contract, and one after the link of a definition a field of it. Any other name m
 import re
 import sys
 from pathlib import Path
+
+from layers import Layers
 
 TOP = Path(__file__).resolve().parent.parent
 # the first words of the tables that are looked at
@@ -128,39 +131,60 @@ def check_tables(path, text, known, names, functions, missing):
             check_row(path, line, known, names, missing)
 
 
-def check_sections(path, known, below, missing):
-    """The sections of PROMISES.md are crates in their order, and each that another stands on or that has wrong bodies has one."""
-    sections = [line[4:].strip() for line in path.read_text().splitlines() if line.startswith("### ")]
-    missing += [f"the crate {name}" for name in sections if name not in known]
-    here = [known.index(name) for name in sections if name in known]
-    missing += ["the order of crates.txt"] if here != sorted(here) else []
-    wanted = [name for name in known if name in below or (TOP / "crates" / name / "must-fail").is_dir()]
-    missing += [f"a section of {name}" for name in wanted if name not in sections]
+def check_sections(layers, low, missing):
+    """A page of promises is a layer's, and its sections are crates of this layer, in their order. Each crate that another stands on
+    or that has wrong bodies has one."""
+    folder, found = TOP / "docs" / "promises", set()
+    for path in sorted(folder.glob("*.md")):
+        own = layers.crates.get(path.stem, [])
+        # (a heading of several words is no crate's)
+        sections = re.findall(r"^## (\w+)$", path.read_text(), re.M)
+        missing += [f"the crate {name} of {path.name}" for name in sections if name not in own]
+        here = [own.index(name) for name in sections if name in own]
+        missing += [f"the order of crates.txt in {path.name}"] if here != sorted(here) else []
+        found |= set(sections)
+    wanted = [name for name in layers.of if name in low or (TOP / "crates" / name / "must-fail").is_dir()]
+    missing += [f"a section of {name} in docs/promises" for name in wanted if name not in found]
+
+
+def check_layers(layers, missing):
+    """Each layer has a page in docs/layers, with a row for each of its crates and no other, in their order."""
+    folder = TOP / "docs" / "layers"
+    missing += [f"the layer of {path.name}" for path in sorted(folder.glob("*.md")) if path.stem not in layers.crates]
+    for layer, own in layers.crates.items():
+        path = folder / f"{layer}.md"
+        rows = re.findall(r"^\| `(\w+)` \|", path.read_text().partition("\n## ")[0], re.M) if path.is_file() else []
+        missing += [f"a row of each crate, in order, in docs/layers/{layer}.md"] if rows != own else []
 
 
 def check_wrong_bodies(text, missing):
-    """Each wrong body stands in a row of PROMISES.md."""
+    """Each wrong body stands in a row of a page of promises."""
     edits = (path.relative_to(TOP) for path in [*sorted((TOP / "crates").glob("*/must-fail/*.edit")), *sorted((TOP / "tools" / "wrong_bodies").glob("*/*.edit"))])
-    missing += [f"a row of {edit}" for edit in edits if f"(../{edit})" not in text]
+    missing += [f"a row of {edit}" for edit in edits if f"(../../{edit})" not in text]
+
+
+def check_page(path, known, names, functions):
+    """What a page names that isn't there. The tables of tools/README.md have words of the tools' own."""
+    text, missing = path.read_text(), []
+    check_links(path, text, missing)
+    if path.parent.name != "tools":
+        check_tables(path, text, known, names, functions, missing)
+    return [f"{path.relative_to(TOP)}: {what}" for what in missing]
 
 
 def main():
-    known, below = crates()
+    known, low = crates()
     names = everything(known)
     functions = {name for path in (TOP / "crates").glob("*/src/**/*.rt") for name in FUNCTION.findall(path.read_text())}
-    failed = False
-    for path in [TOP / "README.md", *sorted((TOP / "docs").glob("*.md"))]:
-        text = path.read_text()
-        missing = []
-        check_links(path, text, missing)
-        check_tables(path, text, known, names, functions, missing)
-        if path.name == "PROMISES.md":
-            check_wrong_bodies(text, missing)
-            check_sections(path, known, below, missing)
-        for what in missing:
-            print(f"{path.relative_to(TOP)}: {what} isn't there")
-        failed = failed or bool(missing)
-    return int(failed)
+    pages = [TOP / "README.md", *sorted((TOP / "docs").rglob("*.md")), TOP / "tools" / "README.md"]
+    missing = [what for path in pages for what in check_page(path, known, names, functions)]
+    layers = Layers()
+    check_sections(layers, low, missing)
+    check_layers(layers, missing)
+    check_wrong_bodies("".join(path.read_text() for path in (TOP / "docs" / "promises").glob("*.md")), missing)
+    for what in missing:
+        print(f"{what} isn't there")
+    return int(bool(missing))
 
 
 sys.exit(main())
