@@ -273,7 +273,7 @@ def main():
     # (`./orc` may have to take the program of a release first, and says so)
     subprocess.run([program, "gen", "1"], stdout=subprocess.DEVNULL, stderr=subprocess.DEVNULL, check=False)
     begun = time.monotonic()
-    pages = [TOP / "README.md", *sorted((TOP / "docs").glob("*.md")), TOP / "tools" / "README.md"]
+    pages = [TOP / "README.md", *sorted((TOP / "docs").rglob("*.md")), TOP / "tools" / "README.md"]
     failed, skipped = False, []
     with tempfile.TemporaryDirectory(prefix="orc-pages-") as room:
         # (each page has a copy of its own, so that pages can be checked beside each other)
