@@ -26,6 +26,7 @@ impl LabNote {
 
 impl Notify for LabNote {
     ghost heard = { λ n. n.outcome };
+
     ghost number = { λ n. n.number };
 
     fn told(&mut self, outcome: Outcome) {
