@@ -44,6 +44,11 @@ UNREAD = re.compile(r"^(?:\./)?(?:src|specs)/\S+?:\d+:\d+: error: .*(?:is not in
 REFUSED, LET_THROUGH, BAD = "refused", "LET THROUGH", "can't be tried"
 
 
+def is_proved(how):
+    """Whether this is said of a function that was proved: of one that may wait, that it may is said too."""
+    return how == "proved" or how.startswith("proved, ")
+
+
 class Body:
     """A wrong body: the texts that it changes, and the functions that they stand in."""
 
@@ -310,7 +315,7 @@ class Room:
             return BAD
         functions = body.functions(self.name, self.folder)
         rows = [(named, how) for named, how in JUDGED.findall(text) if any(it.is_named(named) for it in functions)]
-        own = [named for named, how in rows if how != "proved" and not WAITS.match(how)]
+        own = [named for named, how in rows if not is_proved(how) and not WAITS.match(how)]
         if own:
             return f"{REFUSED} by {own[0]}"
         return None if any(WAITS.match(how) for _, how in rows) else LET_THROUGH
@@ -325,7 +330,7 @@ class Room:
             return f"{BAD}: {(unread[0] if unread else last)[:150]}"
         if status == 0:
             return LET_THROUGH
-        named = next((named for named, how in JUDGED.findall(text) if how != "proved" and not WAITS.match(how)), None)
+        named = next((named for named, how in JUDGED.findall(text) if not is_proved(how) and not WAITS.match(how)), None)
         return f"{REFUSED} by {named}" if named else REFUSED
 
 
