@@ -4,7 +4,7 @@ use Rattle.std.specs.Prelude.{Contains}
 use Rattle.std.specs.List.{All, filter, filter_map, list_any}
 use Rattle.std.proofs.lemmas.Bool.{eq-eqb, eqb-true, false≢true, and_parts, or_left, or_right, or_cases}
 use Rattle.std.proofs.lemmas.List.{take_more, append-nil, map-append}
-use Rattle.std.proofs.lemmas.List.Elements.{All-head, All-tail, filter-append}
+use Rattle.std.proofs.lemmas.List.Elements.{All-head, All-tail, Contains-append_left, Contains-push, Contains-push_cases, filter-append}
 use Rattle.std.proofs.lemmas.Option.{same_Some}
 use Rattle.list_laws.proofs.Each.{contains_later, contains_here}
 use Rattle.link_laws.proofs.Symbols.{length_own, numbers_below}
@@ -18,7 +18,7 @@ use Rattle.link_model.specs.declared.graph.GPlace.TheVariants.{In, Abs, External
 use Rattle.link_model.specs.declared.graph.GSym.{GSym}
 use Rattle.link_model.specs.declared.graph.LinkGraph.{LinkGraph}
 use Rattle.block_groups.specs.Keys.{is_key, blocks_with, AreKeyed, target_of}
-use Rattle.block_groups.specs.Lists.{row, IsPushed}
+use Rattle.block_groups.specs.Lists.{row, IsAdded}
 use Rattle.block_groups.proofs.Rows.{contains_cases, contains_none}
 
 -- one edge more
@@ -35,31 +35,73 @@ keyed_more key edges i k d lt =
       | false ↦ append-nil (map block (filter test (take i edges)))
     ]
 
-pub keyed_next : (key : Edge → Option ℕ) (edges : List Edge) (n i t : ℕ) (e : Edge) (old new : List (List ℕ)) → i < length edges → e ≡ get_or edges i e → key e ≡ Some t → IsPushed old t e.block new → AreKeyed key (take i edges) n old → AreKeyed key (take (i + 1) edges) n new
-keyed_next key edges n i t e old new lt is has pushed keyed = record {
-  whole = pushed.whole ∙ keyed.whole;
-  rows = λ k.
-      let before = blocks_with key (take i edges) k in
-      pushed.rows k
-      ∙ ap (λ (xs : List ℕ). cond (t == k) (xs ++ e.block ∷ []) xs) (keyed.rows k)
-      ∙ ap (λ (o : Option ℕ). cond (is_key k o) (before ++ e.block ∷ []) before) (sym has)
-      ∙ ap (λ (x : Edge). cond (is_key k (key x)) (before ++ x.block ∷ []) before) is
-      ∙ sym (keyed_more key edges i k e lt);
-}
+keyed_at : (k : ℕ) (o : Option ℕ) → is_key k o ≡ true → o ≡ Some k
+keyed_at k None h = absurd (false≢true h)
+keyed_at k (Some j) h = ap Some (eqb-true j k h)
+
+-- what a list contains that may have got one element more
+kept : (t : Bool) (xs : List ℕ) (x y : ℕ) → Contains xs y → Contains (cond t (xs ++ x ∷ []) xs) y
+kept true xs x y c = Contains-append_left xs (x ∷ []) y c
+kept false xs x y c = c
+
+last : (t : Bool) (xs : List ℕ) (x : ℕ) → t ≡ true → Contains (cond t (xs ++ x ∷ []) xs) x
+last true xs x on = Contains-push xs x
+last false xs x on = absurd (false≢true on)
+
+kept_or_last : (t : Bool) (xs : List ℕ) (x y : ℕ) → Contains (cond t (xs ++ x ∷ []) xs) y → Contains xs y ⊎ ((t ≡ true) × (x ≡ y))
+kept_or_last true xs x y c = elim (Contains-push_cases xs x y c) [
+  | inl before ↦ inl before
+  | inr same ↦ inr (refl, same)
+]
+kept_or_last false xs x y c = inl c
+
+-- the key of an edge, and its block, by another name for the edge
+key_is : (key : Edge → Option ℕ) (k t : ℕ) (e x : Edge) → e ≡ x → key e ≡ Some t → t ≡ k → is_key k (key x) ≡ true
+key_is key k t e x is has same = ap (λ (y : Edge). is_key k (key y)) (sym is) ∙ ap (is_key k) has ∙ eq-eqb t k same
+
+pub keyed_next : (key : Edge → Option ℕ) (edges : List Edge) (n i t : ℕ) (e : Edge) (old new : List (List ℕ)) → i < length edges → e ≡ get_or edges i e → key e ≡ Some t → IsAdded old t e.block new → AreKeyed key (take i edges) n old → AreKeyed key (take (i + 1) edges) n new
+keyed_next key edges n i t e old new lt is has added keyed =
+    let x : Edge = get_or edges i e in
+    let block : e.block ≡ x.block = ap (λ (y : Edge). y.block) is in
+    let more : (k : ℕ) → blocks_with key (take (i + 1) edges) k ≡ cond (is_key k (key x)) (blocks_with key (take i edges) k ++ x.block ∷ []) (blocks_with key (take i edges) k) =
+    λ k. keyed_more key edges i k e lt in
+    let behind : (k b : ℕ) → Contains (blocks_with key (take i edges) k) b → Contains (blocks_with key (take (i + 1) edges) k) b =
+    λ k b c. subst (λ (xs : List ℕ). Contains xs b) (sym (more k)) (kept (is_key k (key x)) (blocks_with key (take i edges) k) x.block b c) in
+    record {
+      whole = added.whole ∙ keyed.whole;
+      all = λ k b c. elim (kept_or_last (is_key k (key x)) (blocks_with key (take i edges) k) x.block b (subst (λ (xs : List ℕ). Contains xs b) (more k) c)) [
+        | inl before ↦ added.stays k b (keyed.all k b before)
+        | inr now ↦ (
+            let at : t ≡ k = same_Some t k (sym has ∙ ap key is ∙ keyed_at k (key x) now.0) in
+            subst (λ (j : ℕ). Contains (row new j) b) at (subst (Contains (row new t)) (block ∙ now.1) added.here))
+      ];
+      only = λ k b c. elim (added.only k b c) [
+        | inl before ↦ behind k b (keyed.only k b before)
+        | inr now ↦ subst (λ (xs : List ℕ). Contains xs b) (sym (more k))
+            (subst (Contains (cond (is_key k (key x)) (blocks_with key (take i edges) k ++ x.block ∷ []) (blocks_with key (take i edges) k))) (sym block ∙ now.1)
+            (last (is_key k (key x)) (blocks_with key (take i edges) k) x.block (key_is key k t e x is has now.0)))
+      ];
+    }
 
 pub keyed_past : (key : Edge → Option ℕ) (edges : List Edge) (n i : ℕ) (e : Edge) (old : List (List ℕ)) → i < length edges → e ≡ get_or edges i e → key e ≡ None → AreKeyed key (take i edges) n old → AreKeyed key (take (i + 1) edges) n old
-keyed_past key edges n i e old lt is none keyed = record {
-  whole = keyed.whole;
-  rows = λ k.
-      let before = blocks_with key (take i edges) k in
-      keyed.rows k
-      ∙ ap (λ (o : Option ℕ). cond (is_key k o) (before ++ e.block ∷ []) before) (sym none)
-      ∙ ap (λ (x : Edge). cond (is_key k (key x)) (before ++ x.block ∷ []) before) is
-      ∙ sym (keyed_more key edges i k e lt);
-}
+keyed_past key edges n i e old lt is none keyed =
+    let same : (k : ℕ) → blocks_with key (take i edges) k ≡ blocks_with key (take (i + 1) edges) k = λ k.
+    let before = blocks_with key (take i edges) k in
+    ap (λ (o : Option ℕ). cond (is_key k o) (before ++ e.block ∷ []) before) (sym none)
+    ∙ ap (λ (x : Edge). cond (is_key k (key x)) (before ++ x.block ∷ []) before) is
+    ∙ sym (keyed_more key edges i k e lt) in
+    record {
+      whole = keyed.whole;
+      all = λ k b c. keyed.all k b (subst (λ (xs : List ℕ). Contains xs b) (sym (same k)) c);
+      only = λ k b c. subst (λ (xs : List ℕ). Contains xs b) (same k) (keyed.only k b c);
+    }
 
 pub keyed_none : (key : Edge → Option ℕ) (n : ℕ) (lists : List (List ℕ)) → length lists ≡ n → ((k : ℕ) → row lists k ≡ []) → AreKeyed key [] n lists
-keyed_none key n lists whole none = record { whole = whole; rows = λ k. none k }
+keyed_none key n lists whole none = record {
+  whole = whole;
+  all = λ k b c. contains_none b c;
+  only = λ k b c. contains_none b (subst (λ (xs : List ℕ). Contains xs b) (none k) c);
+}
 
 -- ---- what edges lead to
 
@@ -118,15 +160,11 @@ later key a b e es c = elim (either (e.block == a)) [
 first : (key : Edge → Option ℕ) (a b : ℕ) (e : Edge) (es : List Edge) → (e.block == a) ≡ true → key e ≡ Some b → Contains (next key a (e ∷ es)) b
 first key a b e es on is = rw (on, is) (contains_here b (next key a es))
 
-keyed : (k : ℕ) (o : Option ℕ) → is_key k o ≡ true → o ≡ Some k
-keyed k None h = absurd (false≢true h)
-keyed k (Some j) h = ap Some (eqb-true j k h)
-
 pub to_next : (key : Edge → Option ℕ) (a b : ℕ) (es : List Edge) → Contains (blocks_with key es b) a → Contains (next key a es) b
 to_next key a b [] c = contains_none a c
 to_next key a b (e ∷ es) c = elim (either (is_key b (key e))) [
   | inl on ↦ (let c' : Contains (e.block ∷ blocks_with key es b) a = rw on at c in elim (contains_cases e.block a (blocks_with key es b) c') [
-    | inl same ↦ first key a b e es (eq-eqb e.block a same) (keyed b (key e) on)
+    | inl same ↦ first key a b e es (eq-eqb e.block a same) (keyed_at b (key e) on)
     | inr rest ↦ later key a b e es (to_next key a b es rest)
   ])
   | inr off ↦ (let c' : Contains (blocks_with key es b) a = rw off at c in later key a b e es (to_next key a b es c'))
@@ -188,4 +226,4 @@ with_below key n b k (e ∷ es) all c = elim (either (is_key k (key e))) [
 ]
 
 pub keyed_below : (g : LinkGraph) (key : Edge → Option ℕ) (n k b : ℕ) (lists : List (List ℕ)) → Sound g → AreKeyed key g.edges n lists → Contains (row lists k) b → b < length g.blocks
-keyed_below g key n k b lists sound is c = with_below key (length g.blocks) b k g.edges (λ i d lt. (sound.edges i d lt).block) (subst (λ (xs : List ℕ). Contains xs b) (is.rows k) c)
+keyed_below g key n k b lists sound is c = with_below key (length g.blocks) b k g.edges (λ i d lt. (sound.edges i d lt).block) (is.only k b c)

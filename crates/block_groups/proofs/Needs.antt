@@ -25,10 +25,10 @@ abbrev Leading : LinkGraph → List Bool → List (List ℕ) → Type 0
 Leading g live lists = AreKeyed (leads_to g live) g.edges (length g.blocks) lists
 
 led_to : (g : LinkGraph) (live : List Bool) (lists : List (List ℕ)) (a b : ℕ) → Leading g live lists → Contains (row lists b) a → Contains (next_blocks g live a) b
-led_to g live lists a b is c = to_next (leads_to g live) a b g.edges (subst (λ (xs : List ℕ). Contains xs a) (is.rows b) c)
+led_to g live lists a b is c = to_next (leads_to g live) a b g.edges (is.only b a c)
 
 led_from : (g : LinkGraph) (live : List Bool) (lists : List (List ℕ)) (a b : ℕ) → Leading g live lists → Contains (next_blocks g live a) b → Contains (row lists b) a
-led_from g live lists a b is c = subst (λ (xs : List ℕ). Contains xs a) (sym (is.rows b)) (from_next (leads_to g live) a b g.edges c)
+led_from g live lists a b is c = is.all b a (from_next (leads_to g live) a b g.edges c)
 
 -- a way over the lists is one over the edges, backwards
 turned : (g : LinkGraph) (live : List Bool) (lists : List (List ℕ)) (a b : ℕ) (path : List ℕ) → Leading g live lists → IsPath (row lists) a path b → Reaches (next_blocks g live) b a
@@ -56,10 +56,10 @@ needing_is g live leading referring old s new blocks symbol b sound is refer at 
       | inl was ↦ absurd (false≢true (sym (clear.none cause.by) ∙ was))
       | inr c ↦ c
     ] in
-    walks.1 (cause.by, turned g live leading cause.by b cause.reaches.path is cause.reaches.leads, to_refers cause.by symbol g.edges (subst (λ (xs : List ℕ). Contains xs cause.by) (at ∙ refer.rows symbol) by)))
+    walks.1 (cause.by, turned g live leading cause.by b cause.reaches.path is cause.reaches.leads, to_refers cause.by symbol g.edges (refer.only symbol cause.by (subst (λ (xs : List ℕ). Contains xs cause.by) at by))))
     (λ h.
     let way = walks.0 h in
-    let here : is_seen s way.0 ≡ true = more.here way.0 (subst (λ (xs : List ℕ). Contains xs way.0) (sym (at ∙ refer.rows symbol)) (from_refers way.0 symbol g.edges way.2)) in
+    let here : is_seen s way.0 ≡ true = more.here way.0 (subst (λ (xs : List ℕ). Contains xs way.0) (sym at) (refer.all symbol way.0 (from_refers way.0 symbol g.edges way.2))) in
     back g live leading s new b way.0 way.1.path is spread way.1.leads (spread.stays way.0 here))
 
 -- ---- one external more

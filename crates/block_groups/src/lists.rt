@@ -1,5 +1,5 @@
-ghost use Rattle.std.specs.Prelude.{◌≡◌, ◌<◌, ℕ, [], length, IfOk, OnOk};
-ghost use Rattle.block_groups.specs.Lists.{row, IsPushed};
+ghost use Rattle.std.specs.Prelude.{◌≡◌, ◌<◌, ℕ, [], true, Contains, length, IfOk, OnOk};
+ghost use Rattle.block_groups.specs.Lists.{row, IsAdded, IsPushed};
 
 use std::alloc::{AllocError, Global};
 use std::marker::Model;
@@ -45,5 +45,28 @@ impl<T: Copy> Lists<T> {
         ensures { result.now ≡ row self.now k }
     {
         self.rows[k].as_slice()
+    }
+}
+
+/// Whether a list ends with a number.
+fn ends_with(list: &[u32], x: u32) -> bool
+    ensures { result ≡ true → Contains list.now x }
+{
+    match list.last() {
+        Some(last) => *last == x,
+        None => false,
+    }
+}
+
+impl Lists<u32> {
+    /// Puts a number into a list, unless it is the last one there: those that come in order are so there once.
+    pub(crate) fn add(&mut self, k: usize, x: u32) -> Result<(), AllocError>
+        requires { k < length self.old }
+        ensures { OnOk result (IsAdded self.old k x self.new) }
+    {
+        if ends_with(self.row(k), x) {
+            return Ok(());
+        }
+        self.push(k, x)
     }
 }

@@ -52,7 +52,7 @@ fn note_targets(lists: &mut Lists<u32>, edges: &[Edge]) -> Result<(), AllocError
     ensures { OnOk result (AreKeyed target_of edges.now (length lists.old) lists.new) }
 {
     for e in edges {
-        lists.push(e.target as usize, e.block)?;
+        lists.add(e.target as usize, e.block)?;
     }
     Ok(())
 }
@@ -81,7 +81,7 @@ fn note_leads(
 {
     for e in g.edges.as_slice() {
         if let Some(block) = lead(g, live, owners, e) {
-            lists.push(block as usize, e.block)?;
+            lists.add(block as usize, e.block)?;
         }
     }
     Ok(())

@@ -13,4 +13,4 @@ loop-e-preserved c =
     let es = c.args.edges.now in
     let i = c.loop-e.e-index in
     let e : Edge = get_or es i no_edge in
-    keyed_next target_of es (length c.args.lists.now) i e.target e c.loop-e.lists c.push.new.self c.loop-e-test.true (get_or_default es i no_edge e c.loop-e-test.true) refl c.in_ok-push.ensures c.loop-e.invariant
+    keyed_next target_of es (length c.args.lists.now) i e.target e c.loop-e.lists c.add.new.self c.loop-e-test.true (get_or_default es i no_edge e c.loop-e-test.true) refl c.in_ok-add.ensures c.loop-e.invariant
