@@ -3,3 +3,4 @@ pub mod Parts
 pub mod Steps
 pub mod Seats
 pub mod Allowed
+pub mod Posts

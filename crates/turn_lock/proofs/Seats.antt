@@ -1,5 +1,6 @@
 -- The opening, and views that are split and joined, keep the rule.
-use Rattle.std.proofs.Common.{◌≡◌, ◌≢◌, ◌⊎◌, ℕ, zero, suc, ◌-◌, ◌<◌, ◌≤◌, eqb, List, [], ◌∷◌, ◌++◌, length, set, Bool, true, false, cond, refl, sym, ap, ◌∙◌, subst, ⊎_elim, inl, inr, arith, All, slice_index_or, Option, Some, None, length-set, eq-eqb, ne_eqb}
+use Rattle.std.proofs.Common.{◌≡◌, ◌≢◌, ◌⊎◌, ℕ, zero, suc, ◌-◌, ◌<◌, ◌≤◌, eqb, List, [], ◌∷◌, ◌++◌, length, replicate, set, Bool, true, false, cond, refl, sym, ap, ◌∙◌, subst, ⊎_elim, inl, inr, arith, All, slice_index_or, Option, Some, None, length-set, eq-eqb, ne_eqb}
+use Rattle.std.proofs.lemmas.List.{length-replicate}
 use Rattle.std.proofs.lemmas.List.Elements.{All-append, All-cons, All-nil, All-weaker}
 use mathlib.Core.Option.{some, some-ne-none, some-injective}
 use lib.ListN.{get_elem?}
@@ -80,10 +81,16 @@ module _ {T E : Type 0} (history : T → List E) (seat_of : E → ℕ) (lawful :
       })
       one (suc place) v e = absurd (some-ne-none v (sym e))
 
-  -- the same of a turn with no posts, as `open` makes it
-  pub opens_as : (seats : ℕ) (slots : List (Option T)) (x : T) → slots ≡ Some x ∷ [] → 0 < seats → history x ≡ [] → lawful (history x) → Rule (seats, 0) (opening (0 ∷ 0 ∷ []) slots (first_view (seats, 0)))
-  opens_as seats slots x same some_seat none_yet legal = subst (λ (l : List (Option T)). Rule (seats, 0) (opening (0 ∷ 0 ∷ []) l (first_view (seats, 0)))) (sym same)
-      (opens seats 0 [] x some_seat refl (λ k v p. absurd (some-ne-none v (sym p))) none_yet (subst lawful none_yet legal))
+  -- the same, as `open_posts` makes it
+  pub opens_as : (seats count : ℕ) (words : List ℕ) (slots : List (Option T)) (x : T) → words ≡ 0 ∷ 0 ∷ replicate count 0 → slots ≡ Some x ∷ [] → 0 < seats → history x ≡ [] → lawful (history x)
+      → Rule (seats, count) (opening words slots (first_view (seats, count)))
+  opens_as seats count words slots x blank same some_seat none_yet legal = subst (λ (p : List ℕ × List (Option T)). Rule (seats, count) (opening p.0 p.1 (first_view (seats, count)))) (λ i. (sym blank i, sym same i))
+      (opens seats count (replicate count 0) x some_seat (length-replicate count 0) (blanks count) none_yet (subst lawful none_yet legal))
+    where
+      blanks : (n k v : ℕ) → get_elem? (replicate n 0) k ≡ some v → v ≡ 0
+      blanks zero k v p = absurd (some-ne-none v (sym p))
+      blanks (suc n) zero v p = sym (some-injective 0 v p)
+      blanks (suc n) (suc k) v p = blanks n k v p
 
   -- a view is cut in two, where the first keeps what it has of the turn
   cuts : (key : ℕ × ℕ) (s : State (Option T) (View E)) (r : Rule key s) (id : ℕ) (v left right : View E) (holder' : ℕ → ℕ × Use) → get_elem? s.views id ≡ some v → v.turn ≡ left.turn

@@ -32,7 +32,7 @@ module _ {T E : Type 0} (history : T → List E) (seat_of : E → ℕ) (lawful :
   }
 
   -- a step that changes one view alone
-  revises : (key : ℕ × ℕ) (s : State (Option T) (View E)) (r : Rule key s) (words : List ℕ) (id : ℕ) (v w : View E) → words ≡ s.words → get_elem? s.views id ≡ some v → v.turn ≡ w.turn
+  pub revises : (key : ℕ × ℕ) (s : State (Option T) (View E)) (r : Rule key s) (words : List ℕ) (id : ℕ) (v w : View E) → words ≡ s.words → get_elem? s.views id ≡ some v → v.turn ≡ w.turn
       → Fits seat_of key.0 r.log r.turn r.posts r.keeper r.holder id w → Rule key record { words = words; homes = s.homes; views = set s.views id w }
   revises key s r words id v w same at turns fits = record {
     log = r.log;

@@ -1,5 +1,5 @@
 -- A turn and its seats, as clauses see them.
-use Rattle.std.specs.Prelude.{◌≡◌, true, false}
+use Rattle.std.specs.Prelude.{◌≡◌, ℕ, true, false}
 use Rattle.atomic_table.specs.Seated.{TableId}
 use Rattle.turn_lock.specs.declared.seat.Seat.{Seat}
 use Rattle.turn_lock.specs.declared.turn.Turn.{Turn}
@@ -18,6 +18,10 @@ module _ {T E : Type 0} where
   -- which turn it is
   abbrev pub turn_id : Turn T E → TableId
   turn_id t = t.table.shared.table_id
+
+  -- how many posts it was opened with
+  abbrev pub post_count : Turn T E → ℕ
+  post_count t = t.table.shared.key.1
 
   -- a seat of this turn, which doesn't have the turn
   abbrev pub IsReady : TableId → Seat T E → Type 0

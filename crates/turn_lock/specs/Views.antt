@@ -1,5 +1,5 @@
 -- What each step makes of a view.
-use Rattle.std.specs.Prelude.{ℕ, ◌+◌, ◌-◌, List, [], ◌∷◌, ◌++◌, true, false}
+use Rattle.std.specs.Prelude.{ℕ, zero, suc, ◌+◌, ◌-◌, List, [], ◌∷◌, ◌++◌, true, false}
 use Rattle.turn_lock.specs.declared.view.View.{View}
 use Rattle.turn_lock.specs.Lists.{longer, shorter, unused}
 
@@ -54,6 +54,19 @@ module _ {E : Type 0} where
   -- after these entries of its own
   abbrev pub grows : List E → View E → View E
   grows more v = record v { seen = v.seen ++ more; mine = v.mine ++ more }
+
+  -- after a post was filled, or was found filled
+  abbrev pub notes : ℕ → ℕ → View E → View E
+  notes k x v = record v { noted = (k, x) ∷ v.noted }
+
+  -- after a post was found empty
+  abbrev pub finds_empty : ℕ → View E → View E
+  finds_empty k v = record v { zeros = v.zeros ++ k ∷ [] }
+
+  -- after post k was found to hold x
+  abbrev pub finds_post : ℕ → ℕ → View E → View E
+  finds_post k zero v = finds_empty k v
+  finds_post k (suc x) v = notes k (suc x) v
 
   -- after the turn was given
   abbrev pub gives_turn : View E → View E

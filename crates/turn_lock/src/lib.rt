@@ -18,11 +18,15 @@
 //! no `Call` can say: a `Held` must be spent by `leave`, and code that lets one go does not
 //! compile.
 //!
+//! A turn may be opened with posts: further words of the table, each 0 until a seat fills it with
+//! what the history shows for good (`Counted::posted`). `Turn::post` and `Turn::read_post` wait for
+//! nobody, whoever has the turn. A seat that found a post filled has then seen a history that shows
+//! what stands there, and from then on it finds that word again.
+//!
 //! No clause says that a call which waits returns: that a sleeper is woken, and that giving the
 //! turn wakes one, the runs of `turn_soak` show, which would not end else. Nor does one say in
-//! which order seats get the turn. Of the posts that the rule speaks of, there is no call yet.
-//! Read `counted` first, then `call`, `view`, `specs/Views.antt`, `specs/Told.antt` and
-//! `specs/Passes.antt`.
+//! which order seats get the turn, or that a seat sees what another has posted. Read `counted`
+//! first, then `call`, `view`, `specs/Views.antt`, `specs/Told.antt` and `specs/Passes.antt`.
 #![tactic(auto)]
 
 mod call;

@@ -1,5 +1,5 @@
 //! What each step on the table tells, and how views are split and joined.
-ghost use Rattle.turn_lock.specs.Told.{Counted as counted, Took, Added, Gave, Closed};
+ghost use Rattle.turn_lock.specs.Told.{Counted as counted, Took, Added, Gave, Closed, Posted, FoundPost};
 ghost use Rattle.turn_lock.specs.Views.{spares_less, split_off, note_of, joined, learns, spent};
 ghost use Rattle.std.specs.Prelude.{List, []};
 
@@ -87,4 +87,18 @@ impl<E> Join<View<E>> for Note {
     ghost both = { learns };
 
     ghost spent = { spent };
+}
+
+/// A store of a word in a post.
+pub(crate) struct StorePost;
+
+impl<T, E> Play<Option<T>, View<E>> for StorePost {
+    ghost then = { Posted };
+}
+
+/// A load of a post.
+pub(crate) struct LoadPost;
+
+impl<T, E> Play<Option<T>, View<E>> for LoadPost {
+    ghost then = { FoundPost };
 }

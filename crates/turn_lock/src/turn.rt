@@ -1,5 +1,5 @@
 //! The turn.
-ghost use Rattle.std.specs.Prelude.{◌≡◌, ◌+◌};
+ghost use Rattle.std.specs.Prelude.{◌≡◌, ◌+◌, ◌<◌, ◌^◌};
 
 use crate::counted::Counted;
 use crate::rule::Rule;
@@ -11,12 +11,16 @@ use std::sync::atomic::AtomicU64;
 mod calls;
 mod ends;
 mod passes;
+mod posts;
 
 /// The word that counts the entries of the history.
 pub(crate) const COUNT: usize = 0;
 
 /// The word that says who has the turn: 0 nobody, 1 a seat, 2 nobody any more.
 pub(crate) const TURN: usize = 1;
+
+/// The word of the first post.
+pub(crate) const POSTS: usize = 2;
 
 /// The slot where the value is while nobody has the turn.
 pub(crate) const VALUE: usize = 0;
@@ -29,4 +33,5 @@ pub struct Turn<T: Counted> {
     /// system. No proof knows anything of it.
     pub(crate) sleepers: AtomicU64,
     ghost places: { (table.shared.table_id.words ≡ table.shared.key.1 + 2) × (table.shared.table_id.slots ≡ 1) },
+    ghost few: { table.shared.key.1 + 2 < 2 ^ 64 },
 }

@@ -1,7 +1,10 @@
-ghost use Rattle.std.specs.Prelude.{◌≡◌, ◌++◌, ◌∷◌, [], false, true, All, IfOk, OnOk, OnErr, refl};
-ghost use Rattle.std.proofs.Common.{◌∙◌, ap, inl, inr, Ok, Err};
+ghost use Rattle.std.specs.Prelude.{◌≡◌, ◌≢◌, ◌<◌, ◌+◌, ◌++◌, ◌∷◌, [], false, true, length, All, IfOk, OnOk, OnErr, refl};
+ghost use Rattle.std.proofs.Common.{◌∙◌, ap, sym, subst, inl, inr, Ok, Err};
+ghost use Rattle.std.proofs.Math.Nat.{lt_trans};
+ghost use Rattle.std.proofs.Math.Numerals.{lt-add-one};
+ghost use Rattle.std.proofs.lemmas.List.{length-append};
 ghost use Rattle.std.proofs.lemmas.List.Elements.{filter-append};
-ghost use Rattle.turn_lock.specs.Handles.{view, turn_id, IsReady};
+ghost use Rattle.turn_lock.specs.Handles.{view, turn_id, post_count, IsReady};
 ghost use Rattle.turn_lock.specs.Lists.{entries_of};
 ghost use Rattle.turn_lock.specs.Views.{finds_taken};
 
@@ -26,7 +29,8 @@ impl Counted for Roll {
 
     ghost lawful = { λ _. Unit {0} };
 
-    ghost posted = { λ _ _ _. ⊥ };
+    // A history of more than `k` turns gives `k` the number `k + 1`.
+    ghost posted = { λ log k v. (k < length log) × (v ≡ k + 1) };
 
     fn history_len(&self) -> u64 {
         self.seats.len() as u64
@@ -34,9 +38,9 @@ impl Counted for Roll {
 
     ghost lawful_before = { λ _ _ _. tt };
 
-    ghost stays_posted = { λ _ _ _ _ _ posted. posted };
+    ghost stays_posted = { λ before e k _ _ posted. (subst (λ n. k < n) (sym (length-append before (e ∷ []))) (lt_trans posted.0 (lt-add-one (length before))), posted.1) };
 
-    ghost posted_once = { λ _ _ _ _ _ posted _. absurd posted };
+    ghost posted_once = { λ _ _ _ _ _ one other. one.1 ∙ sym other.1 };
 }
 
 impl Roll {
@@ -231,4 +235,53 @@ fn two_calls<R: Wait>(rt: &R, alloc: Global) -> Option<[bool; 4]> {
 #[test]
 fn a_call_is_made_once_the_turn_is_free(rt: HostRuntime) {
     assert_eq!(rt; two_calls(&rt, rt.alloc()), Some([true; 4]));
+}
+
+/// Posts the first turn, if the seat has seen one; whether it has.
+fn post_first(turn: &Turn<Roll>, seat: &mut Seat<Roll, u32>) -> bool
+    requires ready { IsReady (turn_id turn.now) seat.old }
+    requires there { 0 < post_count turn.now }
+    ensures ready { IsReady (turn_id turn.now) seat.new }
+{
+    let seen = turn.front(seat) > 0;
+    if seen {
+        turn.post(seat, 0, 1);
+    }
+    seen
+}
+
+/// What stands in a post. A seat that found it filled has seen the turn that it speaks of, and finds
+/// what it filled it with itself.
+fn word(turn: &Turn<Roll>, seat: &mut Seat<Roll, u32>, k: u64) -> u64
+    requires ready { IsReady (turn_id turn.now) seat.old }
+    requires there { k < post_count turn.now }
+    ensures ready { IsReady (turn_id turn.now) seat.new }
+    ensures seen { result ≢ 0 → k < length (view seat.new).seen }
+    ensures own { All (λ p. p.0 ≡ k → result ≡ p.1) (view seat.old).noted }
+{
+    turn.read_post(seat, k)
+}
+
+/// Two seats of a turn with two posts. Whether both are empty at the opening, whether the second seat
+/// posts nothing before a turn and does after it, and whether then both seats find the word in the
+/// first post and none in the second. `None` where memory runs out.
+fn two_posts(alloc: Global) -> Option<[bool; 5]> {
+    let Ok((turn, mut first)) = Turn::open_posts(alloc, Roll::new(alloc), 2, 2) else {
+        return None;
+    };
+    let mut second = turn.split(&mut first);
+    let empty = word(&turn, &mut first, 0) == 0 && word(&turn, &mut first, 1) == 0;
+    let early = post_first(&turn, &mut second);
+    let Ok(true) = note_once(&turn, &mut second) else {
+        return None;
+    };
+    let posted = post_first(&turn, &mut second);
+    let found = word(&turn, &mut first, 0) == 1 && word(&turn, &mut first, 1) == 0;
+    let own = word(&turn, &mut second, 0) == 1 && word(&turn, &mut second, 1) == 0;
+    Some([empty, !early, posted, found, own])
+}
+
+#[test]
+fn a_post_is_read_without_the_turn(rt: HostRuntime) {
+    assert_eq!(rt; two_posts(rt.alloc()), Some([true; 5]));
 }
