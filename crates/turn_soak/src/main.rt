@@ -2,7 +2,7 @@
 //!
 //! With no argument it runs 16 seats of 250,000 turns each and says what the roll has. With the
 //! argument `measure` it prints how many turns a second 1, 4 and 16 threads take, beside a mutex of
-//! std that does the same work. Contracts say what one turn and one seat's turns add to the history:
+//! std that does the same work, and how many words a second 1 and 4 threads read without the turn. Contracts say what one turn and one seat's turns add to the history:
 //! see `turns`. That a sleeper wakes no contract says: a run that ends shows it. Read `turn_lock` first.
 #![tactic(auto)]
 
@@ -12,6 +12,7 @@ mod soak;
 #[cfg(test)]
 mod tests;
 mod turns;
+mod words;
 
 use anyhow::Result;
 use std::env;

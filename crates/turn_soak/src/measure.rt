@@ -2,7 +2,7 @@
 ghost use Rattle.std.specs.Prelude.{◌<◌};
 
 use crate::roll::{Mark, Roll};
-use crate::soak;
+use crate::{soak, words};
 use anyhow::Result;
 use std::alloc::Global;
 use std::io::Print;
@@ -14,11 +14,39 @@ use std::time::{Clock, Duration, Instant};
 /// The turns of all threads together, at each measurement.
 const TOTAL: u32 = 960_000;
 
-/// Prints a line for each of three numbers of threads.
+/// The words that each reader reads, at each measurement.
+const READS: u32 = 10_000_000;
+
+/// The turns that are posted meanwhile.
+const POSTS: u32 = 10_000;
+
+/// Prints a line for each of three numbers of threads, and for two of readers.
 pub fn print_rates<R: Threads + Wait + Sync + Clock + Print>(rt: &R, alloc: Global) -> Result<()> {
     print_rate(rt, alloc, 1)?;
     print_rate(rt, alloc, 4)?;
-    print_rate(rt, alloc, 16)
+    print_rate(rt, alloc, 16)?;
+    print_reads(rt, alloc, 1)?;
+    print_reads(rt, alloc, 4)
+}
+
+/// Prints how many words a second so many threads read, while one more takes turns and posts them.
+fn print_reads<R: Threads + Wait + Sync + Clock + Print>(
+    rt: &R,
+    alloc: Global,
+    readers: u32,
+) -> Result<()>
+    requires { readers < 16 }
+{
+    let start = Instant::now(rt)?;
+    let words = words::run(rt, alloc, readers, READS, POSTS)?;
+    let taken = start.elapsed(rt)?;
+    let reads = u128::from(readers) * u128::from(READS);
+    let rate = reads * 1_000_000_000 / taken.as_nanos().max(1);
+    println!(rt;
+        "{readers} readers: {rate} words a second ({} there)",
+        words.found
+    )?;
+    Ok(())
 }
 
 /// Prints the line of so many threads.

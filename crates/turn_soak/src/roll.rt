@@ -1,5 +1,9 @@
 //! A roll of turns.
-ghost use Rattle.std.specs.Prelude.{◌≡◌, ◌++◌, ◌∷◌, [], vec_len, OnOk, OnErr};
+ghost use Rattle.std.specs.Prelude.{◌≡◌, ◌<◌, ◌+◌, ◌++◌, ◌∷◌, [], length, vec_len, OnOk, OnErr};
+ghost use Rattle.std.proofs.Common.{◌∙◌, sym, subst};
+ghost use Rattle.std.proofs.Math.Nat.{lt_trans};
+ghost use Rattle.std.proofs.Math.Numerals.{lt-add-one};
+ghost use Rattle.std.proofs.lemmas.List.{length-append};
 
 use std::alloc::{AllocError, Global};
 use turn_lock::Counted;
@@ -26,7 +30,8 @@ impl Counted for Roll {
 
     ghost lawful = { λ _. Unit {0} };
 
-    ghost posted = { λ _ _ _. ⊥ };
+    // A roll of more than `k` turns gives the number `k` the word `k + 1`.
+    ghost posted = { λ log k v. (k < length log) × (v ≡ k + 1) };
 
     fn history_len(&self) -> u64 {
         self.marks.len() as u64
@@ -34,9 +39,9 @@ impl Counted for Roll {
 
     ghost lawful_before = { λ _ _ _. tt };
 
-    ghost stays_posted = { λ _ _ _ _ _ posted. posted };
+    ghost stays_posted = { λ before e k _ _ posted. (subst (λ n. k < n) (sym (length-append before (e ∷ []))) (lt_trans posted.0 (lt-add-one (length before))), posted.1) };
 
-    ghost posted_once = { λ _ _ _ _ _ posted _. absurd posted };
+    ghost posted_once = { λ _ _ _ _ _ one other. one.1 ∙ sym other.1 };
 }
 
 impl Roll {
