@@ -1,3 +1,4 @@
 pub mod Sharing
 pub mod Crossing
 pub mod Lent
+pub mod Words

@@ -3,3 +3,4 @@ pub mod Carried
 pub mod Does
 pub mod Single
 pub mod SharedCalls
+pub mod ReadyWords

@@ -9,13 +9,18 @@
 //! law `calls_are_shared` (`specs/SharedCalls`). What an event has to know of a unit that the pass holds
 //! is said over the history that the pass has seen: what other seats do since leaves it true.
 //!
-//! The notifiers that an event tells are answered, to be fired after the turn was given. Read
-//! `turn_lock` and `execution_session` first.
+//! The notifiers that an event tells are answered, to be fired after the turn was given.
+//!
+//! A session that is opened with posts has one for each instance. A pass that has seen an instance ready
+//! may post its address (`post`), and any pass may read it without the turn (`ready_word`). What it is
+//! told, if not 0, is the address of an instance that is ready in the history that the pass has then
+//! seen, and stays so (`specs/ReadyWords`). Read `turn_lock` and `execution_session` first.
 #![tactic(auto)]
 
 mod calls;
 mod home;
 mod laws;
+mod posts;
 mod shared;
 
 pub use calls::{
@@ -23,5 +28,6 @@ pub use calls::{
     MakeTracker, MoveTracker, Place, Remove, Resolve, SetOrder, Take,
 };
 pub use home::Home;
-pub use laws::calls_are_shared;
-pub use shared::{Pass, Shared, close, open};
+pub use laws::{calls_are_shared, ready_words_stand};
+pub use posts::{POSTS, post, ready_word};
+pub use shared::{Pass, Shared, close, open, open_posts};
