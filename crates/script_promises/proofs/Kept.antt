@@ -1,7 +1,6 @@
 -- A script's session keeps its promises.
-use Rattle.std.proofs.Common.{arith, ◌≡◌, ℕ, suc, ◌+◌, Bool, true, false, ◌==◌, List, [], ◌∷◌, ◌++◌, slice_get, take, Option, None, Some, refl, subst}
-use Rattle.std.specs.Bool.{if◌then◌else◌}
-use Rattle.std.proofs.lemmas.List.Elements.{All-cons, All-head, All-nil}
+use Rattle.std.proofs.Common.{◌≡◌, ℕ, ◌+◌, List, [], ◌∷◌, ◌++◌, slice_get, take, Option, None, Some, refl, subst}
+use Rattle.std.proofs.lemmas.List.Elements.{All-head}
 use Rattle.list_laws.proofs.Each.{all_front, all_back}
 use Rattle.orc_ids.specs.declared.lookup.Stop.{Stop}
 use Rattle.exec_run.specs.declared.ran.RunEnd.{RunEnd}
@@ -18,6 +17,7 @@ use Rattle.look_ends.specs.declared.look_end.LookEnd.TheVariants as look
 use Rattle.given_names.specs.Given.{Given, address_of}
 use Rattle.session_promises.specs.Lookups.{AreCallsOf}
 use Rattle.session_promises.proofs.Failures.{failure_hits_those, nothing_else_fails}
+use Rattle.session_promises.proofs.Entries.{calls_of}
 use Rattle.session_promises.proofs.FoundReady.{found_is_ready}
 use Rattle.session_promises.proofs.Settled.{failed_where_lost, found_where_settled}
 use Rattle.session_promises.proofs.Runs.{intact_runs_as_linked}
@@ -29,29 +29,6 @@ use Rattle.script_laws.specs.Scripts.{Went, Whole, InSetUp}
 use Rattle.script_laws.specs.declared.line_end.LineEnd.{LineEnd}
 use Rattle.script_laws.specs.declared.line_end.LineEnd.TheVariants.{Looked, Ran, Skipped, Stopped}
 use Rattle.script_promises.specs.Promises.{AreKept, IsKept, IsRun, ScriptKeepsPromises}
-
--- Calls of a history
-
--- each of a seat's calls is an entry of the history
-numbered_are : (s m : ℕ) (es h : List (Entry Meaning)) → ((k : ℕ) (e : Entry Meaning) → slice_get es k ≡ Some e → (n : ℕ) × (m + k ≡ n + 1) × (slice_get h n ≡ Some e)) → AreCallsOf h (numbered_calls s m es)
-numbered_are s m [] h at = All-nil (λ c. (n : ℕ) × (c.0 ≡ n + 1) × (slice_get h n ≡ Some c.1))
-numbered_are s m (e ∷ es) h at = by (e.seat.0 == s) here (numbered_are s (m + 1) es h later)
-  where
-    Call : ℕ × Entry Meaning → Type 0
-    Call c = (n : ℕ) × (c.0 ≡ n + 1) × (slice_get h n ≡ Some c.1)
-
-    here : Call (m, e)
-    here = let a = at 0 e refl in (a.0, omega (arith, a.1), a.2)
-
-    later : (k : ℕ) (x : Entry Meaning) → slice_get es k ≡ Some x → (n : ℕ) × (m + 1 + k ≡ n + 1) × (slice_get h n ≡ Some x)
-    later k x there = let a = at (suc k) x there in (a.0, omega (arith, a.1), a.2)
-
-    by : (b : Bool) → Call (m, e) → AreCallsOf h (numbered_calls s (m + 1) es) → AreCallsOf h (if b then (m, e) ∷ numbered_calls s (m + 1) es else numbered_calls s (m + 1) es)
-    by true c rest = All-cons Call (m, e) (numbered_calls s (m + 1) es) c rest
-    by false c rest = rest
-
-calls_of : (s : ℕ) (h : List (Entry Meaning)) → AreCallsOf h (numbered_calls s 1 h)
-calls_of s h = numbered_are s 1 h h (λ k e there. (k, omega arith, there))
 
 -- One line
 

@@ -1,7 +1,9 @@
 pub mod Closing
 pub mod Entries
 pub mod Failures
+pub mod Few
 pub mod FoundReady
+pub mod FoundStanding
 pub mod LastCalls
 pub mod Lodged
 pub mod Runs

@@ -1,7 +1,8 @@
 -- What a session promises its clients, of every legal history.
-use Rattle.std.specs.Prelude.{◌≡◌, ◌↔◌, ◌⊎◌, ℕ, ◌+◌, true, false, List, [], ◌∷◌, ◌++◌, Contains, slice_get, take, Some}
+use Rattle.std.specs.Prelude.{◌≡◌, ◌↔◌, ◌⊎◌, ℕ, ◌+◌, true, false, List, [], ◌∷◌, ◌++◌, ◌≤◌, Contains, length, slice_get, take, All, Some}
 use Rattle.orc_ids.specs.declared.ids.InstId.{InstId}
 use Rattle.orc_ids.specs.declared.ids.QueryId.{QueryId}
+use Rattle.orc_ids.specs.declared.limits.TheConstants.{INSTANCE_LIMIT}
 use Rattle.orc_ids.specs.declared.lookup.Level.TheVariants.{Ready}
 use Rattle.code_memory.specs.Mapped.{byte_at}
 use Rattle.code_memory.specs.declared.image.Segment.{Segment}
@@ -24,7 +25,7 @@ use Rattle.session_model.specs.declared.entry.Reply.TheVariants as reply
 use Rattle.session_laws.specs.Failures.{IsFailure}
 use Rattle.closures.specs.Closures.{AreObjects}
 use Rattle.session_promises.specs.Failures.{roots_of}
-use Rattle.session_promises.specs.Lookups.{AreCallsOf, IsFailedAt, IsFoundAt}
+use Rattle.session_promises.specs.Lookups.{AreCallsOf, IsFailedAt, IsFoundAt, StandsReady}
 use Rattle.session_promises.specs.Runs.{IsClosure}
 
 -- a lookup whose last call was answered that it is found: the call collects a query that an ask for its names lodged, and it was answered
@@ -44,6 +45,15 @@ FailedWhereLost = (jmax : ℕ) (h : List (Entry Meaning)) → IsLegal jmax h →
 abbrev pub FoundIsReady : Type 0
 FoundIsReady = (h : List (Entry Meaning)) (l : Lookup) (q : QueryId) (at : ℕ) (matches : Bindings) (f : IsFoundAt h l q at matches) → l.level ≡ Ready →
     (i : InstId) → Contains f.found (Some i) → IsReady (state (take at h)).rows i.0
+
+-- and stays so in every later history, at the address that it was found at
+abbrev pub FoundStaysReady : Type 0
+FoundStaysReady = (jmax : ℕ) (h : List (Entry Meaning)) → IsLegal jmax h → (l : Lookup) (q : QueryId) (at : ℕ) (matches : Bindings) → IsFoundAt h l q at matches → l.level ≡ Ready →
+    All (StandsReady (state h).rows) matches
+
+-- a session has few instances
+abbrev pub RowsAreFew : Type 0
+RowsAreFew = (jmax : ℕ) (h : List (Entry Meaning)) → IsLegal jmax h → length (state h).rows ≤ INSTANCE_LIMIT
 
 -- a failure puts in error exactly the unready instances that reach what it strikes
 abbrev pub FailureHitsThose : Type 0

@@ -1,15 +1,18 @@
 -- When a lookup ends, and with what (ORC: AsynchronousSymbolQuery).
-use Rattle.std.specs.Prelude.{◌≡◌, ◌⊎◌, ℕ, ◌+◌, ◌<◌, ◌≤◌, true, false, List, slice_get, take, length, All, Option, Some, None}
+use Rattle.std.specs.Prelude.{◌≡◌, ◌≢◌, ◌⊎◌, ⊤, ℕ, ◌+◌, ◌<◌, ◌≤◌, true, false, List, slice_get, take, length, All, Option, Some, None}
 use Rattle.orc_ids.specs.declared.ids.InstId.{InstId}
 use Rattle.orc_ids.specs.declared.ids.QueryId.{QueryId}
 use Rattle.orc_ids.specs.declared.lookup.Level.{Level}
 use Rattle.session_model.specs.Calls.{Lookup, lookup_event}
 use Rattle.session_model.specs.Change.{matched}
 use Rattle.session_model.specs.Meaning.{Bindings, Meaning}
+use Rattle.session_model.specs.Plain.{address_at}
 use Rattle.session_model.specs.Query.{addresses, all_at, first_lost}
+use Rattle.session_model.specs.Reach.{IsReady}
 use Rattle.session_model.specs.State.{state}
 use Rattle.session_model.specs.declared.entry.Entry.{Entry}
 use Rattle.session_model.specs.declared.entry.Reply.TheVariants as reply
+use Rattle.session_model.specs.declared.rows.InstRow.{InstRow}
 
 -- entry n + 1 asks for the names of the lookup and lodges this query, and this is what they match by the entries before it; a weakly
 -- referenced name may match nothing
@@ -60,3 +63,8 @@ pub record IsFailedAt (h : List (Entry Meaning)) (l : Lookup) (q : QueryId) (n :
   pub found : List (Option InstId)
   pub matched : AreMatched h l q asked found
   pub first : IsFirstLost h l.level found (asked + 1) n lost
+
+-- a match with an address other than 0 is ready, at it
+abbrev pub StandsReady : List InstRow → Option (InstId × ℕ) → Type 0
+StandsReady rows None = ⊤
+StandsReady rows (Some p) = p.1 ≢ 0 → IsReady rows p.0.0 × (address_at rows p.0.0 ≡ Some p.1)

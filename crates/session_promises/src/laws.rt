@@ -1,5 +1,5 @@
 //! The laws.
-ghost use Rattle.session_promises.specs.Laws.{FailedWhereLost, FailureHitsThose, FoundIsReady, FoundWhereSettled, IntactHasClosure, IntactRunsAsLinked, NothingElseFails};
+ghost use Rattle.session_promises.specs.Laws.{FailedWhereLost, FailureHitsThose, FoundIsReady, FoundStaysReady, FoundWhereSettled, IntactHasClosure, IntactRunsAsLinked, NothingElseFails, RowsAreFew};
 
 /// A lookup that is found is answered with addresses at exactly the first entry that leaves all its matches at
 /// its level.
@@ -15,6 +15,16 @@ pub fn failed_where_lost()
 /// Where a lookup at Ready is found, all that its matches reach is emitted.
 pub fn found_is_ready()
     ensures { FoundIsReady }
+{}
+
+/// They stay so in every later history, each at the address that it was found at.
+pub fn found_stays_ready()
+    ensures { FoundStaysReady }
+{}
+
+/// A session has no more instances than it may have.
+pub fn rows_are_few()
+    ensures { RowsAreFew }
 {}
 
 /// A failure puts in error exactly the unready instances that reach what it strikes.
