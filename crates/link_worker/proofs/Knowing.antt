@@ -52,6 +52,7 @@ module _ {U N : Type 0} (means : U → Meaning) (hears : N → Option Outcome) (
     heard_it = d.heard_it;
     did = record {
       view = d.did.view;
+      noted = d.did.noted;
       later = d.did.later;
       made = d.did.made;
       calls = d.did.calls;

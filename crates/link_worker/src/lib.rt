@@ -17,7 +17,7 @@ mod work;
 
 pub use assisting::assist;
 pub use job::Job;
-pub use laws::free_stays;
+pub use laws::{free_looks, free_reads, free_stays};
 pub use looking::{Looked, lookup};
 pub use unit::{FinishError, LinkedUnit};
 pub use work::{Worked, work_one};

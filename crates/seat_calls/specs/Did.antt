@@ -7,6 +7,8 @@ use Rattle.session_model.specs.declared.entry.Entry.{Entry}
 use Rattle.turn_lock.specs.declared.view.View.{View}
 use Rattle.turn_lock.specs.Lists.{StartsWith}
 use Rattle.turn_lock.specs.Passes.{Turned}
+use Rattle.turn_lock.specs.Told.{Reads}
+use Rattle.turn_lock.specs.Views.{notes}
 use Rattle.shared_session.specs.Home.{IsLawful, IsPosted, seat_of}
 
 -- a promise about the calls that a seat made, each with its number in the history
@@ -30,10 +32,11 @@ module _ {U : Type 0} (means : U → Meaning) where
   abbrev pub calls_in : ℕ → List (Entry U) → List (ℕ × Entry Meaning)
   calls_in s h = numbered_calls s 1 (plain_history means h)
 
-  -- The seat, which knew v, knows w now, with the same numbers and notes; and what it called since keeps the promise,
-  -- whatever comes after all that it has seen.
+  -- The seat, which knew v, knows w now, with the same numbers, and has forgotten no post; and what it called since keeps
+  -- the promise, whatever comes after all that it has seen.
   pub record Did (v w : View (Entry U)) (P : Promise) : Type 0 where
-    pub view : w ≡ record v { seen = w.seen; told = w.told; mine = w.mine; found = w.found }
+    pub view : w ≡ record v { seen = w.seen; told = w.told; mine = w.mine; found = w.found; noted = w.noted; zeros = w.zeros }
+    pub noted : (more : List (ℕ × ℕ)) × (w.noted ≡ more ++ v.noted)
     pub later : StartsWith w.seen v.seen
     pub made : List (ℕ × Entry Meaning)
     pub calls : calls_in v.number w.seen ≡ calls_in v.number v.seen ++ made
@@ -48,3 +51,10 @@ TurnIsACall {U} means = (jmax : ℕ) (v w : View (Entry U)) (old : List (Entry U
 abbrev pub TurnIsNoCall : {U : Type 0} → (U → Meaning) → Type 0
 TurnIsNoCall {U} means = (jmax : ℕ) (v w : View (Entry U)) →
     Turned seat_of (IsLawful means jmax) (IsPosted means) v w (λ before after. after ≡ before) → Did means v w Nothing
+
+-- a post that is filled or read is no call
+abbrev pub PostIsNoCall : {U : Type 0} → (U → Meaning) → Type 0
+PostIsNoCall {U} means = (i address : ℕ) (v : View (Entry U)) → Did means v (notes i address v) Nothing
+
+abbrev pub WordIsNoCall : {U : Type 0} → (U → Meaning) → Type 0
+WordIsNoCall {U} means = (jmax i word : ℕ) (v w : View (Entry U)) → Reads seat_of (IsLawful means jmax) (IsPosted means) i word v w → Did means v w Nothing

@@ -1,5 +1,5 @@
-//! What a turn is to the seat that took it.
-ghost use Rattle.seat_calls.specs.Did.{TurnIsACall, TurnIsNoCall};
+//! What a turn or a post is to the seat that took it.
+ghost use Rattle.seat_calls.specs.Did.{PostIsNoCall, TurnIsACall, TurnIsNoCall, WordIsNoCall};
 
 use session_model::UnitKind;
 
@@ -11,4 +11,14 @@ pub fn turn_is_a_call<U: UnitKind>()
 /// A turn in which no entry was made is none.
 pub fn turn_is_no_call<U: UnitKind>()
     ensures { TurnIsNoCall U.meaning }
+{}
+
+/// Filling a post is no call.
+pub fn post_is_no_call<U: UnitKind>()
+    ensures { PostIsNoCall U.meaning }
+{}
+
+/// Reading a post is none.
+pub fn word_is_no_call<U: UnitKind>()
+    ensures { WordIsNoCall U.meaning }
 {}

@@ -9,4 +9,4 @@
 
 mod laws;
 
-pub use laws::{turn_is_a_call, turn_is_no_call};
+pub use laws::{post_is_no_call, turn_is_a_call, turn_is_no_call, word_is_no_call};
