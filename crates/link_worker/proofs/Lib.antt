@@ -10,6 +10,6 @@ pub mod Working
 pub mod Knowing
 pub mod Awaiting
 pub mod Freeing
-pub mod Looking
+pub mod Seeing
 pub mod Collecting
 pub mod Asking

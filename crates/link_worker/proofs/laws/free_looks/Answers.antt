@@ -1,4 +1,4 @@
-use Rattle.link_worker.proofs.Looking.{free_looks}
+use Rattle.link_worker.proofs.Seeing.{free_looks}
 use Rattle.link_worker.proofs.laws.free_looks.Goals as goal
 
 pub returns : goal.returns

@@ -1,4 +1,4 @@
-use Rattle.link_worker.proofs.Looking.{free_reads}
+use Rattle.link_worker.proofs.Seeing.{free_reads}
 use Rattle.link_worker.proofs.laws.free_reads.Goals as goal
 
 pub returns : goal.returns
