@@ -1,5 +1,5 @@
 -- Posting what a lookup found.
-use Rattle.std.specs.Prelude.{◌≡◌, ◌≢◌, ℕ, zero, suc, ◌<◌, ⊤, List, [], ◌∷◌, All, Option, Some, None}
+use Rattle.std.specs.Prelude.{◌≡◌, ◌≢◌, ℕ, zero, suc, ◌<◌, ⊤, List, [], ◌∷◌, All, IfSome, Option, Some, None}
 use Rattle.orc_ids.specs.declared.ids.InstId.{InstId}
 use Rattle.orc_ids.specs.declared.lookup.Level.TheVariants.{Ready}
 use Rattle.session_model.specs.Calls.{Lookup, Looks}
@@ -35,6 +35,14 @@ module _ {E : Type 0} where
   abbrev pub posts_all : Bindings → View E → View E
   posts_all [] v = v
   posts_all (one ∷ found) v = posts_all found (posts_one one v)
+
+-- what a lookup found, at either level, has posts
+abbrev pub HasPost : Option (InstId × ℕ) → Type 0
+HasPost o = IfSome o (λ p. p.0.0 < POSTS)
+
+abbrev pub FoundHavePosts : {U : Type 0} → (U → Meaning) → Type 0
+FoundHavePosts {U} means = (jmax : ℕ) (v w now : View (Entry U)) (l : Lookup) (matches : Bindings) →
+    Did means v w (λ h cs. Looks h l cs × EndsAs (Found matches) cs) → StartsWith now.seen w.seen → IsLawful means jmax now.seen → All HasPost matches
 
 -- what a lookup at Ready found may be posted by a pass that has seen all of it
 abbrev pub FoundMayBePosted : {U : Type 0} → (U → Meaning) → Type 0

@@ -15,5 +15,5 @@ mod laws;
 mod peeks;
 
 pub use found::post_found;
-pub use laws::found_may_be_posted;
-pub use peeks::Peeks;
+pub use laws::{found_have_posts, found_may_be_posted};
+pub use peeks::{Peeks, peek_at};

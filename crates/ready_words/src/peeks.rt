@@ -75,8 +75,8 @@ impl Peeks {
     }
 }
 
-/// Whether an instance is ready.
-fn peek_at<U: UnitKind, N: Notify, const JMAX: usize>(
+/// Whether an instance is ready: two loads, which wait for nobody.
+pub fn peek_at<U: UnitKind, N: Notify, const JMAX: usize>(
     shared: &Shared<U, N, JMAX>,
     pass: &mut Pass<U, N, JMAX>,
     i: InstId,

@@ -124,7 +124,7 @@ post_is_no_call means i address v = record {
 }
 
 -- a seat that sees the history again makes no call
-looks_again : {U : Type 0} (means : U → Meaning) (jmax : ℕ) (v w : View (Entry U)) → w ≡ sees w.seen v → Shows seat_of (IsLawful means jmax) (IsPosted means) w.seen v → Did means v w Nothing
+pub looks_again : {U : Type 0} (means : U → Meaning) (jmax : ℕ) (v w : View (Entry U)) → w ≡ sees w.seen v → Shows seat_of (IsLawful means jmax) (IsPosted means) w.seen v → Did means v w Nothing
 looks_again {U} means jmax v w is shows = record {
   view = subst (λ (x : View (Entry U)). SameBut v x) (sym is) refl;
   noted = ([], ap (λ (x : View (Entry U)). x.noted) is);
@@ -146,8 +146,12 @@ finding_is_no_call means i zero v = record {
 }
 finding_is_no_call means i (suc word) v = post_is_no_call means i (suc word) v
 
+-- no call, and then none again
+pub nothing_twice : {U : Type 0} (means : U → Meaning) (u v w : View (Entry U)) → Did means u v Nothing → Did means v w Nothing → Did means u w Nothing
+nothing_twice means u v w first second =
+    less_is_done means u w (Then Nothing Nothing) Nothing (λ h cs both. both.2 ∙ (ap (λ l. l ++ both.1) both.3 ∙ both.4)) (parts_are_done means u v w Nothing Nothing first second)
+
 pub word_is_no_call : {U : Type 0} (means : U → Meaning) → WordIsNoCall means
 word_is_no_call means jmax i word v w reads =
     let found = finds_post i word v in
-    less_is_done means v w (Then Nothing Nothing) Nothing (λ h cs both. both.2 ∙ (ap (λ l. l ++ both.1) both.3 ∙ both.4))
-    (parts_are_done means v found w Nothing Nothing (finding_is_no_call means i word v) (looks_again means jmax found w reads.0 reads.1))
+    nothing_twice means v found w (finding_is_no_call means i word v) (looks_again means jmax found w reads.0 reads.1)

@@ -34,7 +34,7 @@ told_is None some = absurd (some refl)
 told_is (Some a) some = refl
 
 -- the same phase has the same address
-same_address : (rows later : List InstRow) (i : ℕ) → phase_at later i ≡ phase_at rows i → address_at later i ≡ address_at rows i
+pub same_address : (rows later : List InstRow) (i : ℕ) → phase_at later i ≡ phase_at rows i → address_at later i ≡ address_at rows i
 same_address rows later i same = address_is later i ∙ (ap (option_and_then phase_address) same ∙ sym (address_is rows i))
 
 module _ (jmax : ℕ) (h : List (Entry Meaning)) (legal : IsLegal jmax h) (n : ℕ) where

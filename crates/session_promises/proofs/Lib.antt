@@ -4,6 +4,7 @@ pub mod Failures
 pub mod Few
 pub mod FoundReady
 pub mod FoundStanding
+pub mod FoundFew
 pub mod LastCalls
 pub mod Lodged
 pub mod Runs

@@ -1,5 +1,5 @@
 -- What a session promises its clients, of every legal history.
-use Rattle.std.specs.Prelude.{◌≡◌, ◌↔◌, ◌⊎◌, ℕ, ◌+◌, true, false, List, [], ◌∷◌, ◌++◌, ◌≤◌, Contains, length, slice_get, take, All, Some}
+use Rattle.std.specs.Prelude.{◌≡◌, ◌↔◌, ◌⊎◌, ℕ, ◌+◌, true, false, List, [], ◌∷◌, ◌++◌, ◌<◌, ◌≤◌, Contains, length, slice_get, take, All, IfSome, Some}
 use Rattle.orc_ids.specs.declared.ids.InstId.{InstId}
 use Rattle.orc_ids.specs.declared.ids.QueryId.{QueryId}
 use Rattle.orc_ids.specs.declared.limits.TheConstants.{INSTANCE_LIMIT}
@@ -54,6 +54,11 @@ FoundStaysReady = (jmax : ℕ) (h : List (Entry Meaning)) → IsLegal jmax h →
 -- a session has few instances
 abbrev pub RowsAreFew : Type 0
 RowsAreFew = (jmax : ℕ) (h : List (Entry Meaning)) → IsLegal jmax h → length (state h).rows ≤ INSTANCE_LIMIT
+
+-- what a lookup found are instances of it
+abbrev pub FoundAreFew : Type 0
+FoundAreFew = (jmax : ℕ) (h : List (Entry Meaning)) → IsLegal jmax h → (l : Lookup) (q : QueryId) (at : ℕ) (matches : Bindings) → IsFoundAt h l q at matches →
+    All (λ o. IfSome o (λ p. p.0.0 < INSTANCE_LIMIT)) matches
 
 -- a failure puts in error exactly the unready instances that reach what it strikes
 abbrev pub FailureHitsThose : Type 0

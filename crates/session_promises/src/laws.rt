@@ -1,5 +1,5 @@
 //! The laws.
-ghost use Rattle.session_promises.specs.Laws.{FailedWhereLost, FailureHitsThose, FoundIsReady, FoundStaysReady, FoundWhereSettled, IntactHasClosure, IntactRunsAsLinked, NothingElseFails, RowsAreFew};
+ghost use Rattle.session_promises.specs.Laws.{FailedWhereLost, FailureHitsThose, FoundAreFew, FoundIsReady, FoundStaysReady, FoundWhereSettled, IntactHasClosure, IntactRunsAsLinked, NothingElseFails, RowsAreFew};
 
 /// A lookup that is found is answered with addresses at exactly the first entry that leaves all its matches at
 /// its level.
@@ -25,6 +25,11 @@ pub fn found_stays_ready()
 /// A session has no more instances than it may have.
 pub fn rows_are_few()
     ensures { RowsAreFew }
+{}
+
+/// What a lookup found are instances of it.
+pub fn found_are_few()
+    ensures { FoundAreFew }
 {}
 
 /// A failure puts in error exactly the unready instances that reach what it strikes.
