@@ -17,7 +17,7 @@ use Rattle.script_session.proofs.session.run_script.Goals as goal
 pub set_up-left-requires : goal.set_up-left-requires
 set_up-left-requires g c =
     let M = g.U.UnitKind.meaning in
-    let e = c.in_ok-shared.ensures in
+    let e = c.in_ok-shared.ensures.opened in
     (omega arith, ((e.0, ap (λ v. v.turn) e.1), (subst (IsAt M g.row.JMAX []) (sym e.1) (at_first M g.row.JMAX _), c.requires.can.set_up)))
 
 pub run_members-requires-after_bounds : goal.run_members-requires-after_bounds
@@ -40,7 +40,7 @@ run_members-requires-after_bounds g c κs within =
         (
           first,
           (
-            omega (arith, first.from, first.to, c.set_up-left.ensures.seats, ap (λ v. v.seats) c.in_ok-shared.ensures.1, count, c.len.ensures, plan.clients.ok.0, c.requires.few),
+            omega (arith, first.from, first.to, c.set_up-left.ensures.seats, ap (λ v. v.seats) c.in_ok-shared.ensures.opened.1, count, c.len.ensures, plan.clients.ok.0, c.requires.few),
             (
               all_can M H K clients c.args.workers members are (All-map (All (CanCall M H K)) (λ x. x.items) plan.clients.items c.requires.can.clients),
               (
@@ -73,7 +73,7 @@ returns-clause-run g c =
     let taken = left.2 in
     let ended = c.run_members.new.left.end in
     let are : AreMembers clients c.args.workers members = subst (AreMembers clients c.args.workers) (sym c.in_ok-members-2.ensures) c.in_ok-members.ensures in
-    let seats : (view c.set_up-left.new.pass).seats ≡ 1 + length clients + c.args.workers = omega (arith, c.set_up-left.ensures.seats, ap (λ v. v.seats) c.in_ok-shared.ensures.1, length-map plan.clients.items (λ x. x.items), c.len.ensures, plan.clients.ok.0, c.requires.few) in
+    let seats : (view c.set_up-left.new.pass).seats ≡ 1 + length clients + c.args.workers = omega (arith, c.set_up-left.ensures.seats, ap (λ v. v.seats) c.in_ok-shared.ensures.opened.1, length-map plan.clients.items (λ x. x.items), c.len.ensures, plan.clients.ok.0, c.requires.few) in
     let it = came M H K J c.args.workers calls clients c.set_up-left.result (view c.set_up-left.new.pass) (view c.run_members.new.first) log members done c.set_up-left.ensures.set_up seats are left.1 c.close-session.ensures.shows in
     let ends : map (λ x. x.items) ended.clients.items ≡ ends_of done = taken.clients ∙ ap (λ l. map (λ x. x.items) l ++ ends_of done) c.in_ok-left.ensures.empty.clients in
     subst (λ l. IsScriptRun J c.args.workers (record { set_up = map (event_of M) calls; clients = l }) ended.set_up (map (λ x. x.items) ended.clients.items) (plain_history M log)) (all_lines M (λ x. x.items) plan.clients.items)
@@ -96,7 +96,7 @@ returns-clause-notified g c =
     let taken = left.2 in
     let notified = c.run_members.new.left.notified in
     let are : AreMembers clients c.args.workers members = subst (AreMembers clients c.args.workers) (sym c.in_ok-members-2.ensures) c.in_ok-members.ensures in
-    let seats : (view c.set_up-left.new.pass).seats ≡ 1 + length clients + c.args.workers = omega (arith, c.set_up-left.ensures.seats, ap (λ v. v.seats) c.in_ok-shared.ensures.1, length-map plan.clients.items (λ x. x.items), c.len.ensures, plan.clients.ok.0, c.requires.few) in
+    let seats : (view c.set_up-left.new.pass).seats ≡ 1 + length clients + c.args.workers = omega (arith, c.set_up-left.ensures.seats, ap (λ v. v.seats) c.in_ok-shared.ensures.opened.1, length-map plan.clients.items (λ x. x.items), c.len.ensures, plan.clients.ok.0, c.requires.few) in
     let it = came M H K J c.args.workers calls clients c.set_up-left.result (view c.set_up-left.new.pass) (view c.run_members.new.first) log members done c.set_up-left.ensures.set_up seats are left.1 c.close-session.ensures.shows in
     let told : notified.told.items ≡ told_of done = taken.told ∙ ap (λ l. l ++ told_of done) c.in_ok-left.ensures.empty.told in
     let unlodged : map (λ x. x.items) notified.unlodged.items ≡ unlodged_of done = taken.unlodged ∙ ap (λ l. map (λ x. x.items) l ++ unlodged_of done) c.in_ok-left.ensures.empty.unlodged in
