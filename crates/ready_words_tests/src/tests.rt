@@ -95,6 +95,7 @@ fn has_found(end: &LookEnd) -> bool {
 /// What the second pass is told of the entry, as the first one goes on: before it is looked up; once it
 /// was found at Resolved; once it was found at Ready; and once its unit was removed. Whether the first
 /// found it both times, and how many entries there are.
+#[derive(Drop)]
 struct Row {
     told: [Option<Peek>; 4],
     found: bool,

@@ -6,7 +6,7 @@ ghost use Rattle.turn_lock.specs.Handles.{view, turn_id, post_count, IsReady};
 ghost use Rattle.link_worker.specs.Works.{IsFree};
 ghost use Rattle.ready_words_tests.specs.Lookups.{FindsAt};
 
-use execution_session::Session;
+use execution_session::{Session, Told};
 use link_worker::{LinkedUnit, Looked, lookup};
 use look_ends::LookEnd;
 use notifiers::FiredList;
@@ -89,9 +89,9 @@ pub(super) fn remove<U: LinkedUnit, R: Wait, const JMAX: usize>(
     ensures ready { IsReady (turn_id shared.now) pass.new }
 {
     let mut fired = FiredList::new();
-    let removed = shared.perform(rt, pass, Remove { tracker: UNITS });
-    removed.fires.fire_all(&mut fired);
-    removed.answer
+    let Told { answer, fires } = shared.perform(rt, pass, Remove { tracker: UNITS });
+    fires.fire_all(&mut fired);
+    answer
 }
 
 /// Looks a name up among all names of the dylib, and does the jobs that this needs.
