@@ -103,7 +103,7 @@ struct Row {
 }
 
 /// What comes of it.
-fn row<R: Wait>(
+fn play<R: Wait>(
     rt: &R,
     alloc: Global,
     shared: &Shared<ObjectUnit, Note, PLACES>,
@@ -142,7 +142,7 @@ fn played<R: Wait>(rt: &R, alloc: Global) -> Option<Row> {
     };
     let mut second = shared.split(&mut first);
     let done = set_up(rt, &shared, &mut first, unit, name);
-    let row = row(rt, alloc, &shared, &mut first, &mut second, name);
+    let row = play(rt, alloc, &shared, &mut first, &mut second, name);
     shared.join(&mut first, second);
     end_session(close(rt, shared, first));
     if done { Some(row) } else { None }
@@ -150,19 +150,13 @@ fn played<R: Wait>(rt: &R, alloc: Global) -> Option<Row> {
 
 #[test]
 fn what_one_pass_posts_the_other_is_told(rt: HostRuntime) {
-    let Some(
-        Row {
-            told,
-            found,
-            entries,
-        },
-    ) = played(&rt, rt.alloc())
-    else {
+    let Some(row) = played(&rt, rt.alloc()) else {
         panic!(rt; "memory")
     };
+    let told = row.told;
     let main = Peek::Ready(MAIN);
     let wanted = [Peek::Unfound, Peek::NotYet, main, main];
     assert!(rt; told == wanted.map(Some));
-    assert!(rt; found);
-    assert_eq!(rt; entries, 13);
+    assert!(rt; row.found);
+    assert_eq!(rt; row.entries, 13);
 }
