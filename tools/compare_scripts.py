@@ -94,7 +94,7 @@ class Writer:
         return [kind, self.dylib(), self.tracker(), self.file()]
 
     def call(self):
-        kind = self.dice.choice("define lookup lookup watch move remove run run client".split())
+        kind = self.dice.choice("define lookup lookup watch move remove run run peek client".split())
         if kind == "client":
             return [kind]
         if kind == "define":
@@ -103,6 +103,8 @@ class Writer:
             return [kind, self.tracker(), self.tracker()]
         if kind == "remove":
             return [kind, self.tracker()]
+        if kind == "peek":
+            return [kind, self.symbol()]
         if kind == "run":
             fuel = self.number(10, 40)
             arguments = self.some(lambda: self.number(10, 64), 0, 3)

@@ -421,6 +421,8 @@ RESULTS = {
     "fuel": "out of fuel {output}",
     "outputfull": "output full {output}",
     "unfound": "unfound",
+    "ready": "ready {hex}",
+    "notyet": "notyet",
     "full": "full",
     "nomemory": "nomemory",
     "skipped": "skipped",

@@ -23,7 +23,7 @@ PART_SECONDS = 300
 SCRIPT_SECONDS = 60
 
 # the ways in which lines end, as the program calls them
-ENDS = ["replied", "found", "failed", "in error", "missing", "no dylib", "exited", "trapped", "otherwise", "unfound", "stopped", "skipped"]
+ENDS = ["replied", "found", "failed", "in error", "missing", "no dylib", "exited", "trapped", "otherwise", "unfound", "stopped", "skipped", "peeked at none", "not yet", "ready"]
 
 # what it counts of journals, where a change is an entry of another seat than the one before
 JOURNALS = ["generated", "entries", "entries of workers", "changes of seat"]

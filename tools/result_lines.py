@@ -72,7 +72,7 @@ class Results:
         for result in self.log.results:
             own, at = seats.get(result.client, []), places.get(result.client, 0)
             found = None
-            if result.word not in ("unfound", "full", "nomemory", "skipped"):
+            if result.word not in ("unfound", "ready", "notyet", "full", "nomemory", "skipped"):
                 found = next((k for k in range(at, len(own)) if is_entry_of(result, own[k])), None)
             places[result.client] = at if found is None else found + 1
             yield result, None if found is None else own[found]
@@ -217,7 +217,18 @@ class Results:
     def say_outputfull(self, result, entry, line):
         return f"{self.run(line)} would have written more than 1 MiB, and {wrote(result.values[0])}"
 
+    def say_ready(self, result, entry, line):
+        return f"{self.peeked(line)} is ready at 0x{result.values[0]}"
+
+    def say_notyet(self, result, entry, line):
+        return f"nobody had told that {self.peeked(line)} is ready"
+
+    def peeked(self, line):
+        return line.words[1] if line and len(line.words) > 1 else "the name"
+
     def say_unfound(self, result, entry, line):
+        if line and line.words[0] == "peek":
+            return f"no lookup of the client that was found gave {line.words[1]} an instance{self.last_lookup(result, line.words[1])}"
         name = line.words[1] if line and len(line.words) > 1 else "the name"
         return f"nothing was run, since no lookup of the client that was found gave {name} an address{self.last_lookup(result, name)}"
 

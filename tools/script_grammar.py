@@ -167,6 +167,11 @@ class Reader:
         want(all(decimal(a, (1 << 64) - 1) for a in arguments), "number")
         self.write("call run", self.name(name), *(w.decode() for w in [fuel, *arguments]))
 
+    def peek(self, words):
+        want(len(words) == 1, "count")
+        want(is_symbol(words[0]), "name")
+        self.write("call peek", self.name(words[0]))
+
     def begin_client(self, words):
         want(not words, "count")
         want(self.clients < 16, "toomany")
@@ -197,6 +202,7 @@ class Reader:
             b"move": self.move,
             b"remove": self.remove,
             b"run": self.run,
+            b"peek": self.peek,
         }
         lines = calls if self.clients else setup
         want(word in lines, "word")

@@ -359,7 +359,7 @@ class Grammar(unittest.TestCase):
 
     def test_results(self):
         lines = ["found f@10000000 g@none", "found", "failed i3", "inerror i3", "missing f", "defined u1 i2 1", "duplicate f i1", "moved", "gone t0"]
-        lines += ["removed", "otherdylib", "exited 3 -", "trap 10000000 illegal ff 68690a", "out of fuel -", "output full 00", "unfound", "full", "nomemory", "skipped"]
+        lines += ["removed", "otherdylib", "exited 3 -", "trap 10000000 illegal ff 68690a", "out of fuel -", "output full 00", "unfound", "ready 10000000", "notyet", "full", "nomemory", "skipped"]
         text = ONE + "".join(f"c{k // 5 + 1} l{k % 5 + 1} {line}\n" for k, line in enumerate(lines))
         results = read_log(text).results
         self.assertEqual([it.text.split(" ", 2)[2] for it in results], lines)

@@ -1,6 +1,6 @@
 //! Duties that are given seats, done, and handed back.
 ghost use Rattle.std.specs.Prelude.{◌≡◌, ◌+◌, ◌≤◌, List, [], All, length, vec_capacity, IfOk};
-ghost use Rattle.turn_lock.specs.Handles.{view, turn_id, IsReady};
+ghost use Rattle.turn_lock.specs.Handles.{view, turn_id, post_count, IsReady};
 ghost use Rattle.crew.specs.Crew.{AllServed, HasServed, HaveWorked, IsAble, MayBegin};
 
 use crate::duty::Duty;
@@ -67,7 +67,7 @@ impl<T: Counted + Send, D: Duty<T> + Drop + Send> Crew<Seat<T, T::Entry>, D> {
     ) -> Vec<D>
         requires ready { IsReady (turn_id turn.now) first.old }
         requires spare { (view first.old).spare_from + length self ≤ (view first.old).spare_to }
-        requires may { MayBegin D.may (view first.old) self }
+        requires may { MayBegin (D.may (post_count turn.now)) (view first.old) self }
         ensures ready { IsReady (turn_id turn.now) first.new }
         ensures worked { HaveWorked T.seat_of D.does (view first.old) (view first.new) self result.items }
     {
@@ -91,7 +91,7 @@ fn serve_all<T: Counted + Send, D: Duty<T> + Drop + Send, R: Threads + Wait + Sy
     turn: &Turn<T>,
     members: &mut [Member<Seat<T, T::Entry>, D>],
 )
-    requires able { All (IsAble D.may (turn_id turn.now)) members.old }
+    requires able { All (IsAble (D.may (post_count turn.now)) (turn_id turn.now)) members.old }
     ensures served { AllServed D.does (turn_id turn.now) members.old members.new }
 {
     let threads = members.len().max(1);
@@ -100,7 +100,7 @@ fn serve_all<T: Counted + Send, D: Duty<T> + Drop + Send, R: Threads + Wait + Sy
         members,
         threads,
         &|_place: usize, member: &mut Member<Seat<T, T::Entry>, D>|
-            requires { IsAble D.may (turn_id turn.now) member.old }
+            requires { IsAble (D.may (post_count turn.now)) (turn_id turn.now) member.old }
             ensures { HasServed D.does (turn_id turn.entry.now) member.old member.new }
         { member.duty.serve(rt, turn, &mut member.seat) },
     );

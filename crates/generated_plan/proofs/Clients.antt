@@ -5,7 +5,7 @@ use Rattle.std.specs.List.{AllByRecursion, range_with_len}
 use Rattle.std.proofs.lemmas.List.Elements.{All-cons, All-filter, All-nil}
 use Rattle.orc_ids.specs.declared.limits.TheConstants.{ORDER_LIMIT, WANTED_LIMIT}
 use Rattle.orc_ids.specs.declared.lookup.Outcome.{Outcome}
-use Rattle.script_calls.specs.Lines.{Line, LookUp, One, Run}
+use Rattle.script_calls.specs.Lines.{Line, LookUp, One, PeekAt, Run}
 use Rattle.script_calls.specs.Plans.{CanCall, line_of}
 use Rattle.script_calls.specs.declared.calls.ClientCall.{ClientCall}
 use Rattle.script_calls.specs.declared.calls.ClientCall.TheVariants as client
@@ -34,6 +34,7 @@ IsPlain (One (event.Define d t unit)) = unit.source ≡ None
 IsPlain (One e) = ⊤
 IsPlain (LookUp l) = (length l.order ≤ ORDER_LIMIT) × (length l.wanted ≤ WANTED_LIMIT) × (l.note ≡ None)
 IsPlain (Run name fuel args) = length args ≤ 8
+IsPlain (PeekAt name) = ⊤
 
 both : (xs ys : List Line) → AllByRecursion IsPlain xs → AllByRecursion IsPlain ys → AllByRecursion IsPlain (xs ++ ys)
 both [] ys a b = b
@@ -75,6 +76,7 @@ module _ {U N : Type 0} (means : U → Meaning) (heard : N → Option Outcome) (
   can_call (client.Move t to) plain = tt
   can_call (client.Remove t) plain = tt
   can_call (client.Run name fuel args) plain = plain
+  can_call (client.Peek name) plain = tt
 
   can_call_each : (calls : List (ClientCall U N)) → AllByRecursion IsPlain (map (line_of means) calls) → All (CanCall means heard number) calls
   can_call_each [] plain = All-nil (CanCall means heard number)

@@ -8,11 +8,11 @@ use Rattle.session_model.specs.Meaning.{Meaning}
 use Rattle.session_model.specs.declared.entry.Entry.{Entry}
 use Rattle.session_model.specs.declared.entry.Event.{Event}
 use Rattle.session_model.specs.declared.entry.Reply.{Reply}
-use Rattle.script_calls.specs.Lines.{Line, One, LookUp, Run}
+use Rattle.script_calls.specs.Lines.{Line, One, LookUp, Run, PeekAt}
 use Rattle.given_names.specs.Given.{Given, address_of}
 use Rattle.script_laws.specs.Lines.{AreLines, AtEnd, CallsOf, CopiesAndRuns, Goes, IsCopy, IsLine, OneCall, Stops}
 use Rattle.script_laws.specs.declared.line_end.LineEnd.{LineEnd}
-use Rattle.script_laws.specs.declared.line_end.LineEnd.TheVariants.{Looked, Ran, Replied, Unfound}
+use Rattle.script_laws.specs.declared.line_end.LineEnd.TheVariants.{Looked, Peeked, Ran, Replied, Unfound}
 use Rattle.run_laws.proofs.Costs.{Costs, NumberedCall, NumberedUnoffered, each_back, each_front, each_joined, front_length, looks_cost, taken, total_joined}
 use Rattle.run_laws.proofs.Falling.{total}
 use Rattle.generated_session.proofs.Frames.{client_call, is_client}
@@ -22,12 +22,14 @@ abbrev pub IsTame : Line → Type 0
 IsTame (One v) = is_client v ≡ true
 IsTame (LookUp l) = ⊤
 IsTame (Run name fuel args) = ⊤
+IsTame (PeekAt name) = ⊤
 
 -- how many calls it makes beside jobs
 abbrev pub cost : Line → ℕ
 cost (One v) = 1
 cost (LookUp l) = 2
 cost (Run name fuel args) = 1
+cost (PeekAt name) = 0
 
 abbrev pub NumberedClient : ℕ × Entry Meaning → Type 0
 NumberedClient c = is_client c.1.event ≡ true
@@ -71,6 +73,7 @@ calls_cost : (h : List (Entry Meaning)) (given : Given) (line : Line) (cs : List
 calls_cost h given (One v) cs tame (r, one) = event_cost v r cs tame one
 calls_cost h given (LookUp l) cs tame looks = from_costs 2 cs (looks_cost h l cs looks)
 calls_cost h given (Run name fuel args) cs tame (address, there, copy) = copy_cost cs copy
+calls_cost h given (PeekAt name) cs tame none = absurd none
 
 -- and where it ended so
 line_cost : (h : List (Entry Meaning)) (given : Given) (line : Line) (end : LineEnd) (cs : List (ℕ × Entry Meaning)) → IsTame line → IsLine h given line end cs → LineCosts (cost line) cs
@@ -81,6 +84,8 @@ line_cost h given (Run name fuel args) (Ran end output) cs tame p = run_cost h (
 line_cost h given (One v) _ cs tame p = absurd p
 line_cost h given (LookUp l) _ cs tame p = absurd p
 line_cost h given (Run name fuel args) _ cs tame p = absurd p
+line_cost h given (PeekAt name) (Peeked told) cs tame p = subst (LineCosts 0) (sym p.1) (no_cost 0)
+line_cost h given (PeekAt name) _ cs tame p = absurd p
 
 -- ---- lines
 

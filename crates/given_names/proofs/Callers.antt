@@ -2,9 +2,9 @@
 use Rattle.std.proofs.Common.{◌≡◌, [], ◌∷◌, ◌++◌, ap}
 use Rattle.std.specs.Prelude.{if◌then◌else◌, ◌==◌}
 use Rattle.orc_ids.specs.declared.ids.NameId.{NameId}
-use Rattle.given_names.specs.Given.{address_of, Given}
+use Rattle.given_names.specs.Given.{match_of, Given}
 
--- two lists that give a name the same address still do after one more lookup
-pub same_after : (name : NameId) (more these those : Given) → address_of name these ≡ address_of name those → address_of name (more ++ these) ≡ address_of name (more ++ those)
+-- two lists that give a name the same match still do after one more lookup
+pub same_after : (name : NameId) (more these those : Given) → match_of name these ≡ match_of name those → match_of name (more ++ these) ≡ match_of name (more ++ those)
 same_after name [] these those same = same
 same_after name (g ∷ more) these those same = ap (λ rest. if g.0.0 == name.0 then g.1 else rest) (same_after name more these those same)

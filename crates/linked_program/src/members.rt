@@ -38,7 +38,7 @@ pub(crate) struct Member<'a, G: Gate> {
 }
 
 impl<'a, U: LinkedUnit, G: Gate, const JMAX: usize> Duty<Home<U, Note, JMAX>> for Member<'a, G> {
-    ghost may = { λ member v. IsFree U.meaning v };
+    ghost may = { λ posts member v. IsFree U.meaning v };
 
     ghost does = { λ member after v w. HasServed U.meaning JMAX member.entry (is_client member.role) v w after.end };
 

@@ -9,8 +9,10 @@ use Rattle.exec_run.specs.declared.ran.RunEnd.{RunEnd}
 use Rattle.session_model.specs.Meaning.{Bindings}
 use Rattle.look_ends.specs.declared.look_end.LookEnd.{LookEnd}
 use Rattle.look_ends.specs.declared.look_end.LookEnd.TheVariants as look
+use Rattle.look_ends.specs.declared.peeked.Peek.{Peek}
+use Rattle.look_ends.specs.declared.peeked.Peek.TheVariants as peek
 use Rattle.script_laws.specs.declared.line_end.LineEnd.{LineEnd}
-use Rattle.script_laws.specs.declared.line_end.LineEnd.TheVariants.{Looked, Ran, Replied, Skipped, Stopped, Unfound}
+use Rattle.script_laws.specs.declared.line_end.LineEnd.TheVariants.{Looked, Peeked, Ran, Replied, Skipped, Stopped, Unfound}
 use Rattle.text_parts.specs.Hexadecimal.{hex, hex_bytes}
 use Rattle.run_text.specs.RunEnds.{run_end_text}
 use Rattle.journal_text.specs.Parts.{name_text}
@@ -49,12 +51,19 @@ output_text (b ∷ bs) = hex_bytes (b ∷ bs)
 abbrev pub ran_text : RunEnd → List ℕ → List ℕ
 ran_text end output = run_end_text end ++ codes " " ++ output_text output
 
+-- what a peek told
+abbrev pub peek_text : Peek → List ℕ
+peek_text peek.Unfound = codes "unfound"
+peek_text peek.NotYet = codes "notyet"
+peek_text (peek.Ready address) = codes "ready " ++ hex address
+
 -- how a line ended that looks up these names
 abbrev pub result_text : List (List ℕ) → List Wanted → LineEnd → List ℕ
 result_text names wanted (Replied r) = reply_text names r
 result_text names wanted (Looked end) = look_text names wanted end
 result_text names wanted (Ran end output) = ran_text end output
 result_text names wanted Unfound = codes "unfound"
+result_text names wanted (Peeked told) = peek_text told
 result_text names wanted (Stopped st) = stop_text st
 result_text names wanted Skipped = codes "skipped"
 

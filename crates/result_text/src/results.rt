@@ -1,17 +1,18 @@
 ghost use Rattle.std.specs.Prelude.{◌≡◌, ◌++◌, OnOk};
 ghost use Rattle.result_text.specs.Known.{AreAsked, KnownEnd};
-ghost use Rattle.result_text.specs.Results.{output_text, ran_text, result_text};
+ghost use Rattle.result_text.specs.Results.{output_text, peek_text, ran_text, result_text};
 
 use crate::lookups::put_looked;
 use crate::stops::put_stop;
 use exec_run::RunEnd;
 use journal_text::put_reply;
+use look_ends::Peek;
 use orc_ids::Wanted;
 use orc_names::Names;
 use run_text::put_run_end;
 use script_laws::LineEnd;
 use std::alloc::{AllocError, Global};
-use text_parts::{put, put_hex_bytes};
+use text_parts::{put, put_at, put_hex_bytes};
 
 /// How a line ended that looks up these names.
 pub(crate) fn put_result(
@@ -30,8 +31,20 @@ pub(crate) fn put_result(
         LineEnd::Looked(end) => put_looked(alloc, out, names, wanted, end),
         LineEnd::Ran(end, output) => put_ran(alloc, out, *end, output.as_slice()),
         LineEnd::Unfound => put(out, b"unfound"),
+        LineEnd::Peeked(told) => put_peeked(alloc, out, *told),
         LineEnd::Stopped(stop) => put_stop(out, *stop),
         LineEnd::Skipped => put(out, b"skipped"),
+    }
+}
+
+/// What a peek told.
+fn put_peeked(alloc: Global, out: &mut Vec<u8>, told: Peek) -> Result<(), AllocError>
+    ensures { OnOk result (out.new.items ≡ out.old.items ++ peek_text told) }
+{
+    match told {
+        Peek::Unfound => put(out, b"unfound"),
+        Peek::NotYet => put(out, b"notyet"),
+        Peek::Ready(address) => put_at(alloc, out, b"ready ", address),
     }
 }
 

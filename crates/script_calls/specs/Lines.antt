@@ -5,12 +5,13 @@ use Rattle.session_model.specs.Calls.{Lookup}
 use Rattle.session_model.specs.Meaning.{Meaning}
 use Rattle.session_model.specs.declared.entry.Event.{Event}
 
--- A line of a client: one event, as a definition, a move or a removal; a lookup; or a run that begins at a name, with so much
--- fuel and these arguments.
+-- A line of a client: one event, as a definition, a move or a removal; a lookup; a run that begins at a name, with so much
+-- fuel and these arguments; or a peek at a name.
 pub data Line : Type 0 where
   One : Event Meaning → Line
   LookUp : Lookup → Line
   Run : NameId → ℕ → List ℕ → Line
+  PeekAt : NameId → Line
 
 -- the events of the set-up, and the lines of each client
 pub record Script : Type 0 where

@@ -7,7 +7,7 @@ use Rattle.session_model.specs.Meaning.{Meaning}
 use Rattle.session_model.specs.declared.entry.Event.{Event}
 use Rattle.session_model.specs.declared.entry.Event.TheVariants as event
 use Rattle.script_calls.specs.Dylibs.{DifferentNames, dylib_names}
-use Rattle.script_calls.specs.Lines.{Line, One, LookUp, Run, Script}
+use Rattle.script_calls.specs.Lines.{Line, One, LookUp, Run, PeekAt, Script}
 use Rattle.script_calls.specs.declared.calls.ClientCall.{ClientCall}
 use Rattle.script_calls.specs.declared.calls.ClientCall.TheVariants as client
 use Rattle.script_calls.specs.declared.calls.Lookup.{Lookup as Names}
@@ -51,6 +51,7 @@ module _ {U : Type 0} (means : U → Meaning) where
   line_of (client.Move t to) = One (event.MoveTracker t to)
   line_of (client.Remove t) = One (event.Remove t)
   line_of (client.Run name fuel args) = Run name fuel args
+  line_of (client.Peek name) = PeekAt name
 
   -- what a plan asks for
   abbrev pub script_of : {N : Type 0} → Plan U N → Script
@@ -64,6 +65,7 @@ module _ {U : Type 0} (means : U → Meaning) where
     CanCall (client.Move t to) = ⊤
     CanCall (client.Remove t) = ⊤
     CanCall (client.Run name fuel args) = length args ≤ 8
+    CanCall (client.Peek name) = ⊤
 
     pub record CanRun (plan : Plan U N) : Type 0 where
       pub set_up : CanSetUpAll plan.set_up.items

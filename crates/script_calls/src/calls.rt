@@ -38,6 +38,8 @@ pub enum ClientCall<U, N: Notify> {
     Remove(TrackId),
     /// Run from a name, for at most so many instructions, with these arguments.
     Run(NameId, u64, Items<u64>),
+    /// Ask after a name, without a call of the session.
+    Peek(NameId),
 }
 
 /// What a script asks for, with its units made: the set-up, and then each client's lines.

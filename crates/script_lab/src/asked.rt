@@ -23,6 +23,7 @@ pub enum Asked {
     Remove(TrackId),
     /// From this name, with this first argument.
     Run(NameId, u64),
+    Peek(NameId),
 }
 
 fn sought_by(alloc: Global, names: &Lookup, note: Option<u32>) -> Result<Sought, AllocError> {
@@ -47,6 +48,7 @@ fn asked_by(alloc: Global, line: &Line) -> Result<Asked, AllocError> {
             let first = args.as_slice().first().copied().unwrap_or(0);
             Ok(Asked::Run(*name, first))
         }
+        ClientCall::Peek(name) => Ok(Asked::Peek(*name)),
     }
 }
 

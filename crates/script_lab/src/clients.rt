@@ -114,15 +114,27 @@ impl Maker {
         Ok(ClientCall::Define(d, t, object(alloc, random, number)?))
     }
 
+    /// Mostly the name that was looked up last.
+    fn last_name(&self, random: &mut Random) -> NameId {
+        match self.sought {
+            Some(last) if !random.once_in(6) => last,
+            _ => name(random),
+        }
+    }
+
     /// A run, mostly of the name that was looked up last.
     fn run(&self, alloc: Global, random: &mut Random) -> Result<Line, AllocError>
         ensures { IfOk result IsCallable }
     {
-        let from = match self.sought {
-            Some(last) if !random.once_in(6) => last,
-            _ => name(random),
-        };
+        let from = self.last_name(random);
         Ok(ClientCall::Run(from, 10, arguments(alloc, random)?))
+    }
+
+    /// A peek, mostly at the name that was looked up last.
+    fn peek(&self, random: &mut Random) -> Line
+        ensures { IsCallable result }
+    {
+        ClientCall::Peek(self.last_name(random))
     }
 
     /// A line of any kind.
@@ -139,6 +151,7 @@ impl Maker {
                 Ok(ClientCall::Move(from, self.tracker(random)))
             }
             11 => Ok(ClientCall::Remove(self.tracker(random))),
+            12 => Ok(self.peek(random)),
             _ if self.sought.is_some() => self.run(alloc, random),
             _ => self.look_up(alloc, random),
         }

@@ -3,7 +3,7 @@ ghost use Rattle.std.specs.Prelude.{◌<◌};
 
 use crate::replay::LabEntry;
 use exec_run::RunEnd;
-use look_ends::LookEnd;
+use look_ends::{LookEnd, Peek};
 use script_laws::LineEnd;
 use session_model::{Event, Reply, Why};
 use std::io::{self, Print};
@@ -20,7 +20,7 @@ pub struct Findings {
 }
 
 /// How lines may end.
-const ENDS: [&str; 12] = [
+const ENDS: [&str; 15] = [
     "replied",
     "found",
     "failed",
@@ -33,6 +33,9 @@ const ENDS: [&str; 12] = [
     "unfound",
     "stopped",
     "skipped",
+    "peeked at none",
+    "not yet",
+    "ready",
 ];
 
 /// The number of a lookup's end.
@@ -60,9 +63,20 @@ fn run_number(end: RunEnd) -> usize
     }
 }
 
+/// The number of what a peek told.
+fn peek_number(told: Peek) -> usize
+    ensures { result < 15 }
+{
+    match told {
+        Peek::Unfound => 12,
+        Peek::NotYet => 13,
+        Peek::Ready(_) => 14,
+    }
+}
+
 /// The number of a line's end.
 fn end_number(end: &LineEnd) -> usize
-    ensures { result < 12 }
+    ensures { result < 15 }
 {
     match end {
         LineEnd::Replied(_) => 0,
@@ -71,6 +85,7 @@ fn end_number(end: &LineEnd) -> usize
         LineEnd::Unfound => 9,
         LineEnd::Stopped(_) => 10,
         LineEnd::Skipped => 11,
+        LineEnd::Peeked(told) => peek_number(*told),
     }
 }
 
@@ -114,7 +129,7 @@ pub struct Counts {
     illegal: u64,
     results_differ: u64,
     notes_differ: u64,
-    ends: [u64; 12],
+    ends: [u64; 15],
     given_up: [u64; 8],
     generated: u64,
 }
@@ -131,7 +146,7 @@ impl Counts {
             illegal: 0,
             results_differ: 0,
             notes_differ: 0,
-            ends: [0; 12],
+            ends: [0; 15],
             given_up: [0; 8],
             generated: 0,
         }

@@ -47,7 +47,8 @@ impl<'a> Judged<'a> {
     fn keep(&mut self, sought: &Sought, end: &LookEnd) -> Result<(), AllocError> {
         match end {
             LookEnd::Found(matches) => {
-                self.given.add(sought.wanted.as_slice(), matches.as_slice())
+                self.given
+                    .add(sought.level, sought.wanted.as_slice(), matches.as_slice())
             }
             _ => Ok(()),
         }
@@ -138,6 +139,7 @@ impl<'a> Judged<'a> {
                 Ok(self.has_run(alloc, *name, *argument, *end)? && silent)
             }
             (LineEnd::Unfound, line) => Ok(self.is_unfound(line)),
+            (LineEnd::Peeked(told), Asked::Peek(name)) => Ok(self.given.may_tell(*name, *told)),
             (LineEnd::Stopped(stop), line) => Ok(self.was_stopped(line, *stop)),
             _ => Ok(false),
         }

@@ -1,5 +1,7 @@
 -- The lines of a script's clients: which calls each makes, and how it ends.
-use Rattle.std.specs.Prelude.{◌≡◌, ℕ, ⊤, List, [], ◌∷◌, ◌++◌, take, Option, Some, None}
+use Rattle.std.specs.Prelude.{◌≡◌, ◌≢◌, ℕ, ⊤, List, [], ◌∷◌, ◌++◌, take, Option, Some, None}
+use Rattle.orc_ids.specs.declared.ids.InstId.{InstId}
+use Rattle.orc_ids.specs.declared.lookup.Level.TheVariants as level
 use Rattle.orc_ids.specs.declared.lookup.Stop.{Stop}
 use Rattle.code_memory.specs.Mapped.{byte_at}
 use Rattle.code_memory.specs.declared.image.Segment.{Segment}
@@ -7,6 +9,8 @@ use Rattle.exec_run.specs.Run.{RunsTo}
 use Rattle.exec_run.specs.declared.ran.RunEnd.{RunEnd}
 use Rattle.session_model.specs.Calls.{IsStopped, Looks}
 use Rattle.session_model.specs.Meaning.{Meaning}
+use Rattle.session_model.specs.Plain.{address_at}
+use Rattle.session_model.specs.Reach.{IsReady}
 use Rattle.session_model.specs.State.{state}
 use Rattle.session_model.specs.declared.entry.Entry.{Entry}
 use Rattle.session_model.specs.declared.entry.Event.{Event}
@@ -14,15 +18,18 @@ use Rattle.session_model.specs.declared.entry.Event.TheVariants as event
 use Rattle.session_model.specs.declared.entry.Reply.{Reply}
 use Rattle.look_ends.specs.Ends.{EndsAs}
 use Rattle.look_ends.specs.declared.look_end.LookEnd.TheVariants as look
-use Rattle.script_calls.specs.Lines.{Line, One, LookUp, Run}
-use Rattle.given_names.specs.Given.{Given, address_of, given_names}
+use Rattle.look_ends.specs.declared.peeked.Peek.{Peek}
+use Rattle.look_ends.specs.declared.peeked.Peek.TheVariants as peek
+use Rattle.script_calls.specs.Lines.{Line, One, LookUp, Run, PeekAt}
+use Rattle.given_names.specs.Given.{Given, address_of, given_names, match_of}
+use Rattle.given_names.specs.declared.names.GivenMatch.{GivenMatch}
 use Rattle.run_laws.specs.Ended.{AreMemory}
 use Rattle.script_laws.specs.declared.line_end.LineEnd.{LineEnd}
-use Rattle.script_laws.specs.declared.line_end.LineEnd.TheVariants.{Looked, Ran, Replied, Skipped, Stopped, Unfound}
+use Rattle.script_laws.specs.declared.line_end.LineEnd.TheVariants.{Looked, Peeked, Ran, Replied, Skipped, Stopped, Unfound}
 
 -- what a line gave
 abbrev pub given_by : Line → LineEnd → Given
-given_by (LookUp l) (Looked (look.Found matches)) = given_names l.wanted matches
+given_by (LookUp l) (Looked (look.Found matches)) = given_names l.level l.wanted matches
 given_by line end = []
 
 -- one call, which was answered so
@@ -40,12 +47,29 @@ CopiesAndRuns h (Some address) fuel args end output (c ∷ []) =
     (c.1.event ≡ event.Image) × ((ranges : List Segment) × AreMemory (state (take c.0 h)) ranges × RunsTo (byte_at ranges) address args fuel end output)
 CopiesAndRuns h address fuel args end output cs = ⊥
 
--- The line made these calls, and ended so; names were given these addresses before.
+-- an instance is ready, at this address
+abbrev pub IsReadyAt : List (Entry Meaning) → InstId → ℕ → Type 0
+IsReadyAt h i address = IsReady (state h).rows i.0 × (address_at (state h).rows i.0 ≡ Some address)
+
+-- the client itself found the match ready, at an address other than 0
+abbrev pub WasReady : GivenMatch → Type 0
+WasReady m = (m.level ≡ level.Ready) × (m.address ≢ 0)
+
+-- A peek told this of a name that had this match. It is unfound exactly where there is none; ready at an address only where its instance is so
+-- after some entries of the history; and ready at the address of the match where the client itself found it so.
+abbrev pub IsPeekOf : List (Entry Meaning) → Option GivenMatch → Peek → Type 0
+IsPeekOf h None told = told ≡ peek.Unfound
+IsPeekOf h (Some m) peek.Unfound = ⊥
+IsPeekOf h (Some m) peek.NotYet = WasReady m → ⊥
+IsPeekOf h (Some m) (peek.Ready address) = ((n : ℕ) × IsReadyAt (take n h) m.instance address) × (WasReady m → address ≡ m.address)
+
+-- The line made these calls, and ended so; names were given these matches before.
 abbrev pub IsLine : List (Entry Meaning) → Given → Line → LineEnd → List (ℕ × Entry Meaning) → Type 0
 IsLine h given (One e) (Replied r) cs = OneCall e r cs
 IsLine h given (LookUp l) (Looked end) cs = Looks h l cs × EndsAs end cs
 IsLine h given (Run name fuel args) Unfound cs = (address_of name given ≡ None) × (cs ≡ [])
 IsLine h given (Run name fuel args) (Ran end output) cs = CopiesAndRuns h (address_of name given) fuel args end output cs
+IsLine h given (PeekAt name) (Peeked told) cs = IsPeekOf h (match_of name given) told × (cs ≡ [])
 IsLine h given line end cs = ⊥
 
 -- the calls that a line makes, whatever comes of them
@@ -53,6 +77,7 @@ abbrev pub CallsOf : List (Entry Meaning) → Given → Line → List (ℕ × En
 CallsOf h given (One e) cs = (r : Reply) × OneCall e r cs
 CallsOf h given (LookUp l) cs = Looks h l cs
 CallsOf h given (Run name fuel args) cs = (address : ℕ) × (address_of name given ≡ Some address) × IsCopy cs
+CallsOf h given (PeekAt name) cs = ⊥
 
 -- each of the lines was skipped
 abbrev pub AreSkipped : List Line → List LineEnd → Type 0

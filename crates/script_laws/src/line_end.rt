@@ -1,5 +1,5 @@
 use exec_run::RunEnd;
-use look_ends::LookEnd;
+use look_ends::{LookEnd, Peek};
 use orc_ids::{Bytes, Stop};
 use session_model::Reply;
 
@@ -14,6 +14,8 @@ pub enum LineEnd {
     Ran(RunEnd, Bytes),
     /// The client's lookups gave no address to the name that a run begins at.
     Unfound,
+    /// A peek told this of its name.
+    Peeked(Peek),
     /// A call of the line found no place in the journal, or wanted memory.
     Stopped(Stop),
     /// A line before was stopped.

@@ -16,7 +16,7 @@ use Rattle.session_script.specs.Words.{parts, comma, is_empty, unmarked, is_name
 use Rattle.session_script.specs.Forms.{are_items, are_declared, order_of, is_level, level_of, are_wanted, wanted_in, fuel_in, argument_in, are_arguments}
 use Rattle.session_script.specs.Known.{Known, tracker_in, name_in, with_name, with_call}
 use Rattle.session_script.specs.Setup.{file_line, with_names}
-use Rattle.session_script.specs.Client.{client_line, client_count, define_line, looked_up, looking_up, lookup_line, watch_line, move_line, remove_line, run_by, run_line, call_line}
+use Rattle.session_script.specs.Client.{client_line, client_count, define_line, looked_up, looking_up, lookup_line, watch_line, move_line, remove_line, run_by, run_line, peek_line, call_line}
 use Rattle.session_script.proofs.Checks.{passed, good_part}
 use Rattle.session_script.proofs.NamesApart.{number_within}
 use Rattle.session_script.proofs.TextNumbers.{has_itself}
@@ -144,6 +144,16 @@ run_line_said k new (name ∷ fuel ∷ words) said read =
     let few = passed (nat_le (length words) ARG_LIMIT) _ _ new read in
     run_by_said k new name fuel words said few.1
 
+peek_line_said : (k new : Known) (operands : List (List ℕ)) → SaysSoFar k → peek_line k operands ≡ Ok new → SaysSoFar new
+peek_line_said k new [] said read = absurd cc
+peek_line_said k new (name ∷ []) said read =
+    let symbol = passed (is_symbol name) _ _ new read in
+    let named : Known = with_name k name in
+    let peek = line.Peek (name_in named name) in
+    let made : with_call named peek ≡ new = cc symbol.1 in
+    subst SaysSoFar made (call_said named peek (number_within name (mentioned name k.names) (has_itself name k.names)) (names_said k (name ∷ []) said))
+peek_line_said k new (_ ∷ _ ∷ _) said read = absurd cc
+
 pub call_line_said : (k new : Known) (first : Option ClientWord) (operands : List (List ℕ)) → SaysSoFar k → call_line k first operands ≡ Ok new → SaysSoFar new
 call_line_said k new (Some word.Define) operands said read = define_line_said k new operands said read
 call_line_said k new (Some word.Lookup) operands said read = lookup_line_said k new operands said read
@@ -151,4 +161,5 @@ call_line_said k new (Some word.Watch) operands said read = watch_line_said k ne
 call_line_said k new (Some word.Move) operands said read = move_line_said k new operands said read
 call_line_said k new (Some word.Remove) operands said read = remove_line_said k new operands said read
 call_line_said k new (Some word.Run) operands said read = run_line_said k new operands said read
+call_line_said k new (Some word.Peek) operands said read = peek_line_said k new operands said read
 call_line_said k new None operands said read = absurd cc

@@ -59,6 +59,7 @@ call_stays old new (client.Watch note lookup) more known = wanted_stay old new l
 call_stays old new (client.Move t to) more known = known
 call_stays old new (client.Remove t) more known = known
 call_stays old new (client.Run name fuel args) more known = omega (arith, known, more)
+call_stays old new (client.Peek name) more known = omega (arith, known, more)
 
 pub names_said : (k : Known) (names : List (List ℕ)) → SaysSoFar k → SaysSoFar (with_names k names)
 names_said k names said =

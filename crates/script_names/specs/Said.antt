@@ -27,6 +27,7 @@ KnownCall names (client.Watch note lookup) = All (λ (w : Wanted). IsGiven names
 KnownCall names (client.Move t to) = ⊤
 KnownCall names (client.Remove t) = ⊤
 KnownCall names (client.Run name fuel args) = IsGiven names name
+KnownCall names (client.Peek name) = IsGiven names name
 
 -- each name that a script says is one of its table
 pub record SaysItsNames (script : Script) : Type 0 where

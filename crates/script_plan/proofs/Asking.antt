@@ -55,6 +55,7 @@ module _ (units : List Meaning) (no_alias : All (λ unit. unit.source ≡ None) 
   can_do (client.Move t to) well = tt
   can_do (client.Remove t) well = tt
   can_do (client.Run name fuel args) well = well.1
+  can_do (client.Peek name) well = tt
 
   client_can_do : (lines : List ClientLine) → All (IsClientLine (length units)) lines → All CanDo (map (asked_line units) lines)
   client_can_do [] well = All-nil CanDo

@@ -8,7 +8,7 @@ use Rattle.list_laws.proofs.Each.{all_front, all_back}
 use Rattle.orc_ids.specs.declared.limits.TheConstants.{ORDER_LIMIT, WANTED_LIMIT}
 use Rattle.orc_ids.specs.declared.lookup.Outcome.{Outcome}
 use Rattle.script_calls.specs.Dylibs.{dylib_names}
-use Rattle.script_calls.specs.Lines.{Line, One, LookUp, Run}
+use Rattle.script_calls.specs.Lines.{Line, One, LookUp, Run, PeekAt}
 use Rattle.script_calls.specs.Plans.{CanSetUp, CanCall, event_of, line_of}
 use Rattle.script_calls.specs.declared.calls.ClientCall.{ClientCall}
 use Rattle.script_calls.specs.declared.calls.ClientCall.TheVariants as client
@@ -39,6 +39,7 @@ abbrev pub CanDo : Line → Type 0
 CanDo (One event) = IsNoAlias event
 CanDo (LookUp lookup) = (length lookup.order ≤ ORDER_LIMIT) × (length lookup.wanted ≤ WANTED_LIMIT)
 CanDo (Run name fuel args) = length args ≤ 8
+CanDo (PeekAt name) = ⊤
 
 module _ {U : Type 0} (means : U → Meaning) where
   can_set_up : (made : ℕ) (call : SetUpCall U) → CanHappen made (event_of means call) → CanSetUp means made call
@@ -65,6 +66,7 @@ module _ {U : Type 0} (means : U → Meaning) where
     can_call (client.Move t to) can fresh = can
     can_call (client.Remove t) can fresh = can
     can_call (client.Run name fuel args) can fresh = can
+    can_call (client.Peek name) can fresh = can
 
     can_call_all : (calls : List (ClientCall U N)) → All CanDo (map (line_of means) calls) → All IsFresh (flat_map watch_of calls) → All (CanCall means heard number) calls
     can_call_all [] can fresh = All-nil (CanCall means heard number)

@@ -26,6 +26,7 @@ module _ {U N : Type 0} (means : U → Meaning) where
   call_numbers (call.Move t to) = refl
   call_numbers (call.Remove t) = refl
   call_numbers (call.Run name fuel args) = refl
+  call_numbers (call.Peek name) = refl
 
   client_numbers : (calls : List (ClientCall U N)) → map (λ w. w.0) (flat_map watch_of calls) ≡ flat_map numbers_of (map (line_of means) calls)
   client_numbers [] = refl
@@ -43,6 +44,7 @@ module _ (units : List Meaning) where
   line_numbers (line.Move t to) = refl
   line_numbers (line.Remove t) = refl
   line_numbers (line.Run name fuel args) = refl
+  line_numbers (line.Peek name) = refl
 
   lines_numbers : (lines : List ClientLine) → flat_map numbers_of (map (asked_line units) lines) ≡ flat_map note_of lines
   lines_numbers [] = refl

@@ -1,7 +1,7 @@
 -- What a script asks for, by its lines and by what the unit of each file is.
 use Rattle.std.specs.Prelude.{ℕ, List, [], ◌∷◌, map, Option, Some, None, slice_index_or}
 use Rattle.orc_ids.specs.declared.ids.UnitName.TheVariants as unit_name
-use Rattle.script_calls.specs.Lines.{Line, One, LookUp, Run, Script as Asked}
+use Rattle.script_calls.specs.Lines.{Line, One, LookUp, Run, PeekAt, Script as Asked}
 use Rattle.script_plan.specs.Counts.{no_units, with_line}
 use Rattle.script_plan.specs.declared.unit_counts.UnitCounts.{UnitCounts}
 use Rattle.session_model.specs.Calls.{Lookup}
@@ -49,6 +49,7 @@ asked_line units (client.Watch note names) = LookUp (lookup_of names (Some note)
 asked_line units (client.Move t to) = One (event.MoveTracker t to)
 asked_line units (client.Remove t) = One (event.Remove t)
 asked_line units (client.Run name fuel args) = Run name fuel args
+asked_line units (client.Peek name) = PeekAt name
 
 abbrev pub asked_script : List Meaning → Script → Asked
 asked_script units script = record {

@@ -86,6 +86,7 @@ fn client_call<N: Notify>(
         ClientLine::Run(name, fuel, args) => {
             Ok(ClientCall::Run(*name, *fuel, copy_of(alloc, args)?))
         }
+        ClientLine::Peek(name) => Ok(ClientCall::Peek(*name)),
     }
 }
 

@@ -106,6 +106,7 @@ fn write_call<U: UnitKind>(
         ClientCall::Run(name, fuel, args) => {
             writeln!(text, "run n{} {fuel} {:?}", name.0, args.as_slice())?;
         }
+        ClientCall::Peek(name) => writeln!(text, "peek n{}", name.0)?,
     }
     Ok(())
 }

@@ -1,5 +1,6 @@
 -- A script's session keeps its promises.
-use Rattle.std.proofs.Common.{◌≡◌, ℕ, ◌+◌, List, [], ◌∷◌, ◌++◌, slice_get, take, Option, None, Some, refl, subst}
+use Rattle.std.proofs.Common.{◌≡◌, ℕ, ◌+◌, List, [], ◌∷◌, ◌++◌, slice_get, take, drop, Option, None, Some, refl, sym, ap, subst, ◌∙◌}
+use Rattle.std.proofs.lemmas.List.{take-append-drop}
 use Rattle.std.proofs.lemmas.List.Elements.{All-head}
 use Rattle.list_laws.proofs.Each.{all_front, all_back}
 use Rattle.orc_ids.specs.declared.lookup.Stop.{Stop}
@@ -8,27 +9,33 @@ use Rattle.run_laws.specs.Ended.{AreMemory}
 use Rattle.session_model.specs.Calls.{Looks, Lookup, numbered_calls}
 use Rattle.session_model.specs.History.{IsLegal}
 use Rattle.session_model.specs.Meaning.{Meaning}
+use Rattle.session_model.specs.Reach.{IsReady}
 use Rattle.session_model.specs.State.{state}
 use Rattle.session_model.specs.declared.entry.Entry.{Entry}
-use Rattle.session_laws.proofs.Declared.{front_legal}
+use Rattle.session_laws.specs.Readiness.{phase_at}
+use Rattle.session_laws.proofs.Declared.{front_legal, ready_stays_ready}
 use Rattle.look_ends.specs.Ends.{EndsAs}
 use Rattle.look_ends.specs.declared.look_end.LookEnd.{LookEnd}
 use Rattle.look_ends.specs.declared.look_end.LookEnd.TheVariants as look
-use Rattle.given_names.specs.Given.{Given, address_of}
+use Rattle.look_ends.specs.declared.peeked.Peek.{Peek}
+use Rattle.look_ends.specs.declared.peeked.Peek.TheVariants as peek
+use Rattle.given_names.specs.Given.{Given, address_of, match_of}
+use Rattle.given_names.specs.declared.names.GivenMatch.{GivenMatch}
 use Rattle.session_promises.specs.Lookups.{AreCallsOf}
 use Rattle.session_promises.proofs.Failures.{failure_hits_those, nothing_else_fails}
 use Rattle.session_promises.proofs.Entries.{calls_of}
 use Rattle.session_promises.proofs.FoundReady.{found_is_ready}
+use Rattle.session_promises.proofs.FoundStanding.{same_address}
 use Rattle.session_promises.proofs.Settled.{failed_where_lost, found_where_settled}
 use Rattle.session_promises.proofs.Runs.{intact_runs_as_linked}
 use Rattle.closures.proofs.Holding.{intact_holds}
 use Rattle.static_links.proofs.Linked.{image_is_linked}
-use Rattle.script_calls.specs.Lines.{Line, One, LookUp, Run, Script}
-use Rattle.script_laws.specs.Lines.{AreLines, AreSkipped, AtEnd, CopiesAndRuns, Goes, IsLine, Stops, given_by}
+use Rattle.script_calls.specs.Lines.{Line, One, LookUp, Run, PeekAt, Script}
+use Rattle.script_laws.specs.Lines.{AreLines, AreSkipped, AtEnd, CopiesAndRuns, Goes, IsLine, IsPeekOf, Stops, given_by}
 use Rattle.script_laws.specs.Scripts.{Went, Whole, InSetUp}
 use Rattle.script_laws.specs.declared.line_end.LineEnd.{LineEnd}
-use Rattle.script_laws.specs.declared.line_end.LineEnd.TheVariants.{Looked, Ran, Skipped, Stopped}
-use Rattle.script_promises.specs.Promises.{AreKept, IsKept, IsRun, ScriptKeepsPromises}
+use Rattle.script_laws.specs.declared.line_end.LineEnd.TheVariants.{Looked, Peeked, Ran, Skipped, Stopped}
+use Rattle.script_promises.specs.Promises.{AreKept, IsKept, IsPeeked, IsRun, ScriptKeepsPromises}
 
 -- One line
 
@@ -68,9 +75,24 @@ module _ (jmax : ℕ) (h : List (Entry Meaning)) (legal : IsLegal jmax h) where
   run_kept (Some from) fuel args end output (c ∷ d ∷ cs) of r = absurd r
   run_kept None fuel args end output now of r = absurd r
 
+  -- what is ready at an address after some entries is so after all
+  peek_kept : (found : Option GivenMatch) (told : Peek) → IsPeekOf h found told → IsPeeked h found told
+  peek_kept (Some m) (peek.Ready address) is =
+      let n = is.0.0 in
+      let ready = is.0.1 in
+      let whole = take-append-drop n h in
+      let kept = ready_stays_ready jmax (take n h) (drop n h) (subst (IsLegal jmax) (sym whole) legal) m.instance.0 ready.0 in (
+        subst (λ g. IsReady (state g).rows m.instance.0) whole kept.0,
+        same_address (state (take n h)).rows (state h).rows m.instance.0 (ap (λ g. phase_at (state g).rows m.instance.0) (sym whole) ∙ kept.1) ∙ ready.1,
+      )
+  peek_kept (Some m) peek.NotYet is = tt
+  peek_kept (Some m) peek.Unfound is = tt
+  peek_kept None told is = tt
+
   line_kept : (given : Given) (line : Line) (end : LineEnd) (now : List (ℕ × Entry Meaning)) → AreCallsOf h now → IsLine h given line end now → IsKept h given line end
   line_kept given (LookUp l) (Looked end) now of is = look_kept given l end now of is.0 is.1
   line_kept given (Run name fuel args) (Ran end output) now of is = run_kept (address_of name given) fuel args end output now of is
+  line_kept given (PeekAt name) (Peeked told) now of is = peek_kept (match_of name given) told is.0
   line_kept given _ _ now of is = tt
 
   -- nothing is promised of a line that was stopped or skipped
@@ -78,11 +100,13 @@ module _ (jmax : ℕ) (h : List (Entry Meaning)) (legal : IsLegal jmax h) where
   stop_kept given (One e) st = tt
   stop_kept given (LookUp l) st = tt
   stop_kept given (Run name fuel args) st = tt
+  stop_kept given (PeekAt name) st = tt
 
   skip_kept : (given : Given) (line : Line) → IsKept h given line Skipped
   skip_kept given (One e) = tt
   skip_kept given (LookUp l) = tt
   skip_kept given (Run name fuel args) = tt
+  skip_kept given (PeekAt name) = tt
 
   -- All lines
 

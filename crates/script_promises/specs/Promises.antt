@@ -19,16 +19,19 @@ use Rattle.session_model.specs.declared.entry.Entry.{Entry}
 use Rattle.session_model.specs.declared.entry.Event.TheVariants as event
 use Rattle.session_laws.specs.Failures.{IsFailure}
 use Rattle.look_ends.specs.declared.look_end.LookEnd.TheVariants as look
-use Rattle.given_names.specs.Given.{Given, address_of}
+use Rattle.look_ends.specs.declared.peeked.Peek.{Peek}
+use Rattle.look_ends.specs.declared.peeked.Peek.TheVariants as peek
+use Rattle.given_names.specs.Given.{Given, address_of, match_of}
+use Rattle.given_names.specs.declared.names.GivenMatch.{GivenMatch}
 use Rattle.run_laws.specs.Ended.{AreMemory}
 use Rattle.session_promises.specs.Failures.{roots_of}
 use Rattle.session_promises.specs.Lookups.{IsFailedAt, IsFoundAt}
 use Rattle.session_promises.specs.Runs.{IsClosure}
-use Rattle.script_calls.specs.Lines.{Line, LookUp, Run, Script}
-use Rattle.script_laws.specs.Lines.{given_by}
+use Rattle.script_calls.specs.Lines.{Line, LookUp, Run, PeekAt, Script}
+use Rattle.script_laws.specs.Lines.{IsReadyAt, given_by}
 use Rattle.script_laws.specs.Scripts.{IsScriptRun}
 use Rattle.script_laws.specs.declared.line_end.LineEnd.{LineEnd}
-use Rattle.script_laws.specs.declared.line_end.LineEnd.TheVariants.{Looked, Ran}
+use Rattle.script_laws.specs.declared.line_end.LineEnd.TheVariants.{Looked, Peeked, Ran}
 
 module _ (h : List (Entry Meaning)) where
   -- The lookup's query was answered these addresses at the first entry that leaves all its matches at its level; at Ready, all that they
@@ -59,11 +62,17 @@ module _ (h : List (Entry Meaning)) where
     pub runs : RunsTo (byte_at ranges) from args fuel end output
     pub linked : (i : ℕ) (closure : Map) → IsClosure (state (take (n + 1) h)) i closure → Stays closure from args fuel → RunsTo closure from args fuel end output
 
-  -- what is promised of a line that ended so, before which names were given these addresses
+  -- what is promised of a peek that told this of a name that had this match: an instance that is ready now stays so, at its address
+  abbrev pub IsPeeked : Option GivenMatch → Peek → Type 0
+  IsPeeked (Some m) (peek.Ready address) = IsReadyAt h m.instance address
+  IsPeeked found told = ⊤
+
+  -- what is promised of a line that ended so, before which names were given these matches
   abbrev pub IsKept : Given → Line → LineEnd → Type 0
   IsKept given (LookUp l) (Looked (look.Found matches)) = IsFound l matches
   IsKept given (LookUp l) (Looked (look.Failed lost)) = IsLost l lost
   IsKept given (Run name fuel args) (Ran end output) = IsRun (address_of name given) fuel args end output
+  IsKept given (PeekAt name) (Peeked told) = IsPeeked (match_of name given) told
   IsKept given line end = ⊤
 
   -- so of each of a client's lines, one after the other

@@ -1,6 +1,10 @@
 mod Setting
 mod OneLine
 mod ManyLines
+mod Posting
+mod Keeping
+mod Knowing
+mod Peeking
 mod MemberEnds
 mod Notifying
 mod ScriptRuns

@@ -1,5 +1,5 @@
 -- Lines, one after the other.
-use Rattle.std.proofs.Common.{◌≡◌, ℕ, ◌⊎◌, inl, inr, Bool, true, false, ◌||◌, List, [], ◌∷◌, ◌++◌, length, slice_get, append-nil, refl, sym, ap, subst, All, Option, Some}
+use Rattle.std.proofs.Common.{◌≡◌, ℕ, ◌⊎◌, inl, inr, Bool, true, false, ◌||◌, List, [], ◌∷◌, ◌++◌, length, slice_get, append-nil, refl, sym, ap, subst, ◌∙◌, All, Option, Some}
 use Rattle.std.proofs.lemmas.Bool.{both_ways}
 use Rattle.std.proofs.lemmas.List.{append_assoc}
 use Rattle.std.proofs.lemmas.List.Elements.{All-head, All-tail}
@@ -12,6 +12,7 @@ use Rattle.session_laws.proofs.Declared.{pushed_cases}
 use Rattle.notifiers.specs.declared.notice.Notice.{Notice}
 use Rattle.turn_lock.specs.declared.view.View.{View}
 use Rattle.turn_lock.specs.Lists.{StartsWith}
+use Rattle.seat_calls.specs.Did.{Did, Nothing, Promise}
 use Rattle.seat_calls.proofs.Doing.{nothing_is_done}
 use Rattle.link_worker.specs.Does.{Does}
 use Rattle.link_worker.specs.Works.{WasStopped}
@@ -72,6 +73,7 @@ skipped_last (l ∷ ls) (end.Replied r ∷ es) line e is are = absurd are
 skipped_last (l ∷ ls) (end.Looked k ∷ es) line e is are = absurd are
 skipped_last (l ∷ ls) (end.Ran r o ∷ es) line e is are = absurd are
 skipped_last (l ∷ ls) (end.Unfound ∷ es) line e is are = absurd are
+skipped_last (l ∷ ls) (end.Peeked p ∷ es) line e is are = absurd are
 
 -- an end is a stop, or none
 stop_or_none : (e : LineEnd) → ((st : Stop) × (e ≡ end.Stopped st)) ⊎ (is_stopped e ≡ false)
@@ -80,17 +82,29 @@ stop_or_none (end.Replied r) = inr refl
 stop_or_none (end.Looked l) = inr refl
 stop_or_none (end.Ran r o) = inr refl
 stop_or_none end.Unfound = inr refl
+stop_or_none (end.Peeked p) = inr refl
 stop_or_none end.Skipped = inr refl
 
 module _ {U N : Type 0} (means : U → Meaning) (heard : N → Option Outcome) (jmax : ℕ) where
   -- a line that wasn't stopped
-  made_of : (given : Given) (line : Line) (e : LineEnd) (v w : View (Entry U)) (a b : List (Notice N)) → is_stopped e ≡ false → HasDone means heard jmax given line e v w a b → Does means heard v w a b (Makes given line e)
+  pub made_of : (given : Given) (line : Line) (e : LineEnd) (v w : View (Entry U)) (a b : List (Notice N)) → is_stopped e ≡ false → HasDone means heard jmax given line e v w a b → Does means heard v w a b (Makes given line e)
   made_of given line (end.Stopped st) v w a b isnt has = absurd (both_ways true isnt refl)
   made_of given line (end.Replied r) v w a b isnt has = has
   made_of given line (end.Looked l) v w a b isnt has = has
   made_of given line (end.Ran r o) v w a b isnt has = has
   made_of given line end.Unfound v w a b isnt has = has
+  made_of given line (end.Peeked p) v w a b isnt has = has
   made_of given line end.Skipped v w a b isnt has = has
+
+  -- and the other way
+  done_of : (given : Given) (line : Line) (e : LineEnd) (v w : View (Entry U)) (a b : List (Notice N)) → is_stopped e ≡ false → Does means heard v w a b (Makes given line e) → HasDone means heard jmax given line e v w a b
+  done_of given line (end.Stopped st) v w a b isnt does = absurd (both_ways true isnt refl)
+  done_of given line (end.Replied r) v w a b isnt does = does
+  done_of given line (end.Looked l) v w a b isnt does = does
+  done_of given line (end.Ran r o) v w a b isnt does = does
+  done_of given line end.Unfound v w a b isnt does = does
+  done_of given line (end.Peeked p) v w a b isnt does = does
+  done_of given line end.Skipped v w a b isnt does = does
 
   later_of : (given : Given) (line : Line) (e : LineEnd) (v w : View (Entry U)) (a b : List (Notice N)) → HasDone means heard jmax given line e v w a b → StartsWith w.seen v.seen
   later_of given line (end.Stopped st) v w a b has = has.0.did.later
@@ -98,10 +112,23 @@ module _ {U N : Type 0} (means : U → Meaning) (heard : N → Option Outcome) (
   later_of given line (end.Looked l) v w a b has = has.did.later
   later_of given line (end.Ran r o) v w a b has = has.did.later
   later_of given line end.Unfound v w a b has = has.did.later
+  later_of given line (end.Peeked p) v w a b has = has.did.later
   later_of given line end.Skipped v w a b has = has.did.later
 
   stop_of : (given : Given) (line : Line) (st : Stop) (e : LineEnd) (v w : View (Entry U)) (a b : List (Notice N)) → e ≡ end.Stopped st → HasDone means heard jmax given line e v w a b → Does means heard v w a b (Begins given line) × WasStopped means jmax v.seen w.seen st
   stop_of given line st e v w a b is has = subst (λ x. HasDone means heard jmax given line x v w a b) is has
+
+  -- a line, and then no call
+  pub still_done : (given : Given) (line : Line) (e : LineEnd) (v x w : View (Entry U)) (a b : List (Notice N)) → HasDone means heard jmax given line e v x a b → Did means x w Nothing → HasDone means heard jmax given line e v w a b
+  still_done given line e v x w a b has quiet = by (stop_or_none e)
+    where
+      more : (P : Promise) → Does means heard v x a b P → Does means heard v w a b P
+      more P does = does_both means heard v x w a b b P Nothing P (λ h cs ds p none. subst (P h) (sym (ap (λ l. cs ++ l) none ∙ append-nil cs)) p) does (does_none means heard x w b Nothing (λ h. refl) quiet)
+
+      by : ((st : Stop) × (e ≡ end.Stopped st)) ⊎ (is_stopped e ≡ false) → HasDone means heard jmax given line e v w a b
+      by (inl (st, is)) = let was = stop_of given line st e v x a b is has in
+          subst (λ y. HasDone means heard jmax given line y v w a b) (sym is) (more (Begins given line) was.0, stopped_until means jmax v.seen x.seen w.seen st quiet.later was.1)
+      by (inr none) = done_of given line e v w a b none (more (Makes given line e) (made_of given line e v x a b none has))
 
   -- nothing was done yet
   pub none_done : (table : Given) (v : View (Entry U)) (a : List (Notice N)) → AreSame table [] → HasDoneSome means heard jmax [] [] false table v v a a

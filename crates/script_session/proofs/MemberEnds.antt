@@ -16,6 +16,7 @@ use Rattle.shared_session.specs.Home.{seat_of}
 use Rattle.seat_calls.specs.Did.{Promise}
 use Rattle.link_worker.specs.Does.{Does}
 use Rattle.link_worker.specs.Works.{IsFree, Jobs, WasStopped}
+use Rattle.shared_session.specs.declared.posts.TheConstants.{POSTS}
 use Rattle.seat_work.specs.First.{IsFirst}
 use Rattle.seat_work.proofs.NewSeats.{may_begin}
 use Rattle.link_worker.proofs.Telling.{does_less}
@@ -119,8 +120,8 @@ module _ {U N : Type 0} (means : U → Meaning) (heard : N → Option Outcome) (
           can_be_client a.0 m.role (all_at (All (CanCall means heard numbers)) clients c a.0 can a.1) a.2
 
 -- new seats may serve
-pub may_serve : {U N G : Type 0} (means : U → Meaning) (heard : N → Option Outcome) (numbers : N → ℕ) (jmax : ℕ) (v : View (Entry U)) (members : List (Member U N G)) → IsFirst means jmax v → All (CanBegin means heard numbers) members → MayBegin (λ m w. IsFree means w × CanBegin means heard numbers m) v members
-may_serve means heard numbers jmax v members first can k m lt number w low high new = (may_begin means jmax v members first k m lt number w low high new, can k m lt)
+pub may_serve : {U N G : Type 0} (means : U → Meaning) (heard : N → Option Outcome) (numbers : N → ℕ) (jmax posts : ℕ) (v : View (Entry U)) (members : List (Member U N G)) → posts ≡ POSTS → IsFirst means jmax v → All (CanBegin means heard numbers) members → MayBegin (λ m w. (posts ≡ POSTS) × IsFree means w × CanBegin means heard numbers m) v members
+may_serve means heard numbers jmax posts v members all first can k m lt number w low high new = (all, may_begin means jmax v members first k m lt number w low high new, can k m lt)
 
 -- what each role's work leaves, by the role that it was
 module _ {U N : Type 0} (means : U → Meaning) (heard : N → Option Outcome) (numbers : N → ℕ) (jmax : ℕ) where

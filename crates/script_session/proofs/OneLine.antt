@@ -6,6 +6,7 @@ use Rattle.std.proofs.lemmas.List.Elements.{All-cons, All-nil}
 use Rattle.orc_ids.specs.declared.ids.DylibId.{DylibId}
 use Rattle.orc_ids.specs.declared.ids.NameId.{NameId}
 use Rattle.orc_ids.specs.declared.ids.TrackId.{TrackId}
+use Rattle.orc_ids.specs.declared.lookup.Level.{Level}
 use Rattle.orc_ids.specs.declared.lookup.Outcome.{Outcome}
 use Rattle.orc_ids.specs.declared.lookup.Stop.{Stop}
 use Rattle.orc_ids.specs.declared.lookup.Stop.TheVariants as stop
@@ -50,7 +51,7 @@ use Rattle.link_worker.proofs.Telling.{does_less, does_none, does_one, is_placin
 use Rattle.link_worker.proofs.Turning.{TurnOf, legal_after, no_call, one_call, seen_is}
 use Rattle.link_worker.proofs.Working.{stopped_now}
 use Rattle.seat_work.specs.Copies.{CopiesAt, IsStoppedAt, OneCopy}
-use Rattle.given_names.specs.Given.{Given, address_of, given_names}
+use Rattle.given_names.specs.Given.{Given, address_of, given_names, match_of}
 use Rattle.given_names.proofs.Callers.{same_after}
 use Rattle.script_calls.specs.Lines.{Line, LookUp, One, Run}
 use Rattle.script_laws.specs.Lines.{CallsOf, CopiesAndRuns, given_by}
@@ -216,8 +217,8 @@ kept_end means heard jmax v w given old new l then' back e r (inr (matches, foun
     (found_and_stopped means heard jmax v w given old new l then' back matches (subst (λ x. HasLooked means heard jmax v w old new l then' x back) found has))
 
 -- the table of names after a lookup that was found
-pub kept_given : (l : Lookup) (g table new : Given) (wanted : List Wanted) (matches : Bindings) (e : LookEnd) (r : LineEnd) → l.wanted ≡ wanted → e ≡ look.Found matches → r ≡ lookup_end e → AreSame table g → ((name : NameId) → address_of name new ≡ address_of name (given_names wanted matches ++ table)) →
-    AreSame new (given_by (LookUp l) r ++ g)
-kept_given l g table new wanted matches e r is found ends same added name =
-    added name ∙ (same_after name (given_names wanted matches) table g (same name)
-    ∙ ap (λ x. address_of name (x ++ g)) (ap (λ w. given_names w matches) (sym is) ∙ sym (ap (given_by (LookUp l)) (ends ∙ ap lookup_end found))))
+pub kept_given : (l : Lookup) (g table new : Given) (level : Level) (wanted : List Wanted) (matches : Bindings) (e : LookEnd) (r : LineEnd) → l.level ≡ level → l.wanted ≡ wanted → e ≡ look.Found matches → r ≡ lookup_end e → AreSame table g →
+    ((name : NameId) → match_of name new ≡ match_of name (given_names level wanted matches ++ table)) → AreSame new (given_by (LookUp l) r ++ g)
+kept_given l g table new level wanted matches e r at is found ends same added name =
+    added name ∙ (same_after name (given_names level wanted matches) table g (same name)
+    ∙ ap (λ x. match_of name (x ++ g)) (ap (λ n. given_names n wanted matches) (sym at) ∙ (ap (λ w. given_names l.level w matches) (sym is) ∙ sym (ap (given_by (LookUp l)) (ends ∙ ap lookup_end found)))))

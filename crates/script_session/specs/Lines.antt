@@ -6,7 +6,7 @@ use Rattle.orc_ids.specs.declared.lookup.Stop.TheVariants as stop
 use Rattle.session_model.specs.declared.entry.Reply.{Reply}
 use Rattle.look_ends.specs.declared.look_end.LookEnd.{LookEnd}
 use Rattle.look_ends.specs.declared.look_end.LookEnd.TheVariants as look
-use Rattle.given_names.specs.Given.{Given, address_of}
+use Rattle.given_names.specs.Given.{Given, match_of}
 use Rattle.script_laws.specs.declared.line_end.LineEnd.{LineEnd}
 use Rattle.script_laws.specs.declared.line_end.LineEnd.TheVariants.{Looked, Replied, Stopped}
 
@@ -25,6 +25,6 @@ abbrev pub is_stopped : LineEnd → Bool
 is_stopped (Stopped st) = true
 is_stopped end = false
 
--- names have the same addresses by both
+-- names have the same matches by both
 abbrev pub AreSame : Given → Given → Type 0
-AreSame xs ys = (name : NameId) → address_of name xs ≡ address_of name ys
+AreSame xs ys = (name : NameId) → match_of name xs ≡ match_of name ys

@@ -1,10 +1,12 @@
 //! The lines of a client, one after the other.
-ghost use Rattle.std.specs.Prelude.{◌≡◌, ◌≤◌, ◌<◌, ◌+◌, ◌++◌, ◌||◌, List, [], ◌∷◌, All, length, map, vec_capacity, IfOk};
-ghost use Rattle.turn_lock.specs.Handles.{view, turn_id, IsReady};
+ghost use Rattle.std.specs.Prelude.{◌≡◌, ◌≤◌, ◌<◌, ◌+◌, ◌++◌, ◌||◌, false, List, [], ◌∷◌, All, length, map, vec_capacity, IfOk};
+ghost use Rattle.turn_lock.specs.Handles.{view, turn_id, post_count, IsReady};
 ghost use Rattle.link_worker.specs.Works.{IsFree};
 ghost use Rattle.script_calls.specs.Lines.{Line};
 ghost use Rattle.script_session.specs.Clients.{AreUnheard, HasDoneAll, HasDoneSome, IsEmpty};
 ghost use Rattle.script_session.specs.Lines.{is_stopped};
+ghost use Rattle.script_session.specs.Posts.{KnowsGiven};
+ghost use Rattle.shared_session.specs.declared.posts.TheConstants.{POSTS};
 ghost use Rattle.session_model.specs.declared.entry.Entry.{Entry};
 ghost use Rattle.notifiers.specs.declared.notice.Notice.{Notice};
 ghost use Rattle.script_laws.specs.declared.line_end.LineEnd.{LineEnd};
@@ -105,12 +107,15 @@ fn do_or_skip<U: LinkedUnit, N: Notify, G: Gate, R: Wait, const JMAX: usize>(
     requires ready { IsReady (turn_id shared.now) pass.old }
     requires free { IsFree U.meaning (view pass.old) }
     requires can { CanCall U.meaning N.heard N.number call }
+    requires posts { post_count shared.now ≡ POSTS }
+    requires known { stopped ≡ false → KnowsGiven given.old (view pass.old) }
     ensures ready { IsReady (turn_id shared.now) pass.new }
     ensures free { IsFree U.meaning (view pass.new) }
     ensures next { (v : View (Entry U)) (first : List (Notice N)) (lines : List Line) (ends : List LineEnd) →
         HasDoneSome U.meaning N.heard JMAX lines ends stopped given.old v (view pass.old) first fired.old →
         HasDoneSome U.meaning N.heard JMAX (lines ++ line_of U.meaning call ∷ []) (ends ++ result.end ∷ [])
         (stopped || is_stopped result.end) given.new v (view pass.new) first fired.new }
+    ensures known { (stopped || is_stopped result.end) ≡ false → KnowsGiven given.new (view pass.new) }
     ensures back { IsUnheard N.heard N.number result.back }
 {
     if stopped {
@@ -135,6 +140,7 @@ pub(crate) fn do_lines<U: LinkedUnit, N: Notify, G: Gate, R: Wait, const JMAX: u
     requires ready { IsReady (turn_id shared.now) pass.old }
     requires free { IsFree U.meaning (view pass.old) }
     requires can { All (CanCall U.meaning N.heard N.number) calls.items }
+    requires posts { post_count shared.now ≡ POSTS }
     requires room { IsEmpty (length calls.items) client.old }
     ensures ready { IsReady (turn_id shared.now) pass.new }
     ensures free { IsFree U.meaning (view pass.new) }

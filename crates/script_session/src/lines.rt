@@ -1,28 +1,32 @@
 //! A line of a client.
-ghost use Rattle.std.specs.Prelude.{◌≡◌, ◌⊎◌, ◌++◌, ◌≤◌, List, None, Some, false, length, option_map, IfOk};
+ghost use Rattle.std.specs.Prelude.{◌≡◌, ◌⊎◌, ◌++◌, ◌≤◌, List, None, Some, false, length, option_map, All, IfOk, IfSome};
 ghost use Rattle.session_model.specs.Calls as calls;
 ghost use Rattle.session_model.specs.Meaning.{Bindings};
 ghost use Rattle.session_model.specs.declared.entry.Event.TheVariants as event;
 ghost use Rattle.orc_ids.specs.declared.ids.NameId.{NameId};
 ghost use Rattle.orc_ids.specs.declared.limits.TheConstants.{ORDER_LIMIT, WANTED_LIMIT};
 ghost use Rattle.notifiers.specs.declared.notice.Notice.{Notice};
-ghost use Rattle.turn_lock.specs.Handles.{view, turn_id, IsReady};
+ghost use Rattle.turn_lock.specs.Handles.{view, turn_id, post_count, IsReady};
+ghost use Rattle.shared_session.specs.declared.posts.TheConstants.{POSTS};
+ghost use Rattle.seat_calls.specs.Did.{Did, Nothing};
 ghost use Rattle.link_worker.specs.Works.{IsFree};
-ghost use Rattle.given_names.specs.Given.{Given, address_of};
-ghost use Rattle.script_calls.specs.Lines.{One, LookUp, Run};
+ghost use Rattle.given_names.specs.Given.{Given, address_of, given_match};
+ghost use Rattle.script_calls.specs.Lines.{One, LookUp, PeekAt, Run};
 ghost use Rattle.script_laws.specs.Lines.{given_by};
 ghost use Rattle.script_session.specs.Clients.{HasDone};
 ghost use Rattle.script_session.specs.Lines.{AreSame, is_stopped, line_end, lookup_end};
+ghost use Rattle.script_session.specs.Posts.{KnowsGiven, KnowsMatch, MayBeKept};
 ghost use Rattle.script_calls.specs.Plans.{CanCall, IsUnheard, line_of, lookup_of};
 
 use exec_run::{Ran, run};
 use execution_session::Told;
 use given_names::GivenNames;
 use link_worker::{LinkedUnit, Looked, lookup};
-use look_ends::LookEnd;
+use look_ends::{LookEnd, Peek};
 use notifiers::{Armed, FiredList};
-use orc_ids::{NameId, Stop};
+use orc_ids::{InstId, Level, NameId, Stop};
 use orc_io::{Gate, Notify};
+use ready_words::{peek_at, post_found};
 use script_calls::{ClientCall, Lookup};
 use script_laws::LineEnd;
 use seat_work::copy_memory;
@@ -77,15 +81,55 @@ fn unlodged<N: Notify>(armed: Option<Armed<N>>) -> Option<(u32, N)>
     armed.map(|armed| (armed.note(), armed.back()))
 }
 
-/// Keeps the addresses that a lookup gave. Where there is no memory for them, the line is stopped.
-fn keep_given(given: &mut GivenNames, names: &Lookup, end: LookEnd) -> LineEnd
+/// Sees the history again, and posts what a lookup up to the level found, if it is ready.
+fn post_ready<U: LinkedUnit, N: Notify, const JMAX: usize>(
+    shared: &Shared<U, N, JMAX>,
+    pass: &mut Pass<U, N, JMAX>,
+    level: Level,
+    found: &[Option<(InstId, u64)>],
+)
+    requires ready { IsReady (turn_id shared.now) pass.old }
+    requires posts { post_count shared.now ≡ POSTS }
+    requires free { IsFree U.meaning (view pass.old) }
+    requires may { MayBeKept U.meaning JMAX level found.now (view pass.old).seen }
+    ensures ready { IsReady (turn_id shared.now) pass.new }
+    ensures free { IsFree U.meaning (view pass.new) }
+    ensures quiet { Did U.meaning (view pass.old) (view pass.new) Nothing }
+    ensures known { All (λ o. IfSome o (λ p. KnowsMatch (view pass.new) (given_match level p))) found.now }
+{
+    let _entries = shared.front(pass);
+    match level {
+        Level::Ready => post_found(shared, pass, found),
+        Level::Resolved => {}
+    }
+}
+
+/// Keeps what a lookup gave, and posts what is ready. Where there is no memory for it, the line is stopped.
+fn keep_given<U: LinkedUnit, N: Notify, const JMAX: usize>(
+    shared: &Shared<U, N, JMAX>,
+    pass: &mut Pass<U, N, JMAX>,
+    given: &mut GivenNames,
+    names: &Lookup,
+    end: LookEnd,
+) -> LineEnd
+    requires ready { IsReady (turn_id shared.now) pass.old }
+    requires posts { post_count shared.now ≡ POSTS }
+    requires free { IsFree U.meaning (view pass.old) }
+    requires may { (found : Bindings) → end ≡ LookEnd.Found found → MayBeKept U.meaning JMAX names.now.level found (view pass.old).seen }
+    requires known { KnowsGiven given.old (view pass.old) }
+    ensures ready { IsReady (turn_id shared.now) pass.new }
+    ensures free { IsFree U.meaning (view pass.new) }
+    ensures quiet { Did U.meaning (view pass.old) (view pass.new) Nothing }
     ensures end { (result ≡ lookup_end end) ⊎ ((matches : Bindings) × (end ≡ LookEnd.Found matches) × (result ≡ LineEnd.Stopped Stop.NoMemory)) }
-    ensures given { (lookup : calls.Lookup) (g : Given) → lookup.wanted ≡ names.now.wanted → AreSame given.old g → is_stopped result ≡ false →
-        AreSame given.new (given_by (LookUp lookup) result ++ g) }
+    ensures given { (lookup : calls.Lookup) (g : Given) → lookup.level ≡ names.now.level → lookup.wanted ≡ names.now.wanted → AreSame given.old g →
+        is_stopped result ≡ false → AreSame given.new (given_by (LookUp lookup) result ++ g) }
+    ensures known { is_stopped result ≡ false → KnowsGiven given.new (view pass.new) }
 {
     match &end {
         LookEnd::Found(matches) => {
-            match given.add(names.wanted.as_slice(), matches.as_slice()) {
+            let found = matches.as_slice();
+            post_ready(shared, pass, names.level, found);
+            match given.add(names.level, names.wanted.as_slice(), found) {
                 Ok(()) => lookup_end(end),
                 Err(_) => LineEnd::Stopped(Stop::NoMemory),
             }
@@ -111,10 +155,13 @@ fn look_up<U: LinkedUnit, N: Notify, G: Gate, R: Wait, const JMAX: usize>(
     requires order { length names.now.order ≤ ORDER_LIMIT }
     requires wanted { length names.now.wanted ≤ WANTED_LIMIT }
     requires unheard { IsUnheard N.heard N.number watch }
+    requires posts { post_count shared.now ≡ POSTS }
+    requires known { KnowsGiven given.old (view pass.old) }
     ensures ready { IsReady (turn_id shared.now) pass.new }
     ensures free { IsFree U.meaning (view pass.new) }
     ensures done { (g : Given) → HasDone U.meaning N.heard JMAX g (LookUp (lookup_of names.now watch)) result.end
         (view pass.old) (view pass.new) fired.old fired.new }
+    ensures known { is_stopped result.end ≡ false → KnowsGiven given.new (view pass.new) }
     ensures back { IsUnheard N.heard N.number result.back }
     ensures given { (g : Given) → AreSame given.old g → is_stopped result.end ≡ false →
         AreSame given.new (given_by (LookUp (lookup_of names.now watch)) result.end ++ g) }
@@ -138,7 +185,7 @@ fn look_up<U: LinkedUnit, N: Notify, G: Gate, R: Wait, const JMAX: usize>(
         fired,
     );
     LineDone {
-        end: keep_given(given, names, end),
+        end: keep_given(shared, pass, given, names, end),
         back: unlodged(back),
     }
 }
@@ -200,6 +247,28 @@ fn run_name<U: LinkedUnit, N: Notify, R: Wait, const JMAX: usize>(
     match given.address(name) {
         Some(address) => run_from(rt, alloc, shared, pass, address, fuel, args),
         None => LineEnd::Unfound,
+    }
+}
+
+/// Asks whether a name's instance is ready, if a lookup gave it one.
+fn peek_name<U: LinkedUnit, N: Notify, const JMAX: usize>(
+    shared: &Shared<U, N, JMAX>,
+    pass: &mut Pass<U, N, JMAX>,
+    given: &GivenNames,
+    name: NameId,
+) -> LineEnd
+    requires ready { IsReady (turn_id shared.now) pass.old }
+    requires posts { post_count shared.now ≡ POSTS }
+    requires free { IsFree U.meaning (view pass.old) }
+    requires known { KnowsGiven given.now (view pass.old) }
+    ensures ready { IsReady (turn_id shared.now) pass.new }
+    ensures free { IsFree U.meaning (view pass.new) }
+    ensures done { (g : Given) (told : List (Notice N)) → AreSame given.now g →
+        HasDone U.meaning N.heard JMAX g (PeekAt name) result (view pass.old) (view pass.new) told told }
+{
+    match given.match_of(name) {
+        Some(found) => LineEnd::Peeked(peek_at(shared, pass, found.instance)),
+        None => LineEnd::Peeked(Peek::Unfound),
     }
 }
 
@@ -272,6 +341,8 @@ pub(crate) fn do_line<U: LinkedUnit, N: Notify, G: Gate, R: Wait, const JMAX: us
     requires ready { IsReady (turn_id shared.now) pass.old }
     requires free { IsFree U.meaning (view pass.old) }
     requires can { CanCall U.meaning N.heard N.number call }
+    requires posts { post_count shared.now ≡ POSTS }
+    requires known { KnowsGiven given.old (view pass.old) }
     ensures ready { IsReady (turn_id shared.now) pass.new }
     ensures free { IsFree U.meaning (view pass.new) }
     ensures done { (g : Given) → AreSame given.old g →
@@ -279,6 +350,7 @@ pub(crate) fn do_line<U: LinkedUnit, N: Notify, G: Gate, R: Wait, const JMAX: us
     ensures back { IsUnheard N.heard N.number result.back }
     ensures given { (g : Given) → AreSame given.old g → is_stopped result.end ≡ false →
         AreSame given.new (given_by (line_of U.meaning call) result.end ++ g) }
+    ensures known { is_stopped result.end ≡ false → KnowsGiven given.new (view pass.new) }
 {
     match call {
         ClientCall::Define(dylib, tracker, unit) => {
@@ -302,5 +374,6 @@ pub(crate) fn do_line<U: LinkedUnit, N: Notify, G: Gate, R: Wait, const JMAX: us
             let args = args.as_slice();
             without_note(run_name(rt, alloc, shared, pass, given, name, fuel, args))
         }
+        ClientCall::Peek(name) => without_note(peek_name(shared, pass, given, name)),
     }
 }

@@ -1,5 +1,6 @@
 //! What the seats behind the first do: clients their lines, and workers jobs beside them.
 ghost use Rattle.link_worker.specs.Works.{IsFree};
+ghost use Rattle.shared_session.specs.declared.posts.TheConstants.{POSTS};
 ghost use Rattle.script_session.specs.Members.{AllSkipped, AreAdded, AreMembers, CanBegin, Serves, WasSkipped};
 ghost use Rattle.std.specs.Prelude.{◌≡◌, ◌≤◌, ◌+◌, [], All, length, map, vec_capacity, IfOk, OnOk};
 ghost use Rattle.script_laws.specs.Lines.{AreSkipped};
@@ -64,7 +65,7 @@ pub(crate) struct Member<'a, U, N: Notify, G: Gate> {
 
 impl<'a, U: LinkedUnit, N: Notify, G: Gate, const JMAX: usize> Duty<Home<U, N, JMAX>>
     for Member<'a, U, N, G> {
-    ghost may = { λ member v. IsFree U.meaning v × CanBegin U.meaning N.heard N.number member };
+    ghost may = { λ posts member v. (posts ≡ POSTS) × IsFree U.meaning v × CanBegin U.meaning N.heard N.number member };
 
     ghost does = { Serves U.meaning N.heard N.number JMAX };
 

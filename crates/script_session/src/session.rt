@@ -1,8 +1,9 @@
 //! The whole session of a script.
 ghost use Rattle.std.specs.Prelude.{◌≡◌, ◌≤◌, ◌<◌, ◌+◌, ◌^◌, ◌++◌, ◌∷◌, ℕ, List, [], All, None, length, map, vec_capacity, IfOk, IfSome};
 ghost use Rattle.session_model.specs.State.{plain_history};
+ghost use Rattle.shared_session.specs.declared.posts.TheConstants.{POSTS};
 ghost use Rattle.execution_session.specs.declared.session.TheConstants.{JOURNAL_LIMIT};
-ghost use Rattle.turn_lock.specs.Handles.{view, turn_id, IsReady};
+ghost use Rattle.turn_lock.specs.Handles.{view, turn_id, post_count, IsReady};
 ghost use Rattle.seat_work.specs.First.{IsFirst};
 ghost use Rattle.script_laws.specs.Scripts.{IsScriptRun};
 ghost use Rattle.script_session.specs.Members.{CanBegin, ends_in, unlodged_in};
@@ -20,7 +21,7 @@ use orc_io::{Gate, Notify};
 use orc_names::NameHasher;
 use script_calls::Plan;
 use script_laws::ScriptEnd;
-use shared_session::{Pass, Shared, close, open};
+use shared_session::{Pass, Shared, close, open_posts};
 use std::alloc::{AllocError, Global};
 use std::sync::Wait;
 use std::sync::atomic::AtomicU64;
@@ -115,6 +116,7 @@ fn run_members<
     left: &mut Left<N>,
 )
     requires ready { IsReady (turn_id shared.now) first.old }
+    requires posts { post_count shared.now ≡ POSTS }
     requires first { IsFirst U.meaning JMAX (view first.old) }
     requires spare { (view first.old).spare_from + length members ≤ (view first.old).spare_to }
     requires can { All (CanBegin U.meaning N.heard N.number) members }
@@ -165,7 +167,7 @@ pub fn run_script<
     let members = make_members(alloc, gate, hasher, &ended, clients, workers)?;
     let members = Crew::new(alloc, members)?;
     let room = Vec::with_capacity(alloc, count)?;
-    let (shared, first) = open(alloc, seats)?;
+    let (shared, first) = open_posts(alloc, seats)?;
     let mut first = first;
     left.end.set_up = set_up(rt, &shared, &mut first, calls);
     run_members(rt, &shared, &mut first, members, room, &mut left);

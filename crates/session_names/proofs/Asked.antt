@@ -19,7 +19,7 @@ use Rattle.session_script.specs.declared.script.ClientLine.{ClientLine}
 use Rattle.session_script.specs.declared.script.ClientLine.TheVariants as client
 use Rattle.session_script.specs.declared.script.SetupLine.{SetupLine}
 use Rattle.session_script.specs.declared.script.SetupLine.TheVariants as setup
-use Rattle.script_calls.specs.Lines.{Line, One, LookUp, Run}
+use Rattle.script_calls.specs.Lines.{Line, One, LookUp, Run, PeekAt}
 use Rattle.script_plan.specs.Asked.{asked_event, asked_line, events_from, unit_of_file}
 use Rattle.script_plan.specs.Counts.{with_line}
 use Rattle.result_text.specs.Known.{AreAsked}
@@ -47,6 +47,7 @@ abbrev pub IsNamedLine : List (List ℕ) → Line → Type 0
 IsNamedLine names (One e) = IsNamed names e
 IsNamedLine names (LookUp l) = All (λ (w : Wanted). IsGiven names w.name) l.wanted
 IsNamedLine names (Run name fuel args) = ⊤
+IsNamedLine names (PeekAt name) = ⊤
 
 module _ (names : List (List ℕ)) (units : List Meaning) (known : All (HasKnownNames names) units) where
   -- a file without a unit would offer nothing
@@ -82,6 +83,7 @@ module _ (names : List (List ℕ)) (units : List Meaning) (known : All (HasKnown
   line_named (client.Move t to) said = (tt, tt)
   line_named (client.Remove t) said = (tt, tt)
   line_named (client.Run name fuel args) said = tt
+  line_named (client.Peek name) said = tt
 
   pub lines_named : (lines : List ClientLine) → AllByRecursion (KnownCall names) lines → AllByRecursion (IsNamedLine names) (map (asked_line units) lines)
   lines_named [] said = tt
@@ -96,3 +98,4 @@ wanted_known names (client.Watch note lookup) said = said
 wanted_known names (client.Move t to) said = All-nil (λ (w : Wanted). IsGiven names w.name)
 wanted_known names (client.Remove t) said = All-nil (λ (w : Wanted). IsGiven names w.name)
 wanted_known names (client.Run name fuel args) said = All-nil (λ (w : Wanted). IsGiven names w.name)
+wanted_known names (client.Peek name) said = All-nil (λ (w : Wanted). IsGiven names w.name)

@@ -16,10 +16,10 @@ use Rattle.look_ends.specs.Ends.{EndsAs, LastIs}
 use Rattle.look_ends.specs.declared.look_end.LookEnd.{LookEnd}
 use Rattle.look_ends.specs.declared.look_end.LookEnd.TheVariants as look
 use Rattle.given_names.specs.Given.{Given, address_of}
-use Rattle.script_calls.specs.Lines.{Line, One, LookUp, Run}
+use Rattle.script_calls.specs.Lines.{Line, One, LookUp, Run, PeekAt}
 use Rattle.script_laws.specs.Lines.{AreLines, AreSkipped, AtEnd, CallsOf, CopiesAndRuns, Goes, IsCopy, IsLine, OneCall, Stops, given_by}
 use Rattle.script_laws.specs.declared.line_end.LineEnd.{LineEnd}
-use Rattle.script_laws.specs.declared.line_end.LineEnd.TheVariants.{Looked, Ran, Replied, Skipped, Unfound}
+use Rattle.script_laws.specs.declared.line_end.LineEnd.TheVariants.{Looked, Peeked, Ran, Replied, Skipped, Unfound}
 use Rattle.result_text.specs.Known.{KnownEnd, KnownLook}
 use Rattle.spoken_names.specs.Speaking.{Speaks}
 use Rattle.spoken_names.proofs.Seats.{IsNamed}
@@ -56,11 +56,14 @@ run_line_speaks names P h given (LookUp l) end cs named is = lookup_line_speaks 
 run_line_speaks names P h given (Run name fuel args) Unfound cs named is = subst (λ l. Speaks names P (entries l)) (sym is.1) tt
 run_line_speaks names P h given (Run name fuel args) (Ran end output) cs named is = run_speaks names P h (address_of name given) fuel args end output cs is
 run_line_speaks names P h given (Run name fuel args) _ cs named is = absurd is
+run_line_speaks names P h given (PeekAt name) (Peeked told) cs named is = subst (λ l. Speaks names P (entries l)) (sym is.1) tt
+run_line_speaks names P h given (PeekAt name) _ cs named is = absurd is
 
 calls_speak : (names : List (List ℕ)) (P : Type 0) (h : List (Entry Meaning)) (given : Given) (line : Line) (cs : List (ℕ × Entry Meaning)) → IsNamedLine names line → CallsOf h given line cs → Speaks names P (entries cs)
 calls_speak names P h given (One e) cs named is = one_speaks names P e is.0 cs named is.1
 calls_speak names P h given (LookUp l) cs named is = looks_speak names h l named P cs is
 calls_speak names P h given (Run name fuel args) cs named is = copy_speaks names P cs is.2
+calls_speak names P h given (PeekAt name) cs named is = absurd is
 
 pub lines_speak : (names : List (List ℕ)) (h : List (Entry Meaning)) (given : Given) (lines : List Line) (ends : List LineEnd) (cs : List (ℕ × Entry Meaning)) → AllByRecursion (IsNamedLine names) lines → AreLines h given lines ends cs → Speaks names ⊤ (entries cs)
 lines_speak names h given lines ends cs named (AtEnd g) = tt
@@ -88,9 +91,11 @@ end_known : (names : List (List ℕ)) (h : List (Entry Meaning)) (given : Given)
 end_known names h given (One e) (Replied r) cs known is = one_known names e r cs known is
 end_known names h given (LookUp l) (Replied r) cs known is = absurd is
 end_known names h given (Run name fuel args) (Replied r) cs known is = absurd is
+end_known names h given (PeekAt name) (Replied r) cs known is = absurd is
 end_known names h given (One e) (Looked end) cs known is = absurd is
 end_known names h given (LookUp l) (Looked end) cs known is = look_known names end cs known is.1
 end_known names h given (Run name fuel args) (Looked end) cs known is = absurd is
+end_known names h given (PeekAt name) (Looked end) cs known is = absurd is
 end_known names h given line _ cs known is = tt
 
 pub skipped_known : (names : List (List ℕ)) (lines : List Line) (ends : List LineEnd) → AreSkipped lines ends → AllByRecursion (KnownEnd names) ends

@@ -14,7 +14,7 @@ use Rattle.session_script.specs.Words.{parts, comma, is_empty, unmarked, is_name
 use Rattle.session_script.specs.Forms.{are_items, are_declared, item_in, order_of, is_level, level_of, are_wanted, wanted_in, fuel_in, argument_in, are_arguments}
 use Rattle.session_script.specs.Known.{Known, tracker_in, name_in, with_name, with_call}
 use Rattle.session_script.specs.Setup.{file_line, with_names}
-use Rattle.session_script.specs.Client.{client_line, client_count, with_client, define_line, looked_up, looking_up, lookup_line, watch_line, move_line, remove_line, run_by, run_line, call_line}
+use Rattle.session_script.specs.Client.{client_line, client_count, with_client, define_line, looked_up, looking_up, lookup_line, watch_line, move_line, remove_line, run_by, run_line, peek_line, call_line}
 use Rattle.session_script.specs.WellFormed.{IsLookup}
 use Rattle.session_script.proofs.Checks.{passed, good_part}
 use Rattle.session_script.proofs.ScriptSoFar.{IsGoodSoFar, client_begun, tables_grown, call_pushed, watch_pushed}
@@ -158,6 +158,17 @@ run_kept notes k new (name ∷ fuel ∷ words) begun good read =
     let few = passed (nat_le (length words) ARG_LIMIT) _ _ new read in
     run_by_kept notes k new name fuel words (leb-true (length words) ARG_LIMIT few.0) begun good few.1
 
+peek_kept : (notes : ℕ) (k new : Known) (operands : List (List ℕ)) → k.begun ≡ true → IsGoodSoFar notes k → peek_line k operands ≡ Ok new → IsGoodSoFar notes new
+peek_kept notes k new [] begun good read = absurd cc
+peek_kept notes k new (name ∷ []) begun good read =
+    let symbol = passed (is_symbol name) _ _ new read in
+    let named : Known = with_name k name in
+    let peek = line.Peek (name_in named name) in
+    let tables = tables_grown notes k k.trackers k.files (name ∷ []) (le_refl (length k.files)) good in
+    let made : with_call named peek ≡ new = cc symbol.1 in
+    subst (IsGoodSoFar notes) made (call_pushed notes named peek begun tt refl tables)
+peek_kept notes k new (_ ∷ _ ∷ _) begun good read = absurd cc
+
 pub call_kept : (notes : ℕ) (k new : Known) (first : Option ClientWord) (operands : List (List ℕ)) → k.begun ≡ true → IsGoodSoFar notes k → call_line k first operands ≡ Ok new → IsGoodSoFar notes new
 call_kept notes k new (Some word.Define) operands begun good read = define_kept notes k new operands begun good read
 call_kept notes k new (Some word.Lookup) operands begun good read = lookup_kept notes k new operands begun good read
@@ -165,4 +176,5 @@ call_kept notes k new (Some word.Watch) operands begun good read = watch_kept no
 call_kept notes k new (Some word.Move) operands begun good read = move_kept notes k new operands begun good read
 call_kept notes k new (Some word.Remove) operands begun good read = remove_kept notes k new operands begun good read
 call_kept notes k new (Some word.Run) operands begun good read = run_kept notes k new operands begun good read
+call_kept notes k new (Some word.Peek) operands begun good read = peek_kept notes k new operands begun good read
 call_kept notes k new None operands begun good read = absurd cc

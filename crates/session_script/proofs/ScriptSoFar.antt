@@ -48,6 +48,7 @@ client_line_stays m n (client.Watch note lookup) more good = good
 client_line_stays m n (client.Move t to) more good = good
 client_line_stays m n (client.Remove t) more good = good
 client_line_stays m n (client.Run name fuel args) more good = good
+client_line_stays m n (client.Peek name) more good = good
 
 -- once other trackers and files are known, and more names are mentioned
 abbrev pub with_tables : Known → List (List ℕ) → List (List ℕ) → List (List ℕ) → Known

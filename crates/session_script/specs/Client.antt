@@ -99,6 +99,14 @@ abbrev pub run_line : Known → List (List ℕ) → Result Known ScriptWhy
 run_line k (name ∷ fuel ∷ words) = checked (nat_le (length words) ARG_LIMIT) why.Count (run_by k name fuel words)
 run_line k _ = Err why.Count
 
+-- peek NAME
+abbrev pub peek_line : Known → List (List ℕ) → Result Known ScriptWhy
+peek_line k (name ∷ []) =
+    checked (is_symbol name) why.Name
+    (let named = with_name k name in
+    Ok (with_call named (line.Peek (name_in named name))))
+peek_line k _ = Err why.Count
+
 -- the first words of these lines
 abbrev pub client_word : List ℕ → Option ClientWord
 client_word w =
@@ -107,7 +115,8 @@ client_word w =
     if bytes_eq w (codes "watch") then Some word.Watch else
     if bytes_eq w (codes "move") then Some word.Move else
     if bytes_eq w (codes "remove") then Some word.Remove else
-    if bytes_eq w (codes "run") then Some word.Run else None
+    if bytes_eq w (codes "run") then Some word.Run else
+    if bytes_eq w (codes "peek") then Some word.Peek else None
 
 abbrev pub call_line : Known → Option ClientWord → List (List ℕ) → Result Known ScriptWhy
 call_line k (Some word.Define) operands = define_line k operands
@@ -116,4 +125,5 @@ call_line k (Some word.Watch) operands = watch_line k operands
 call_line k (Some word.Move) operands = move_line k operands
 call_line k (Some word.Remove) operands = remove_line k operands
 call_line k (Some word.Run) operands = run_line k operands
+call_line k (Some word.Peek) operands = peek_line k operands
 call_line k None operands = Err why.Word

@@ -50,6 +50,7 @@ IsClientLine files (client.Watch note lookup) = IsLookup lookup
 IsClientLine files (client.Move t to) = ⊤
 IsClientLine files (client.Remove t) = ⊤
 IsClientLine files (client.Run name fuel args) = (fuel ≤ FUEL_LIMIT) × (length args ≤ ARG_LIMIT)
+IsClientLine files (client.Peek name) = ⊤
 
 -- the note of a line that watches
 abbrev pub note_of : ClientLine → List ℕ

@@ -1,6 +1,6 @@
 ghost use Rattle.std.specs.Prelude.{◌≡◌, true, map, unwrap_or, Ok, OnOk, IfOk, IfErr};
 ghost use Rattle.session_script.specs.Known.{IsRefusal};
-ghost use Rattle.session_script.specs.Client.{client_line, define_line, looked_up, looking_up, lookup_line, watch_line, move_line, remove_line, run_by, run_line, client_word, call_line};
+ghost use Rattle.session_script.specs.Client.{client_line, define_line, looked_up, looking_up, lookup_line, watch_line, move_line, remove_line, run_by, run_line, peek_line, client_word, call_line};
 
 use crate::error::{Refusal, ScriptWhy};
 use crate::forms::{Form, all_fit, is_level, is_name, is_symbol, level_of, read_fuel};
@@ -21,6 +21,7 @@ pub enum ClientWord {
     Move,
     Remove,
     Run,
+    Peek,
 }
 
 /// The line that a word begins.
@@ -44,6 +45,9 @@ pub fn client_word(word: &[u8]) -> Option<ClientWord>
     }
     if word == b"run".as_slice() {
         return Some(ClientWord::Run);
+    }
+    if word == b"peek".as_slice() {
+        return Some(ClientWord::Peek);
     }
     None
 }
@@ -201,6 +205,20 @@ impl Reader {
         self.push_call(ClientLine::Run(name, fuel.unwrap_or(0), args))
     }
 
+    pub fn read_peek(&mut self, operands: &[&[u8]]) -> Result<(), Refusal>
+        ensures read { OnOk result (peek_line self.old (map (λ w. w.now) operands.now) ≡ Ok self.new) }
+        ensures refused { IfErr result (λ e. IsRefusal (peek_line self.old (map (λ w. w.now) operands.now)) e) }
+    {
+        let [name] = operands else {
+            return Err(Refusal::Line(ScriptWhy::Count));
+        };
+        if !is_symbol(name) {
+            return Err(Refusal::Line(ScriptWhy::Name));
+        }
+        let name = self.mention_name(name)?;
+        self.push_call(ClientLine::Peek(name))
+    }
+
     /// A line of a client, by its first word.
     pub fn read_call(&mut self, word: &[u8], operands: &[&[u8]]) -> Result<(), Refusal>
         ensures read { OnOk result (call_line self.old (client_word word.now) (map (λ w. w.now) operands.now) ≡ Ok self.new) }
@@ -213,6 +231,7 @@ impl Reader {
             Some(ClientWord::Move) => self.read_move(operands),
             Some(ClientWord::Remove) => self.read_remove(operands),
             Some(ClientWord::Run) => self.read_run(operands),
+            Some(ClientWord::Peek) => self.read_peek(operands),
             None => Err(Refusal::Line(ScriptWhy::Word)),
         }
     }

@@ -54,6 +54,8 @@ pub enum ClientLine {
     Remove(TrackId),
     /// A run from a symbol, for at most so many instructions, with these arguments.
     Run(NameId, u64, Items<u64>),
+    /// A symbol is asked after, without a call.
+    Peek(NameId),
 }
 
 /// Names that are looked up in an order, up to a level.

@@ -2,6 +2,7 @@
 
 mod faults;
 mod full_journals;
+mod peeks;
 mod refusals;
 mod rows;
 mod threads;

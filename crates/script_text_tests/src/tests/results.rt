@@ -1,7 +1,7 @@
 //! Lines that were written by hand from the forms of the results.
 
 use exec_run::RunEnd;
-use look_ends::LookEnd;
+use look_ends::{LookEnd, Peek};
 use orc_ids::{Bytes, DylibId, InstId, Items, NameId, Stop, UnitId, Wanted};
 use orc_names::Names;
 use result_text::{are_known_ends, text_of_results};
@@ -119,6 +119,10 @@ fn of_other_lines(rt: HostRuntime) -> Result<(), Fail> {
         b"defined u3 i12 40",
     )?;
     says(&rt, alloc, &[], LineEnd::Unfound, b"unfound")?;
+    says(&rt, alloc, &[], LineEnd::Peeked(Peek::Unfound), b"unfound")?;
+    says(&rt, alloc, &[], LineEnd::Peeked(Peek::NotYet), b"notyet")?;
+    let ready = LineEnd::Peeked(Peek::Ready(0x1000_0000));
+    says(&rt, alloc, &[], ready, b"ready 10000000")?;
     let full = LineEnd::Stopped(Stop::JournalFull(9));
     says(&rt, alloc, &[], full, b"full")?;
     let wanting = LineEnd::Stopped(Stop::NoMemory);

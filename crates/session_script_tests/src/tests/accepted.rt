@@ -93,6 +93,7 @@ watch resolved b:all,a:all f? g
 run f 0
 run f 1 7
 run f 2 0 1 2 3 4 5 6 7
+peek f
 ";
 
 /// How many items the list of a setup line has.
@@ -111,6 +112,7 @@ fn client_items(line: &ClientLine) -> Option<(usize, usize)> {
             Some((line.order.len(), line.wanted.len()))
         }
         ClientLine::Run(_, _, args) => Some((0, args.len())),
+        ClientLine::Peek(_) => Some((0, 1)),
         _ => None,
     }
 }

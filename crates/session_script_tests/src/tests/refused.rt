@@ -61,6 +61,10 @@ fn lines_stand_in_their_places(rt: HostRuntime) {
         ("client x\n", 1, ScriptWhy::Count),
         ("#\n\n# x  y\nfrob", 4, ScriptWhy::Word),
         ("client\nrun f 1 1 2 3 4 5 6 7 8 9\n", 2, ScriptWhy::Count),
+        ("peek f\n", 1, ScriptWhy::Word),
+        ("client\npeek\n", 2, ScriptWhy::Count),
+        ("client\npeek f? g\n", 2, ScriptWhy::Count),
+        ("client\npeek f?\n", 2, ScriptWhy::Name),
     ];
     assert_eq!(rt; first_other(rt.alloc(), &rows), None);
 }

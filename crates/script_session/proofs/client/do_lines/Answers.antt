@@ -1,10 +1,12 @@
 use Rattle.std.proofs.Common.{rules, ◌≡◌, ◌++◌, ◌∷◌, ◌||◌, [], length, map, append-nil, arith, ap, refl, subst, sym, ◌∙◌}
 use Rattle.std.proofs.lemmas.List.{length-append, length_push, map-append}
+use Rattle.std.proofs.lemmas.Option.{none-some}
 use Rattle.std.specs.Vec.Iter.{into_iter_items}
 use Rattle.turn_lock.specs.Handles.{view}
 use Rattle.script_session.proofs.Loops.{given_more, none_left}
-use Rattle.given_names.specs.Given.{address_of}
+use Rattle.given_names.specs.Given.{match_of}
 use Rattle.script_calls.specs.Plans.{CanCall, line_of}
+use Rattle.script_session.specs.Posts.{KnowsGiven}
 use Rattle.script_session.specs.Clients.{AreUnheard, HasDoneAll, HasDoneSome}
 use Rattle.script_session.proofs.ManyLines.{all_done, next_of_all, none_done}
 use Rattle.script_session.proofs.client.do_lines.Goals as goal
@@ -16,8 +18,9 @@ loop-call-init g c =
     record {
       ready = c.requires.ready;
       free = c.requires.free;
+      known = λ isnt. subst (λ table. KnowsGiven table (view c.args.pass.now)) (sym c.new-given.ensures) (λ name m at. absurd (none-some m at));
       some = subst (λ l. HasDoneSome g.U.UnitKind.meaning g.N.Notify.heard g.row.JMAX [] l _ c.new-given.result (view c.args.pass.now) (view c.args.pass.now) c.args.fired.now c.args.fired.now) (sym room.none)
-          (none_done g.U.UnitKind.meaning g.N.Notify.heard g.row.JMAX c.new-given.result (view c.args.pass.now) c.args.fired.now (λ name. ap (address_of name) c.new-given.ensures));
+          (none_done g.U.UnitKind.meaning g.N.Notify.heard g.row.JMAX c.new-given.result (view c.args.pass.now) c.args.fired.now (λ name. ap (match_of name) c.new-given.ensures));
       rest = refl;
       left = search rules;
       lines = ap length room.none;
@@ -32,7 +35,7 @@ do_or_skip-done-requires g c =
     let done = c.loop-call.yielded in
     let x = c.in-Some.call in
     let whole : c.args.calls.items ≡ done ++ x ∷ into_iter_items c.next.new.self = sym c.into_iter-call-iterator.ensures.into_iter_gives.0 ∙ (sym c.loop-call.invariant.rest ∙ ap (λ l. done ++ l) c.in-Some.ensures.steps.0) in
-    (omega arith, (c.loop-call.invariant.ready, (c.loop-call.invariant.free, next_of_all (CanCall g.U.UnitKind.meaning g.N.Notify.heard g.N.Notify.number) c.args.calls.items done (into_iter_items c.next.new.self) x whole c.requires.can)))
+    (omega arith, (c.loop-call.invariant.ready, (c.loop-call.invariant.free, (next_of_all (CanCall g.U.UnitKind.meaning g.N.Notify.heard g.N.Notify.number) c.args.calls.items done (into_iter_items c.next.new.self) x whole c.requires.can, (c.requires.posts, c.loop-call.invariant.known)))))
 
 pub add-requires-clause-lines : goal.add-requires-clause-lines
 add-requires-clause-lines g c =
@@ -58,6 +61,7 @@ loop-call-preserved g c =
     record {
       ready = c.do_or_skip-done.ensures.ready;
       free = c.do_or_skip-done.ensures.free;
+      known = λ isnt. c.do_or_skip-done.ensures.known (sym (c.is_either-stopped.ensures ∙ ap (λ b. c.loop-call.stopped || b) c.is_stopped.ensures) ∙ isnt);
       some = subst (λ l. HasDoneSome g.U.UnitKind.meaning g.N.Notify.heard g.row.JMAX l c.add.new.self.lines.items c.is_either-stopped.result c.do_or_skip-done.new.given v w c.args.fired.now c.do_or_skip-done.new.fired) (sym (map-append line done (x ∷ [])))
           (subst (λ l. HasDoneSome g.U.UnitKind.meaning g.N.Notify.heard g.row.JMAX (map line done ++ line x ∷ []) l c.is_either-stopped.result c.do_or_skip-done.new.given v w c.args.fired.now c.do_or_skip-done.new.fired) (sym c.add.ensures.lines)
           (subst (λ b. HasDoneSome g.U.UnitKind.meaning g.N.Notify.heard g.row.JMAX (map line done ++ line x ∷ []) (ends ++ c.do_or_skip-done.result.end ∷ []) b c.do_or_skip-done.new.given v w c.args.fired.now c.do_or_skip-done.new.fired) (sym (c.is_either-stopped.ensures ∙ ap (λ b. c.loop-call.stopped || b) c.is_stopped.ensures)) one));

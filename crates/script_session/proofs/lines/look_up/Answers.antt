@@ -5,16 +5,32 @@ use Rattle.orc_ids.specs.declared.lookup.Wanted.{Wanted}
 use Rattle.turn_lock.specs.Handles.{view}
 use Rattle.link_worker.specs.Looks.{HasLooked}
 use Rattle.script_calls.specs.Plans.{lookup_of}
+use Rattle.script_calls.specs.Lines.{LookUp}
+use Rattle.script_session.proofs.Keeping.{looked_may_be_kept, looked_notes}
+use Rattle.script_session.proofs.ManyLines.{still_done}
 use Rattle.script_session.proofs.OneLine.{kept_end, not_armed}
+use Rattle.script_session.proofs.Posting.{still_given}
 use Rattle.script_session.proofs.lines.look_up.Goals as goal
 
 pub returns-in_default-clause-done : goal.returns-in_default-clause-done
 returns-in_default-clause-done g c given = not_armed g.U.UnitKind.meaning g.N.Notify.heard g.row.JMAX (view c.args.pass.now) (view c.args.pass.now) given (lookup_of c.args.names.now c.args.watch) c.args.fired.now refl
 
+-- what was found may be kept
+pub keep_given-requires-clause-may : goal.keep_given-requires-clause-may
+keep_given-requires-clause-may g c found is =
+    looked_may_be_kept g.U.UnitKind.meaning g.row.JMAX g.N.Notify.heard (view c.args.pass.now) (view c.lookup-end.new.pass) c.args.fired.now c.lookup-end.new.fired _ c.in-Ok.then c.lookup-end.result.back c.lookup-end.result.end found is c.lookup-end.ensures.looked
+
+pub keep_given-requires-clause-known : goal.keep_given-requires-clause-known
+keep_given-requires-clause-known g c =
+    still_given g.U.UnitKind.meaning c.args.given.now (view c.args.pass.now) (view c.lookup-end.new.pass)
+    (looked_notes g.U.UnitKind.meaning g.row.JMAX g.N.Notify.heard (view c.args.pass.now) (view c.lookup-end.new.pass) c.args.fired.now c.lookup-end.new.fired _ c.in-Ok.then c.lookup-end.result.back c.lookup-end.result.end c.lookup-end.ensures.looked) c.requires.known
+
 pub returns-clause-done : goal.returns-clause-done
 returns-clause-done g c given =
     let Has : List OrderItem → List Wanted → Option ℕ → Type 0 = λ order wanted note. HasLooked g.U.UnitKind.meaning g.N.Notify.heard g.row.JMAX (view c.args.pass.now) (view c.lookup-end.new.pass) c.args.fired.now c.lookup-end.new.fired (record { order = order; wanted = wanted; level = c.args.names.now.level; note = note }) c.in-Ok.then c.lookup-end.result.end c.lookup-end.result.back in
-    kept_end g.U.UnitKind.meaning g.N.Notify.heard g.row.JMAX (view c.args.pass.now) (view c.lookup-end.new.pass) given c.args.fired.now c.lookup-end.new.fired (lookup_of c.args.names.now c.args.watch) c.in-Ok.then c.lookup-end.result.back c.lookup-end.result.end c.keep_given.result c.keep_given.ensures.end
+    still_done g.U.UnitKind.meaning g.N.Notify.heard g.row.JMAX given (LookUp (lookup_of c.args.names.now c.args.watch)) c.keep_given.result (view c.args.pass.now) (view c.lookup-end.new.pass) (view c.keep_given.new.pass) c.args.fired.now c.lookup-end.new.fired
+    (kept_end g.U.UnitKind.meaning g.N.Notify.heard g.row.JMAX (view c.args.pass.now) (view c.lookup-end.new.pass) given c.args.fired.now c.lookup-end.new.fired (lookup_of c.args.names.now c.args.watch) c.in-Ok.then c.lookup-end.result.back c.lookup-end.result.end c.keep_given.result c.keep_given.ensures.end
     (subst (λ note. Has c.args.names.now.order c.args.names.now.wanted note) c.in-Ok.ensures
     (subst (λ order. Has order c.args.names.now.wanted (option_map (λ a. a.note) c.in-Ok.then)) c.as_slice.ensures
-    (subst (λ wanted. Has c.as_slice.result.now wanted (option_map (λ a. a.note) c.in-Ok.then)) c.as_slice-2.ensures c.lookup-end.ensures.looked)))
+    (subst (λ wanted. Has c.as_slice.result.now wanted (option_map (λ a. a.note) c.in-Ok.then)) c.as_slice-2.ensures c.lookup-end.ensures.looked))))
+    c.keep_given.ensures.quiet

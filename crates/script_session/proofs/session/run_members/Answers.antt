@@ -2,7 +2,7 @@ use denote.Param.Send.{sendable}
 use Rattle.std.proofs.Common.{All, length, subst, sym, ap, ◌∙◌}
 use Rattle.std.proofs.Crossing as heap
 use Rattle.shared_session.proofs.Crossing.{home_send}
-use Rattle.turn_lock.specs.Handles.{view, turn_id, IsReady}
+use Rattle.turn_lock.specs.Handles.{view, turn_id, post_count, IsReady}
 use Rattle.script_session.specs.Leaving.{HasRoom}
 use Rattle.script_session.specs.Members.{CanBegin}
 use Rattle.script_session.proofs.Crossing.{member_send}
@@ -11,7 +11,7 @@ use Rattle.script_session.proofs.session.run_members.Goals as goal
 use Rattle.script_session.proofs.session.run_members.Goals.{in-None, in-Some}
 
 pub work-done-requires-clause-may : goal.work-done-requires-clause-may
-work-done-requires-clause-may g c κs within = may_serve g.U.UnitKind.meaning g.N.Notify.heard g.N.Notify.number g.row.JMAX (view c.args.first.now) c.args.members c.requires.first c.requires.can
+work-done-requires-clause-may g c κs within = may_serve g.U.UnitKind.meaning g.N.Notify.heard g.N.Notify.number g.row.JMAX (post_count c.args.shared.now) (view c.args.first.now) c.args.members c.requires.posts c.requires.first c.requires.can
 
 pub work-done-requires-send-T : goal.work-done-requires-send-T
 work-done-requires-send-T g c κs within = let u = c.type_bounds.send-U in let n = c.type_bounds.send-N in search (sendable, heap.crosses, home_send) depth 40

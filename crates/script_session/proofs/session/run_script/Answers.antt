@@ -38,18 +38,21 @@ run_members-requires-after_bounds g c κs within =
       (
         c.set_up-left.ensures.ready,
         (
-          first,
+          c.in_ok-shared.ensures.posts,
           (
-            omega (arith, first.from, first.to, c.set_up-left.ensures.seats, ap (λ v. v.seats) c.in_ok-shared.ensures.opened.1, count, c.len.ensures, plan.clients.ok.0, c.requires.few),
+            first,
             (
-              all_can M H K clients c.args.workers members are (All-map (All (CanCall M H K)) (λ x. x.items) plan.clients.items c.requires.can.clients),
+              omega (arith, first.from, first.to, c.set_up-left.ensures.seats, ap (λ v. v.seats) c.in_ok-shared.ensures.opened.1, count, c.len.ensures, plan.clients.ok.0, c.requires.few),
               (
-                (c.in_ok-room.ensures.items, omega (arith, count, c.in_ok-room.ensures.capacity, c.len-2.ensures, plan.clients.ok.0)),
-                record {
-                  clients = omega (arith, room.clients, count, c.len-2.ensures, plan.clients.ok.0);
-                  told = omega (arith, room.told, count, c.len-2.ensures, plan.clients.ok.0);
-                  unlodged = omega (arith, room.unlodged, count, c.len-2.ensures, plan.clients.ok.0);
-                },
+                all_can M H K clients c.args.workers members are (All-map (All (CanCall M H K)) (λ x. x.items) plan.clients.items c.requires.can.clients),
+                (
+                  (c.in_ok-room.ensures.items, omega (arith, count, c.in_ok-room.ensures.capacity, c.len-2.ensures, plan.clients.ok.0)),
+                  record {
+                    clients = omega (arith, room.clients, count, c.len-2.ensures, plan.clients.ok.0);
+                    told = omega (arith, room.told, count, c.len-2.ensures, plan.clients.ok.0);
+                    unlodged = omega (arith, room.unlodged, count, c.len-2.ensures, plan.clients.ok.0);
+                  },
+                ),
               ),
             ),
           ),

@@ -1,5 +1,5 @@
 use Rattle.std.proofs.Common.{rules, ◌≡◌, ◌+◌, ◌≤◌, All, length, map, sym, ap, subst, ◌∙◌}
-use Rattle.turn_lock.specs.Handles.{view, turn_id, IsReady}
+use Rattle.turn_lock.specs.Handles.{view, turn_id, post_count, IsReady}
 use Rattle.crew.specs.Crew.{AllServed, HaveWorked, IsAble, IsKept, MayBegin, Says}
 use Rattle.crew.proofs.Worked.{all_able, all_ready, have_worked, written_back}
 use Rattle.crew.proofs.crew.Crew+Seat+T+T+Entry+D.work.Goals as goal
@@ -11,8 +11,9 @@ serve_all-requires-clause-able g c κs within =
     let same : c.args.self ≡ duties = search rules in
     let members = c.seat_duties-members in
     let seated = members.ensures.seated (turn_id c.args.turn.now) v.spare_from v.seen c.new_seats-seats.ensures.seats in
-    subst (All (IsAble g.D.Duty.may (turn_id c.args.turn.now))) (sym c.as_mut_slice.ensures.value)
-    (all_able (turn_id c.args.turn.now) g.D.Duty.may v duties members.result.items (subst (λ l. v.spare_from + length l ≤ v.spare_to) same c.requires.spare) members.ensures.duties (subst (MayBegin g.D.Duty.may v) same c.requires.may) seated)
+    let may = g.D.Duty.may (post_count c.args.turn.now) in
+    subst (All (IsAble may (turn_id c.args.turn.now))) (sym c.as_mut_slice.ensures.value)
+    (all_able (turn_id c.args.turn.now) may v duties members.result.items (subst (λ l. v.spare_from + length l ≤ v.spare_to) same c.requires.spare) members.ensures.duties (subst (MayBegin may v) same c.requires.may) seated)
 
 pub gather-requires-clause-members : goal.gather-requires-clause-members
 gather-requires-clause-members g c =

@@ -3,4 +3,4 @@ use Rattle.given_names.proofs.Lookups.{none_after}
 use Rattle.given_names.proofs.names.GivenNames.add.Goals as goal
 
 pub loop-place-init : goal.loop-place-init
-loop-place-init c = λ name. rw (c.min-place.ensures, none_after c.args.wanted.now c.args.matches.now)
+loop-place-init c = λ name. rw (c.min-place.ensures, none_after c.args.level c.args.wanted.now c.args.matches.now)

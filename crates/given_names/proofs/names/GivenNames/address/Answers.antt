@@ -1,9 +1,0 @@
--- The address is what the entry of the name has.
-use Rattle.std.proofs.Common.{ap, ◌∙◌}
-use Rattle.std.specs.Option.{option_flatten}
-use Rattle.given_names.specs.Given.{address_of}
-use Rattle.given_names.proofs.Lookups.{address_in_entry}
-use Rattle.given_names.proofs.names.GivenNames.address.Goals as goal
-
-pub returns : goal.returns
-returns c = c.flatten.ensures ∙ ap option_flatten (c.copied.ensures ∙ c.get.ensures.value) ∙ address_in_entry c.args.name c.self.inside.addresses.entries ∙ ap (address_of c.args.name) c.self.view_is
