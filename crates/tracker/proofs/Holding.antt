@@ -1,7 +1,7 @@
 -- The trees know who has each generator, through all that is done to the trackers.
-use Rattle.std.proofs.Common.{◌≡◌, ℕ, zero, suc, ◌+◌, ◌<◌, ◌⊎◌, inl, inr, Bool, true, false, List, [], ◌∷◌, ◌++◌, length, set, slice_get, Option, Some, None, refl, ap, sym, subst, ◌∙◌, arith}
+use Rattle.std.proofs.Common.{◌≡◌, ℕ, zero, suc, ◌+◌, ◌^◌, ◌<◌, ◌≤◌, ◌⊎◌, inl, inr, Bool, true, false, List, [], ◌∷◌, ◌++◌, length, set, slice_get, Option, Some, None, refl, ap, sym, subst, ◌∙◌, arith}
 use Rattle.std.specs.Option.{option_map_or}
-use Rattle.std.specs.Prelude.{option_map, option_and_then, is_some, ◌==◌, ◌||◌}
+use Rattle.std.specs.Prelude.{option_map, option_and_then, IfNone, IsSome, ◌==◌, ◌||◌}
 use Rattle.std.specs.List.{list_any}
 use Rattle.std.proofs.lemmas.Bool.{both_ways, cases_eq, eqb-true}
 use Rattle.std.proofs.lemmas.Option.{none-some, same_Some, slice_get_within}
@@ -11,11 +11,13 @@ use Rattle.list_laws.proofs.Options.{same_element}
 use Rattle.orc_ids.specs.declared.ids.DylibId.{DylibId}
 use Rattle.orc_ids.specs.declared.ids.GenId.{GenId}
 use Rattle.orc_ids.specs.declared.ids.TrackId.{TrackId}
+use Rattle.orc_ids.specs.declared.limits.TheConstants.{TRACKER_LIMIT}
 use Rattle.tracker.specs.declared.holders.Node.{Node}
 use Rattle.tracker.specs.declared.holders.TheConstants.{HEIGHT}
 use Rattle.tracker.specs.declared.owned.Owned.{Owned}
-use Rattle.tracker.specs.Holders.{has_generator, HasRoot, AreHeld, IsHomed, IsLonger, is_homed, holder_of, climbed}
+use Rattle.tracker.specs.Holders.{has_generator, tree_size, HasRoot, AreHeld, IsHomed, IsLonger, holder_of, climbed}
 use Rattle.tracker.specs.Owners.{Owners, within, change_at, empty, owns_generator}
+use Rattle.tracker.proofs.Sizes.{size_counts, size_grows}
 use Rattle.tracker.proofs.Trees.{set_length, holder_is}
 
 -- Trackers of which one changes
@@ -52,6 +54,7 @@ held_less old new nodes roots homes count had h = record {
   labels = h.labels;
   trees = h.trees;
   made = h.made ∙ sym count;
+  few = h.few;
   rooted = λ t o e. h.rooted t (had t o e).0 (had t o e).1;
   homed = λ t g o e has. h.homed t g (had t o e).0 (had t o e).1 ((had t o e).2 g has);
 }
@@ -86,16 +89,17 @@ held_without os k nodes roots homes h = held_less os (set os k None) nodes roots
 pub held_none : AreHeld [] [] [] []
 held_none = record {
   labels = [];
-  trees = record { count = refl; rooted = refl; up = λ n p x e u. absurd (none-some x e); top = λ n x e u. absurd (none-some x e); low = λ n x e. absurd (none-some x e) };
+  trees = record { count = refl; rooted = refl; up = λ n p x e u. absurd (none-some x e); top = λ n x e u. absurd (none-some x e); low = λ n x e. absurd (none-some x e); many = λ n x e u. absurd (none-some x e) };
   made = refl;
+  few = omega arith;
   rooted = λ t o e. absurd (none-some o e);
   homed = λ t g o e has. absurd (none-some o e);
 }
 
 -- one more tracker
-pub held_tracker : (os : List (Option Owned)) (d : DylibId) (nodes : List Node) (roots : List ℕ) (homes : List (Option ℕ)) → AreHeld os nodes roots homes →
+pub held_tracker : (os : List (Option Owned)) (d : DylibId) (nodes : List Node) (roots : List ℕ) (homes : List (Option ℕ)) → length os < TRACKER_LIMIT → AreHeld os nodes roots homes →
     AreHeld (os ++ Some (empty d) ∷ []) (nodes ++ record { up = None; rank = 0; tracker = length os } ∷ []) (roots ++ length os ∷ []) homes
-held_tracker os d nodes roots homes h = record {
+held_tracker os d nodes roots homes below h = record {
   labels = h.labels ++ length os ∷ [];
   trees = record {
     count = length_push h.labels (length os) ∙ (ap (λ n. n + 1) h.trees.count ∙ sym (length_push nodes new));
@@ -103,8 +107,10 @@ held_tracker os d nodes roots homes h = record {
     up = λ n p x e u. up n p x u (pushed_cases nodes new n x e);
     top = λ n x e u. top n x u (pushed_cases nodes new n x e);
     low = λ n x e. low n x (pushed_cases nodes new n x e);
+    many = λ n x e u. many n x u (pushed_cases nodes new n x e);
   };
   made = length_push nodes new ∙ (ap (λ n. n + 1) h.made ∙ sym (length_push os (Some (empty d))));
+  few = omega (arith, length_push nodes new, h.made, below);
   rooted = λ t o e. rooted t o e (within_cases t o e);
   homed = λ t g o e has. homed t g o has (within_cases t o e);
 }
@@ -143,6 +149,10 @@ held_tracker os d nodes roots homes h = record {
     low n x (inl e) = h.trees.low n x e
     low n x (inr e) = subst (λ (z : Node). z.rank < HEIGHT) (sym e.1) (omega arith)
 
+    many : (n : ℕ) (x : Node) → x.up ≡ None → (slice_get nodes n ≡ Some x) ⊎ ((n ≡ length nodes) × (x ≡ new)) → 2 ^ x.rank ≤ tree_size (h.labels ++ length os ∷ []) x.tracker
+    many n x u (inl e) = omega (arith, h.trees.many n x e u, size_grows h.labels (length os) x.tracker)
+    many n x u (inr e) = subst (λ (z : Node). 2 ^ z.rank ≤ tree_size (h.labels ++ length os ∷ []) z.tracker) (sym e.1) (size_counts h.labels (length os))
+
     within_cases : (t : ℕ) (o : Owned) → within (slice_get (os ++ Some (empty d) ∷ []) t) ≡ Some o → (within (slice_get os t) ≡ Some o) ⊎ ((t ≡ length os) × (empty d ≡ o))
     within_cases t o e = by (slice_get (os ++ Some (empty d) ∷ []) t) refl e
       where
@@ -163,12 +173,13 @@ held_tracker os d nodes roots homes h = record {
     homed t g o has (inr p) = absurd (both_ways false refl (subst (λ (z : Owned). has_generator z g ≡ true) (sym p.1) has))
 
 -- a tracker has one more generator
-pub held_generator : (os : List (Option Owned)) (k g : ℕ) (id : GenId) (nodes : List Node) (roots : List ℕ) (homes new : List (Option ℕ)) → id.0 ≡ g → IsHomed homes roots g k new → AreHeld os nodes roots homes →
+pub held_generator : (os : List (Option Owned)) (k g : ℕ) (id : GenId) (nodes : List Node) (roots : List ℕ) (homes new : List (Option ℕ)) → id.0 ≡ g → ((t : ℕ) (o : Owned) → within (slice_get os t) ≡ Some o → has_generator o g ≡ false) → IsHomed homes roots g k new → AreHeld os nodes roots homes →
     AreHeld (change_at k (λ o. record o { generators = o.generators ++ id ∷ [] }) os) nodes roots new
-held_generator os k g id nodes roots homes new is s h = record {
+held_generator os k g id nodes roots homes new is fresh s h = record {
   labels = h.labels;
   trees = h.trees;
   made = h.made ∙ sym (changed_length f os k);
+  few = h.few;
   rooted = λ t o e. rooted t o (cases_eq t k) e;
   homed = λ t j o e has. homed t j o has (cases_eq t k) e;
 }
@@ -188,7 +199,8 @@ held_generator os k g id nodes roots homes new is s h = record {
         by (Some was) z y = h.rooted t was (ap (λ n. within (slice_get os n)) same ∙ z)
 
     older : (t j : ℕ) (o : Owned) → within (slice_get os t) ≡ Some o → has_generator o j ≡ true → (n : ℕ) × (slice_get new j ≡ Some (Some n)) × (slice_get h.labels n ≡ Some t)
-    older t j o e has = let q = h.homed t j o e has in (q.0, s.longer j q.0 q.1, q.2)
+    older t j o e has = let q = h.homed t j o e has in
+        (q.0, s.others j q.0 (λ is_g. both_ways (has_generator o g) (fresh t o e) (subst (λ i. has_generator o i ≡ true) is_g has)) q.1, q.2)
 
     -- it is at the root of its tracker
     newest : (t j : ℕ) (was : Owned) → t ≡ k → within (slice_get os k) ≡ Some was → j ≡ g → (n : ℕ) × (slice_get new j ≡ Some (Some n)) × (slice_get h.labels n ≡ Some t)
@@ -221,15 +233,15 @@ held_generator os k g id nodes roots homes new is s h = record {
 
 -- more places for generators
 pub held_longer : (os : List (Option Owned)) (nodes : List Node) (roots : List ℕ) (homes new : List (Option ℕ)) → IsLonger homes new → AreHeld os nodes roots homes → AreHeld os nodes roots new
-held_longer os nodes roots homes new longer h = record { labels = h.labels; trees = h.trees; made = h.made; rooted = h.rooted; homed = λ t g o e has. let q = h.homed t g o e has in (q.0, longer g q.0 q.1, q.2) }
+held_longer os nodes roots homes new longer h = record { labels = h.labels; trees = h.trees; made = h.made; few = h.few; rooted = h.rooted; homed = λ t g o e has. let q = h.homed t g o e has in (q.0, longer g q.0 q.1, q.2) }
 
 -- a home at the root of a tracker
-pub homed_at : (homes mid : List (Option ℕ)) (roots : List ℕ) (g t root : ℕ) → slice_get roots t ≡ Some root → is_homed homes g ≡ false → g < length mid → IsLonger homes mid → IsHomed homes roots g t (set mid g (Some root))
-homed_at homes mid roots g t root root_is fresh less longer = record {
+pub homed_at : (homes mid : List (Option ℕ)) (roots : List ℕ) (g t root : ℕ) → slice_get roots t ≡ Some root → g < length mid → IsLonger homes mid → IsHomed homes roots g t (set mid g (Some root))
+homed_at homes mid roots g t root root_is less longer = record {
   root = root;
   root_is = root_is;
   here = there mid g less;
-  longer = λ k n e. by k n e (cases_eq k g);
+  others = λ k n apart e. set_elsewhere mid g k (Some root) apart ∙ longer k n e;
 }
   where
     there : (xs : List (Option ℕ)) (k : ℕ) → k < length xs → slice_get (set xs k (Some root)) k ≡ Some (Some root)
@@ -237,9 +249,18 @@ homed_at homes mid roots g t root root_is fresh less longer = record {
     there (x ∷ xs) zero l = refl
     there (x ∷ xs) (suc k) l = there xs k (omega (arith, l))
 
-    by : (k n : ℕ) → slice_get homes k ≡ Some (Some n) → (k ≡ g) ⊎ (k ≡ g → ⊥) → slice_get (set mid g (Some root)) k ≡ Some (Some n)
-    by k n e (inl is) = absurd (both_ways (is_homed homes g) fresh (ap (λ o. is_some (option_and_then (λ o. o) o)) (ap (slice_get homes) (sym is) ∙ e)))
-    by k n e (inr apart) = set_elsewhere mid g k (Some root) apart ∙ longer k n e
+-- a tracker that is there has a root
+pub root_below : (os : List (Option Owned)) (t : ℕ) (nodes : List Node) (roots : List ℕ) (homes : List (Option ℕ)) → IsSome (within (slice_get os t)) → AreHeld os nodes roots homes → t < length roots
+root_below os t nodes roots homes there h = by (within (slice_get os t)) refl there
+  where
+    by : (q : Option Owned) → within (slice_get os t) ≡ q → IsSome q → t < length roots
+    by None e w = absurd (both_ways false refl w)
+    by (Some o) e w = let r = h.rooted t o e in slice_get_within roots t r.root r.root_is
+
+-- none of those that are there has the generator
+pub none_have : (m : Owners) (os : List (Option Owned)) (g : GenId) → m.tracks ≡ os → ((t : TrackId) → owns_generator m t g ≡ false) → (t : ℕ) (o : Owned) → within (slice_get os t) ≡ Some o → has_generator o g.0 ≡ false
+none_have m os g seen none t o there =
+    sym (ap (λ q. option_map_or (λ (o : Owned). list_any (λ (h : GenId). h.0 == g.0) o.generators) q false) (ap (λ ts. within (slice_get ts t)) seen ∙ there)) ∙ none (record { 0 = t })
 
 -- whoever has the generator is found
 pub owner_found : (m : Owners) (nodes : List Node) (roots : List ℕ) (homes : List (Option ℕ)) (t : TrackId) (g : GenId) → AreHeld m.tracks nodes roots homes → owns_generator m t g ≡ true → holder_of nodes homes g.0 ≡ Some t.0
@@ -250,6 +271,19 @@ owner_found m nodes roots homes t g h owns = by (within (slice_get m.tracks t.0)
     by (Some o) e w = let q = h.homed t.0 g.0 o e w in
         ap (λ z. option_and_then (λ n. option_map (λ (x : Node). x.tracker) (slice_get nodes (climbed HEIGHT nodes n))) (option_and_then (λ o. o) z)) q.1
         ∙ holder_is nodes roots h.labels q.0 t.0 h.trees q.2
+
+-- what holds anyway holds where there is none
+pub whatever : {X P : Type 0} (o : Option X) → P → IfNone o P
+whatever (Some x) p = tt
+whatever None p = p
+
+-- a generator that isn't found no tracker has
+pub nobody_found : (m : Owners) (nodes : List Node) (roots : List ℕ) (homes : List (Option ℕ)) (g : GenId) → AreHeld m.tracks nodes roots homes → holder_of nodes homes g.0 ≡ None → (t : TrackId) → owns_generator m t g ≡ false
+nobody_found m nodes roots homes g h none t = by (owns_generator m t g) refl
+  where
+    by : (b : Bool) → owns_generator m t g ≡ b → owns_generator m t g ≡ false
+    by true e = absurd (none-some t.0 (sym none ∙ owner_found m nodes roots homes t g h e))
+    by false e = e
 
 pub held_as : {os os' : List (Option Owned)} {nodes nodes' : List Node} {roots roots' : List ℕ} {homes homes' : List (Option ℕ)} → os' ≡ os → nodes' ≡ nodes → roots' ≡ roots → homes' ≡ homes → AreHeld os nodes roots homes → AreHeld os' nodes' roots' homes'
 held_as {os} {os'} {nodes} {nodes'} {roots} {roots'} {homes} {homes'} a b c d h = subst (λ x. AreHeld x nodes' roots' homes') (sym a) (subst (λ x. AreHeld os x roots' homes') (sym b) (subst (λ x. AreHeld os nodes x homes') (sym c) (subst (AreHeld os nodes roots) (sym d) h)))

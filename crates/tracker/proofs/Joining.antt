@@ -1,7 +1,7 @@
 -- Two trees that become one, with all the generators of both.
-use Rattle.std.proofs.Common.{◌≡◌, ℕ, ◌+◌, ◌<◌, ◌≤◌, ◌⊎◌, inl, inr, Bool, true, false, List, [], ◌∷◌, ◌++◌, length, set, slice_get, Option, Some, None, refl, ap, sym, subst, ◌∙◌, arith}
+use Rattle.std.proofs.Common.{◌≡◌, ℕ, ◌+◌, ◌^◌, ◌<◌, ◌≤◌, ◌⊎◌, inl, inr, Bool, true, false, List, [], ◌∷◌, ◌++◌, length, set, slice_get, Option, Some, None, refl, ap, sym, subst, ◌∙◌, arith}
 use Rattle.std.specs.Bool.{if◌then◌else◌}
-use Rattle.std.specs.Prelude.{option_map, map, nat_lt, ◌==◌, ◌||◌, IsSome, IfSome}
+use Rattle.std.specs.Prelude.{option_and_then, option_map, map, nat_lt, ◌==◌, ◌||◌, IsSome, IfSome}
 use Rattle.std.specs.List.{list_any}
 use Rattle.std.proofs.lemmas.Bool.{both_ways, cases_eq, eqb-true, eq-eqb, ltb-true, ltb-false}
 use Rattle.std.proofs.lemmas.Option.{none-some, same_Some, slice_get-map}
@@ -13,14 +13,19 @@ use Rattle.tracker.specs.declared.holders.Hanging.{Hanging}
 use Rattle.tracker.specs.declared.holders.Node.{Node}
 use Rattle.tracker.specs.declared.holders.TheConstants.{HEIGHT}
 use Rattle.tracker.specs.declared.owned.Owned.{Owned}
-use Rattle.tracker.specs.Holders.{put, hanging, joined_nodes, has_generator, IsJoined, AreTrees, HasRoot, AreHeld}
+use Rattle.tracker.specs.Holders.{put, hanging, joined_nodes, has_generator, root_at, tree_size, CanJoin, IsJoined, AreTrees, HasRoot, AreHeld}
 use Rattle.tracker.specs.Owners.{within, change_at, and_all_of}
 use Rattle.tracker.proofs.Holding.{changed_there, changed_elsewhere, changed_length, gone_there}
+use Rattle.tracker.proofs.Sizes.{doubled, few_are_low, relabel, sizes_fit, sizes_join, sizes_stay}
 use Rattle.tracker.proofs.Trees.{set_there, set_length, put_is, hung_is}
 
 -- one of two numbers
 abbrev IsOf : ℕ → ℕ → ℕ → Type 0
 IsOf a b n = (n ≡ a) ⊎ (n ≡ b)
+
+-- the one and the other, either way round
+abbrev IsBoth : ℕ → ℕ → ℕ → ℕ → Type 0
+IsBoth a b m n = ((m ≡ a) × (n ≡ b)) ⊎ ((m ≡ b) × (n ≡ a))
 
 -- what hangs where, whichever of the two was higher
 record IsHung (nodes : List Node) (roots : List ℕ) (from to : ℕ) (new : List Node) (tops : List ℕ) : Type 0 where
@@ -33,6 +38,7 @@ record IsHung (nodes : List Node) (roots : List ℕ) (from to : ℕ) (new : List
   z_is : slice_get nodes above ≡ Some z
   x_top : x.up ≡ None
   z_top : z.up ≡ None
+  both : IsBoth from to x.tracker z.tracker
   x_of : IsOf from to x.tracker
   z_of : IsOf from to z.tracker
   apart : above ≡ below → ⊥
@@ -40,6 +46,7 @@ record IsHung (nodes : List Node) (roots : List ℕ) (from to : ℕ) (new : List
   to_in : (r : ℕ) → slice_get roots to ≡ Some r → IsOf below above r
   lower : x.rank < rank
   higher : z.rank ≤ rank
+  size : 2 ^ rank ≤ 2 ^ x.rank + 2 ^ z.rank
   low : rank < HEIGHT
   at_below : slice_get new below ≡ Some (record x { up = Some above })
   at_above : slice_get new above ≡ Some (record { up = None; rank = rank; tracker = to })
@@ -62,10 +69,10 @@ is_root nodes roots t r x e f h = record { root_is = e; node_is = f; top = ap (�
     same : x ≡ h.node
     same = same_element (slice_get nodes r) x h.node f (ap (slice_get nodes) (same_element (slice_get roots t) r h.root e h.root_is) ∙ h.node_is)
 
-hung_by : (nodes : List Node) (roots : List ℕ) (from to below above rank s t other : ℕ) (x z : Node) (new : List Node) (tops : List ℕ) → IsRootOf nodes roots s below x → IsRootOf nodes roots t above z → (s ≡ t → ⊥) → IsOf from to s → IsOf from to t →
-    ((r : ℕ) → slice_get roots from ≡ Some r → IsOf below above r) → ((r : ℕ) → slice_get roots to ≡ Some r → IsOf below above r) → slice_get roots to ≡ Some other → x.rank < rank → z.rank ≤ rank → rank < HEIGHT →
+hung_by : (nodes : List Node) (roots : List ℕ) (from to below above rank s t other : ℕ) (x z : Node) (new : List Node) (tops : List ℕ) → IsRootOf nodes roots s below x → IsRootOf nodes roots t above z → (s ≡ t → ⊥) → IsBoth from to s t → IsOf from to s → IsOf from to t →
+    ((r : ℕ) → slice_get roots from ≡ Some r → IsOf below above r) → ((r : ℕ) → slice_get roots to ≡ Some r → IsOf below above r) → slice_get roots to ≡ Some other → x.rank < rank → z.rank ≤ rank → 2 ^ rank ≤ 2 ^ x.rank + 2 ^ z.rank → rank < HEIGHT →
     new ≡ joined_nodes (record { below = below; above = above; rank = rank }) to nodes → tops ≡ put to above roots → IsHung nodes roots from to new tops
-hung_by nodes roots from to below above rank s t other x z new tops p q differ s_of t_of from_in to_in there lower higher low nodes_are tops_are = record {
+hung_by nodes roots from to below above rank s t other x z new tops p q differ both s_of t_of from_in to_in there lower higher size low nodes_are tops_are = record {
   below = below;
   above = above;
   rank = rank;
@@ -75,6 +82,7 @@ hung_by nodes roots from to below above rank s t other x z new tops p q differ s
   z_is = q.node_is;
   x_top = p.top;
   z_top = q.top;
+  both = subst (λ i. IsBoth from to i z.tracker) (sym p.its) (subst (IsBoth from to s) (sym q.its) both);
   x_of = subst (IsOf from to) (sym p.its) s_of;
   z_of = subst (IsOf from to) (sym q.its) t_of;
   apart = apart;
@@ -82,6 +90,7 @@ hung_by nodes roots from to below above rank s t other x z new tops p q differ s
   to_in = to_in;
   lower = lower;
   higher = higher;
+  size = size;
   low = low;
   at_below = ap (λ ns. slice_get ns below) is ∙ (set_elsewhere (set nodes below hung) above below top (λ e. apart (sym e)) ∙ set_there nodes below hung x p.node_is);
   at_above = ap (λ ns. slice_get ns above) is ∙ set_there (set nodes below hung) above top z above_there;
@@ -131,21 +140,20 @@ hung_in nodes roots from to new tops differ has_from has_to j = split (nat_lt j.
     is : (c d : Bool) → nat_lt j.x.rank j.y.rank ≡ c → nat_lt j.y.rank j.x.rank ≡ d → hanging j.a j.x.rank j.b j.y.rank ≡ choice c d
     is c d e f = ap (λ k. choice k (nat_lt j.y.rank j.x.rank)) e ∙ ap (choice c) f
 
-    a_below : (rank : ℕ) → j.x.rank < rank → j.y.rank ≤ rank → hanging j.a j.x.rank j.b j.y.rank ≡ record { below = j.a; above = j.b; rank = rank } → IsHung nodes roots from to new tops
-    a_below rank lower higher h = hung_by nodes roots from to j.a j.b rank from to j.b j.x j.y new tops p q differ (inl refl) (inr refl) (λ r e. inl (from_a r e)) (λ r e. inr (to_b r e)) j.b_is lower higher
+    a_below : (rank : ℕ) → j.x.rank < rank → j.y.rank ≤ rank → 2 ^ rank ≤ 2 ^ j.x.rank + 2 ^ j.y.rank → hanging j.a j.x.rank j.b j.y.rank ≡ record { below = j.a; above = j.b; rank = rank } → IsHung nodes roots from to new tops
+    a_below rank lower higher size h = hung_by nodes roots from to j.a j.b rank from to j.b j.x j.y new tops p q differ (inl (refl, refl)) (inl refl) (inr refl) (λ r e. inl (from_a r e)) (λ r e. inr (to_b r e)) j.b_is lower higher size
         (subst (λ (k : Hanging). k.rank < HEIGHT) h j.low) (j.nodes_are ∙ ap (λ k. joined_nodes k to nodes) h) (j.tops_are ∙ ap (λ (k : Hanging). put to k.above roots) h)
 
     split : (c d : Bool) → nat_lt j.x.rank j.y.rank ≡ c → nat_lt j.y.rank j.x.rank ≡ d → IsHung nodes roots from to new tops
-    split true d e f = a_below j.y.rank (ltb-true j.x.rank j.y.rank e) (omega arith) (is true d e f)
+    split true d e f = a_below j.y.rank (ltb-true j.x.rank j.y.rank e) (omega arith) (omega arith) (is true d e f)
     split false true e f = let h = is false true e f in
-        hung_by nodes roots from to j.b j.a j.x.rank to from j.b j.y j.x new tops q p (λ s. differ (sym s)) (inr refl) (inl refl) (λ r e. inr (from_a r e)) (λ r e. inl (to_b r e)) j.b_is (ltb-true j.y.rank j.x.rank f) (omega arith)
+        hung_by nodes roots from to j.b j.a j.x.rank to from j.b j.y j.x new tops q p (λ s. differ (sym s)) (inr (refl, refl)) (inr refl) (inl refl) (λ r e. inr (from_a r e)) (λ r e. inl (to_b r e)) j.b_is (ltb-true j.y.rank j.x.rank f) (omega arith) (omega arith)
         (subst (λ (k : Hanging). k.rank < HEIGHT) h j.low) (j.nodes_are ∙ ap (λ k. joined_nodes k to nodes) h) (j.tops_are ∙ ap (λ (k : Hanging). put to k.above roots) h)
-    split false false e f = a_below (j.x.rank + 1) (omega arith) (omega (arith, ltb-false j.x.rank j.y.rank e, ltb-false j.y.rank j.x.rank f)) (is false false e f)
+    split false false e f =
+        let same : j.x.rank ≡ j.y.rank = omega (arith, ltb-false j.x.rank j.y.rank e, ltb-false j.y.rank j.x.rank f) in
+        a_below (j.x.rank + 1) (omega arith) (omega (arith, same)) (omega (arith, doubled j.x.rank, ap (λ n. 2 ^ n) same)) (is false false e f)
 
 -- Labels
-
-abbrev relabel : ℕ → ℕ → ℕ → ℕ
-relabel from to t = if t == from then to else t
 
 relabel_of : (from to t : ℕ) → IsOf from to t → relabel from to t ≡ to
 relabel_of from to t (inl e) = ap (λ (b : Bool). if b then to else t) (eq-eqb t from e)
@@ -162,13 +170,14 @@ relabel_other from to t apart = by (t == from) refl
     by true e = absurd (apart (eqb-true t from e))
     by false e = refl
 
-joined_trees : (nodes : List Node) (roots labels : List ℕ) (from to : ℕ) (new : List Node) (tops : List ℕ) → AreTrees nodes roots labels → IsHung nodes roots from to new tops → AreTrees new tops (map (relabel from to) labels)
-joined_trees nodes roots labels from to new tops t h = record {
+joined_trees : (nodes : List Node) (roots labels : List ℕ) (from to : ℕ) (new : List Node) (tops : List ℕ) → (from ≡ to → ⊥) → AreTrees nodes roots labels → IsHung nodes roots from to new tops → AreTrees new tops (map (relabel from to) labels)
+joined_trees nodes roots labels from to new tops differ t h = record {
   count = length-map labels (relabel from to) ∙ (t.count ∙ sym h.count);
   rooted = h.rooted ∙ (t.rooted ∙ sym h.count);
   up = λ n p w e u. up n p w e u (cases_eq n h.below) (cases_eq n h.above);
   top = λ n w e u. top n w e u (cases_eq n h.below) (cases_eq n h.above);
   low = λ n w e. low n w e (cases_eq n h.below) (cases_eq n h.above);
+  many = λ n w e u. many n w e u (cases_eq n h.below) (cases_eq n h.above);
 }
   where
     f : ℕ → ℕ
@@ -226,12 +235,68 @@ joined_trees nodes roots labels from to new tops t h = record {
     low n w e (inr a) (inl is) = subst (λ (v : Node). v.rank < HEIGHT) (same_element (slice_get new n) crowned w (ap (slice_get new) is ∙ h.at_above) e) h.low
     low n w e (inr a) (inr b) = t.low n w (sym (h.others n a b) ∙ e)
 
+    -- the nodes of both are under it
+    crowned_many : IsBoth from to h.x.tracker h.z.tracker → 2 ^ h.rank ≤ tree_size (map f labels) to
+    crowned_many (inl p) = omega (arith, h.size, t.many h.below h.x h.x_is h.x_top, t.many h.above h.z h.z_is h.z_top, ap (tree_size labels) p.0, ap (tree_size labels) p.1, sizes_join labels from to differ)
+    crowned_many (inr p) = omega (arith, h.size, t.many h.below h.x h.x_is h.x_top, t.many h.above h.z h.z_is h.z_top, ap (tree_size labels) p.0, ap (tree_size labels) p.1, sizes_join labels from to differ)
+
+    many : (n : ℕ) (w : Node) → slice_get new n ≡ Some w → w.up ≡ None → (n ≡ h.below) ⊎ (n ≡ h.below → ⊥) → (n ≡ h.above) ⊎ (n ≡ h.above → ⊥) → 2 ^ w.rank ≤ tree_size (map f labels) w.tracker
+    many n w e u (inl is) b = absurd (none-some h.above (sym u ∙ ap (λ (v : Node). v.up) (same_element (slice_get new n) w hung e (ap (slice_get new) is ∙ h.at_below))))
+    many n w e u (inr a) (inl is) = subst (λ (v : Node). 2 ^ v.rank ≤ tree_size (map f labels) v.tracker) (same_element (slice_get new n) crowned w (ap (slice_get new) is ∙ h.at_above) e) (crowned_many h.both)
+    many n w e u (inr a) (inr b) =
+        let there = sym (h.others n a b) ∙ e in
+        let was = t.top n w there u in
+        let not_from : w.tracker ≡ from → ⊥ = λ s. neither n n a b (h.from_in n (ap (slice_get roots) (sym s) ∙ was.1)) in
+        let not_to : w.tracker ≡ to → ⊥ = λ s. neither n n a b (h.to_in n (ap (slice_get roots) (sym s) ∙ was.1)) in
+        omega (arith, t.many n w there u, sizes_stay labels from to w.tracker not_from not_to)
+
+-- two trackers that are there have trees, which one tree can hold
+pub can_join : (os : List (Option Owned)) (from to : ℕ) (nodes : List Node) (roots : List ℕ) (homes : List (Option ℕ)) → (from ≡ to → ⊥) → IsSome (within (slice_get os from)) → IsSome (within (slice_get os to)) → AreHeld os nodes roots homes → CanJoin nodes roots from to
+can_join os from to nodes roots homes differ p q held = by (within (slice_get os from)) (within (slice_get os to)) refl refl p q
+  where
+    rooted : (t : ℕ) (r : HasRoot nodes roots t) → root_at nodes roots t ≡ Some (r.root, r.node.rank)
+    rooted t r = ap (option_and_then (λ n. option_map (λ (x : Node). (n, x.rank)) (slice_get nodes n))) r.root_is ∙ ap (option_map (λ (x : Node). (r.root, x.rank))) r.node_is
+
+    fits : (r : HasRoot nodes roots from) (s : HasRoot nodes roots to) → 2 ^ r.node.rank + 2 ^ s.node.rank ≤ 65536
+    fits r s =
+        let a = held.trees.many r.root r.node r.node_is r.top in
+        let b = held.trees.many s.root s.node s.node_is s.top in
+        omega (arith, a, b, ap (tree_size held.labels) r.its, ap (tree_size held.labels) s.its, sizes_fit held.labels from to differ, held.trees.count, held.few)
+
+    choice : (r : HasRoot nodes roots from) (s : HasRoot nodes roots to) → Bool → Bool → Hanging
+    choice r s c d = if c then record { below = r.root; above = s.root; rank = s.node.rank } else (if d then record { below = s.root; above = r.root; rank = r.node.rank } else record { below = r.root; above = s.root; rank = r.node.rank + 1 })
+
+    low : (r : HasRoot nodes roots from) (s : HasRoot nodes roots to) (c d : Bool) → nat_lt r.node.rank s.node.rank ≡ c → nat_lt s.node.rank r.node.rank ≡ d → (choice r s c d).rank < HEIGHT
+    low r s true d e f = held.trees.low s.root s.node s.node_is
+    low r s false true e f = held.trees.low r.root r.node r.node_is
+    low r s false false e f =
+        let same : r.node.rank ≡ s.node.rank = omega (arith, ltb-false r.node.rank s.node.rank e, ltb-false s.node.rank r.node.rank f) in
+        few_are_low r.node.rank (omega (arith, fits r s, ap (λ n. 2 ^ n) same))
+
+    by : (x y : Option Owned) → within (slice_get os from) ≡ x → within (slice_get os to) ≡ y → IsSome x → IsSome y → CanJoin nodes roots from to
+    by None y e f a b = absurd (both_ways false refl a)
+    by (Some more) None e f a b = absurd (both_ways false refl b)
+    by (Some more) (Some into) e f a b =
+        let r = held.rooted from more e in
+        let s = held.rooted to into f in
+        record {
+          a = r.root;
+          b = s.root;
+          x = r.node.rank;
+          y = s.node.rank;
+          from_is = rooted from r;
+          to_is = rooted to s;
+          under = held.trees.low r.root r.node r.node_is;
+          low = low r s (nat_lt r.node.rank s.node.rank) (nat_lt s.node.rank r.node.rank) refl refl;
+        }
+
 -- all that one tracker has is the other's
 pub held_joined : (os : List (Option Owned)) (from to : ℕ) (more into : Owned) (nodes new : List Node) (roots tops : List ℕ) (homes : List (Option ℕ)) → (from ≡ to → ⊥) → within (slice_get os from) ≡ Some more → within (slice_get os to) ≡ Some into → IsJoined nodes roots from to new tops → AreHeld os nodes roots homes →
     AreHeld (change_at to (and_all_of more) (set os from None)) new tops homes
 held_joined os from to more into nodes new roots tops homes differ from_is to_is j held = record {
   labels = map f held.labels;
-  trees = joined_trees nodes roots held.labels from to new tops held.trees h;
+  trees = joined_trees nodes roots held.labels from to new tops differ held.trees h;
+  few = omega (arith, h.count, held.few);
   made = h.count ∙ (held.made ∙ (sym (set_length os from None) ∙ sym (changed_length (and_all_of more) (set os from None) to)));
   rooted = λ t o e. rooted t o (cases_eq t to) (cases_eq t from) e;
   homed = λ t g o e has. homed t g o has (cases_eq t to) (cases_eq t from) e;

@@ -1,4 +1,5 @@
 pub mod Changes
+pub mod Sizes
 pub mod Trees
 pub mod Holding
 pub mod Joining

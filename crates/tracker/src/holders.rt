@@ -2,8 +2,8 @@
 //! knows whose its tree is. The lower of two trees hangs under the higher one, so that a tree of the height
 //! `h` has as many trackers as two to the power of `h`, and none is higher than `HEIGHT`.
 
-ghost use Rattle.std.specs.Prelude.{◌≡◌, ◌<◌, ◌++◌, ◌∷◌, [], None, Some, false, ◌+◌, slice_get, vec_len, set, IfOk, OnOk, OnErr};
-ghost use Rattle.tracker.specs.Holders.{climbed, hanging, holder_of, hung_under, root_at, up_of, is_homed, IsJoined, IsLonger, put};
+ghost use Rattle.std.specs.Prelude.{◌≡◌, ◌<◌, ◌++◌, ◌∷◌, [], None, Some, ◌+◌, slice_get, vec_len, set, IfOk, OnOk, OnErr};
+ghost use Rattle.tracker.specs.Holders.{climbed, hanging, holder_of, hung_under, root_at, up_of, CanJoin, IsJoined, IsLonger, put};
 
 use std::alloc::{AllocError, Global};
 
@@ -190,44 +190,30 @@ impl Holders {
         Some(node.tracker)
     }
 
-    /// The trees of two trackers are one, of the second; the first has none any more.
-    pub fn join(&mut self, from: u32, to: u32) -> Result<(), AllocError>
-        ensures ok { OnOk result (IsJoined self.old.nodes.items self.old.roots.items from to self.new.nodes.items self.new.roots.items) }
+    /// The trees of two trackers are one, of the second; the first has none any more. Takes no memory.
+    pub fn join(&mut self, from: u32, to: u32)
+        requires { CanJoin self.old.nodes.items self.old.roots.items from to }
+        ensures joined { IsJoined self.old.nodes.items self.old.roots.items from to self.new.nodes.items self.new.roots.items }
         ensures homes { self.new.homes.items ≡ self.old.homes.items }
-        ensures same { OnErr result (self.new.nodes.items ≡ self.old.nodes.items) }
-        ensures still { OnErr result (self.new.roots.items ≡ self.old.roots.items) }
     {
-        let (Some((a, x)), Some((b, y))) = (self.root(from), self.root(to)) else {
-            return Err(AllocError);
-        };
-        if x >= HEIGHT {
-            return Err(AllocError);
-        }
+        let (a, x) = self.root(from).unwrap();
+        let (b, y) = self.root(to).unwrap();
         let Hanging { below, above, rank } = hang(a, x, b, y);
-        if rank >= HEIGHT {
-            return Err(AllocError);
-        }
         lower(&mut self.nodes, below, above);
         raise(&mut self.nodes, above, rank, to);
         crown(&mut self.roots, to, above);
-        Ok(())
     }
 
-    /// Makes the place for a generator's home in the tracker's tree, at its root; none for one that has a home.
+    /// Makes the place for a generator's home in the tracker's tree, at its root.
     pub fn room(&mut self, g: u32, t: u32) -> Result<u32, AllocError>
+        requires { t < vec_len self.old.roots }
         ensures root { IfOk result (λ root. slice_get self.old.roots.items t ≡ Some root) }
-        ensures fresh { OnOk result (is_homed self.old.homes.items g ≡ false) }
         ensures place { OnOk result (g < vec_len self.new.homes) }
         ensures longer { IsLonger self.old.homes.items self.new.homes.items }
         ensures nodes { self.new.nodes.items ≡ self.old.nodes.items }
         ensures roots { self.new.roots.items ≡ self.old.roots.items }
     {
-        if self.has_home(g) {
-            return Err(AllocError);
-        }
-        let Some(root) = self.roots.as_slice().get(t as usize).copied() else {
-            return Err(AllocError);
-        };
+        let root = self.roots[t as usize];
         reach(&mut self.homes, g)?;
         Ok(root)
     }
@@ -240,12 +226,5 @@ impl Holders {
         ensures roots { self.new.roots.items ≡ self.old.roots.items }
     {
         self.homes[g as usize] = Some(root);
-    }
-
-    /// Whether the generator has a home.
-    fn has_home(&self, g: u32) -> bool
-        ensures { result ≡ is_homed self.now.homes.items g }
-    {
-        matches!(self.homes.as_slice().get(g as usize), Some(Some(_)))
     }
 }

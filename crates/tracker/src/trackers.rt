@@ -1,4 +1,4 @@
-ghost use Rattle.std.specs.Prelude.{◌≡◌, ◌<◌, length, option_map, Some, true, IsSome, IfOk, OnOk, IfErr, OnErr, IfSome};
+ghost use Rattle.std.specs.Prelude.{◌≡◌, ◌<◌, length, option_map, Some, true, false, IsSome, IfOk, OnOk, IfErr, OnErr, IfSome, IfNone};
 ghost use Rattle.orc_ids.specs.declared.limits.TheConstants.{TRACKER_LIMIT};
 ghost use Rattle.tracker.specs.Owners.{nobody, owned_by, with_tracker, with_room, with_unit, with_generator, merged, without, owns_generator, IsRefused};
 
@@ -108,7 +108,8 @@ impl Trackers {
 
     /// The tracker that has the generator now, in constant time, whatever moves there were.
     pub fn owner(&self, g: GenId) -> Option<TrackId>
-        ensures { (t : TrackId) → owns_generator self.now t g ≡ true → result ≡ Some t }
+        ensures owner { (t : TrackId) → owns_generator self.now t g ≡ true → result ≡ Some t }
+        ensures nobody { IfNone result ((t : TrackId) → owns_generator self.now t g ≡ false) }
     {
         let t = self.holders.find(g.0)?;
         Some(TrackId(t))
@@ -140,9 +141,10 @@ impl Trackers {
         self.room = None;
     }
 
-    /// Adds a generator to the tracker, behind those that it has.
+    /// Adds a generator that no tracker has to the tracker, behind those that it has.
     pub fn add_generator(&mut self, t: TrackId, g: GenId) -> Result<(), AllocError>
-        requires { IsSome (owned_by self.old t) }
+        requires there { IsSome (owned_by self.old t) }
+        requires fresh { (other : TrackId) → owns_generator self.old other g ≡ false }
         ensures ok { OnOk result (self.new ≡ with_generator self.old t g) }
         ensures err { OnErr result (self.new ≡ self.old) }
     {
@@ -166,7 +168,7 @@ impl Trackers {
         if !can_merge(self.tracks.as_slice(), from.0 as usize, to.0 as usize) {
             return Err(AllocError);
         }
-        self.holders.join(from.0, to.0)?;
+        self.holders.join(from.0, to.0);
         merge_in(&mut self.tracks, from.0 as usize, to.0 as usize);
         self.room = None;
         Ok(())

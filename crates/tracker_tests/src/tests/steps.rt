@@ -51,7 +51,13 @@ fn add_unit(trackers: &mut Trackers, t: TrackId, u: UnitId) -> bool {
 }
 
 fn add_generator(trackers: &mut Trackers, t: TrackId, g: GenId) -> bool {
-    is_there(trackers, t) && trackers.add_generator(t, g).is_ok()
+    if !is_there(trackers, t) {
+        return false;
+    }
+    match trackers.owner(g) {
+        None => trackers.add_generator(t, g).is_ok(),
+        Some(_) => false,
+    }
 }
 
 fn merge(trackers: &mut Trackers, from: TrackId, to: TrackId) -> bool {
