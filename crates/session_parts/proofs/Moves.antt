@@ -1,7 +1,8 @@
 -- A generator is attached, and a tracker's things go over to another.
-use Rattle.std.proofs.Common.{◌≡◌, ℕ, ◌⊎◌, inl, inr, Bool, true, false, not, ◌∷◌, [], ◌++◌, length, slice_get, Option, Some, None, refl, ap, sym, subst, ◌∙◌}
+use Rattle.std.proofs.Common.{◌≡◌, ℕ, ◌⊎◌, inl, inr, Bool, true, false, not, ◌∷◌, [], ◌++◌, length, slice_get, Option, Some, None, refl, ap, sym, subst, ◌∙◌, arith}
 use Rattle.std.specs.Bool.{if◌then◌else◌}
-use Rattle.std.specs.Prelude.{map, set, is_none, is_err, IfSome, OnOk, Result, Ok, Err}
+use Rattle.std.specs.Prelude.{◌==◌, map, set, is_none, is_err, IfSome, OnOk, Result, Ok, Err}
+use Rattle.std.specs.List.{list_any}
 use Rattle.std.specs.Option.{option_map_or}
 use Rattle.std.proofs.lemmas.Bool.{both_ways, cases_eq, eq-eqb, ne_eqb}
 use Rattle.orc_ids.specs.declared.ids.DylibId.{DylibId}
@@ -9,14 +10,14 @@ use Rattle.orc_ids.specs.declared.ids.GenId.{GenId}
 use Rattle.orc_ids.specs.declared.ids.TrackId.{TrackId}
 use Rattle.session_model.specs.Lists.{changed_at}
 use Rattle.session_model.specs.Meaning.{Meaning}
-use Rattle.session_model.specs.Plain.{Plain, has_tracker, tracker_dylib}
+use Rattle.session_model.specs.Plain.{GenRow, Plain, has_tracker, tracker_dylib}
 use Rattle.session_model.specs.Change.{changed, moved, moved_unit, moved_generator, gone_tracker}
 use Rattle.session_model.specs.declared.change.Change.TheVariants.{Attach}
 use Rattle.session_model.specs.declared.rows.Track.{Track}
-use Rattle.session_laws.proofs.Declared.{element_below, mapped_length}
+use Rattle.session_laws.proofs.Declared.{element_below, mapped_length, none_past}
 use Rattle.generators.specs.Rows.{Stock}
 use Rattle.tracker.specs.declared.owned.Owned.{Owned}
-use Rattle.tracker.specs.Owners.{Owners, within, owned_by, merged, with_generator, change_at, and_all_of}
+use Rattle.tracker.specs.Owners.{Owners, within, owned_by, owns_generator, merged, with_generator, change_at, and_all_of}
 use Rattle.session_parts.specs.declared.parts.Parts.{Parts}
 use Rattle.session_parts.specs.Parts.{kept_of, AreParts}
 use Rattle.session_parts.specs.Tied.{IsTied}
@@ -45,6 +46,20 @@ owner_there (Some x) e = (x, refl)
 -- it is one of the parts', with what it owns
 pub tracker_owned : {U N : Type 0} (means : U → Meaning) (p : Parts U N) (m : Plain) (t : ℕ) → AreParts means p m → has_tracker m t ≡ true → (o : Owned) × (within (slice_get p.trackers.tracks t) ≡ Some o)
 tracker_owned means p m t a h = let x = tracker_there m t h in owner_there (within (slice_get p.trackers.tracks t)) (a.kept.owners.gone t x.0 x.1 ∙ x.2)
+
+-- no tracker has the next generator
+pub none_has : {U N : Type 0} (means : U → Meaning) (p : Parts U N) (m : Plain) (g : GenId) → AreParts means p m → g.0 ≡ length p.generators.rows → (t : TrackId) → owns_generator p.trackers t g ≡ false
+none_has means p m g a at t = by (within (slice_get p.trackers.tracks t.0)) refl
+  where
+    past : slice_get m.generators g.0 ≡ None
+    past = none_past m.generators g.0 (omega (arith, at, a.kept.generators.count))
+
+    has : Option Owned → Bool
+    has q = option_map_or (λ (o : Owned). list_any (λ (h : GenId). h.0 == g.0) o.generators) q false
+
+    by : (q : Option Owned) → within (slice_get p.trackers.tracks t.0) ≡ q → owns_generator p.trackers t g ≡ false
+    by None e = ap has e
+    by (Some o) e = ap has e ∙ ((a.kept.owners.owned t.0 o e).generators_are g.0 ∙ ap (λ q. option_map_or (λ (x : GenRow). x.tracker == t.0) q false) past)
 
 pub attached : {U N : Type 0} (means : U → Meaning) (p : Parts U N) (m : Plain) (d : DylibId) (t : TrackId) (g : GenId) (unit : U) (stock : Stock U) (owners : Owners) → AreParts means p m → has_tracker m t.0 ≡ true → g.0 ≡ length p.generators.rows →
     stock.rows ≡ p.generators.rows ++ record { unit = unit; dylib = d; spent = false } ∷ [] → owners ≡ with_generator p.trackers t g → AreParts means (record p { generators = stock; trackers = owners }) (changed (Attach d t (means unit)) m)
