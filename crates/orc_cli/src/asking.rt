@@ -9,7 +9,7 @@ ghost use Rattle.run_answers.specs.Answered.{IsFound};
 ghost use Rattle.session_answers.specs.Found.{IsFound as IsSessionFound};
 ghost use Rattle.object_files.specs.Reads.{AreReadIn, use_of};
 ghost use Rattle.answers.specs.Reads.{AreReadFor};
-ghost use Rattle.session_answers.specs.Reads.{AreScriptRead, IsSourceReadFor};
+ghost use Rattle.session_answers.specs.Reads.{AreScriptRead, IsSourceEndFor, IsSourceReadFor};
 ghost use Rattle.session_answers.specs.Texts.{counted};
 ghost use Rattle.orc_cli.specs.Asking.{ButForSession, ForAssembly, ForGeneration, ForRun, ForSession, files_of};
 
@@ -126,6 +126,7 @@ pub(crate) fn ask<
         (use_of (F.reads files.old) (F.faults files.old)) (use_of (F.reads files.new) (F.faults files.new)) result.found.answer) }
     ensures source_read { ForSession (asked_by words.now) (λ workers. IsSourceReadFor
         (S.faults source.old) (S.faults source.new) result.found.answer) }
+    ensures source_end { ForSession (asked_by words.now) (λ workers. IsSourceEndFor (S.left source.new) result.found.answer) }
     ensures assembly_read { ForAssembly (asked_by words.now) (λ file. AreReadFor (file ∷ [])
         (use_of (F.reads files.old) (F.faults files.old)) (use_of (F.reads files.new) (F.faults files.new)) result.found.answer) }
     ensures generation_read { ForGeneration (asked_by words.now) (λ objects. AreReadIn []

@@ -20,7 +20,7 @@ use Rattle.answers.proofs.Reading.{finished_found}
 use Rattle.answers.proofs.Sinks.{kept_as, quiet_unless}
 use Rattle.session_answers.specs.Clauses.{Call, Finds, HasFailed, HasFault, HasReadFault, IsAsked, IsBefore, IsCut, IsOfSession, IsWanting, OfSession, SessionAnswers}
 use Rattle.session_answers.specs.Found.{wanting}
-use Rattle.session_answers.specs.Reads.{IsSourceReadFor}
+use Rattle.session_answers.specs.Reads.{IsSourceEndFor, IsSourceReadFor}
 use Rattle.session_answers.specs.Laws.{SessionAnswersAreKept}
 use Rattle.session_answers.proofs.Causes.{Cause, Session, answer_of, cause_of, no_text, write_later}
 use Rattle.session_answers.proofs.Determined.{loaded_found, refused_found, stopped_found}
@@ -117,13 +117,14 @@ module _ {N : Type 0} (heard : N → Option Outcome) (number : N → ℕ) (jmax 
   script_told : Written → (line : ℕ) (why : ScriptWhy) → (f ≡ ScriptRefused line why) ⊎ HasReadFault f → (answer ≡ ScriptRefused line why) ⊎ HasReadFault answer
   script_told w line why p = kept_as (λ x. (x ≡ ScriptRefused line why) ⊎ HasReadFault x) c.out_before c.out_after c.log_before c.log_after f output [] answer w p (inr (inr (inl refl)))
 
-  answers : HoldsOfFound (IsSourceReadFor c.source_before.faults c.source_after.faults) answer → Written → SessionAnswers heard number jmax c answer
-  answers source w = record {
+  answers : HoldsOfFound (IsSourceReadFor c.source_before.faults c.source_after.faults) answer → HoldsOfFound (IsSourceEndFor c.source_after.bytes) answer → Written → SessionAnswers heard number jmax c answer
+  answers source end w = record {
     answers = in_form w;
     read_fault = λ e. caused ReadFault e (λ q. cc) w;
     file_fault = λ k e. caused (FileFault k) e (λ q. cc) w;
     write_fault = write_fault w;
     source = source;
+    source_end = end;
     script_only = λ line why e. caused (ScriptRefused line why) e (λ q. cc) w;
     script_told = λ bytes line why told bad. script_told w line why (refused_found heard number jmax c bytes told line why f output bad is);
     file_only = file_only w;
@@ -139,11 +140,14 @@ module _ {N : Type 0} (heard : N → Option Outcome) (number : N → ℕ) (jmax 
   }
 
 pub session_answers_are_kept : {N : Type 0} → SessionAnswersAreKept N
-session_answers_are_kept heard number jmax c found answer output is read finished = by finished
+session_answers_are_kept heard number jmax c found answer output is read left finished = by finished
   where
     source : HoldsOfFound (IsSourceReadFor c.source_before.faults c.source_after.faults) answer
     source = finished_found (IsSourceReadFor c.source_before.faults c.source_after.faults) c.out_before c.out_after c.log_before c.log_after found output [] answer finished read
 
+    end : HoldsOfFound (IsSourceEndFor c.source_after.bytes) answer
+    end = finished_found (IsSourceEndFor c.source_after.bytes) c.out_before c.out_after c.log_before c.log_after found output [] answer finished left
+
     by : IsFinished c.out_before c.out_after c.log_before c.log_after found output [] answer → SessionAnswers heard number jmax c answer
-    by (inl w) = answers heard number jmax c found answer output is source w
-    by (inr w) = answers heard number jmax c NoMemory answer [] (wanting refl refl) source w
+    by (inl w) = answers heard number jmax c found answer output is source end w
+    by (inr w) = answers heard number jmax c NoMemory answer [] (wanting refl refl) source end w

@@ -1,5 +1,6 @@
 -- How the source and the files were read for what a session found.
 use Rattle.std.proofs.Common.{◌≡◌, ℕ, inl, inr, List, [], Option, Result, Ok, Err, IfErr, OnOk, sym, subst}
+use Rattle.std.specs.Io.KnownBytes.{IsAtEnd}
 use Rattle.orc_ids.specs.declared.lookup.Stop.{Stop}
 use Rattle.session_model.specs.Meaning.{Meaning}
 use Rattle.session_model.specs.declared.entry.Entry.{Entry}
@@ -15,7 +16,7 @@ use Rattle.answers.specs.Reads.{AreReadFor}
 use Rattle.answers.proofs.Reading.{read_in_vain}
 use Rattle.session_answers.specs.Ends.{session_answer}
 use Rattle.session_answers.specs.Found.{IsUnasked, refused, unread}
-use Rattle.session_answers.specs.Reads.{AreScriptRead, IsReadWhole, IsSourceReadFor, IsUnscripted, no_script, of_script}
+use Rattle.session_answers.specs.Reads.{AreScriptRead, IsReadWhole, IsSourceEndFor, IsSourceReadFor, IsUnscripted, no_script, of_script}
 use Rattle.session_answers.specs.Texts.{IsScriptOn}
 use Rattle.session_answers.proofs.Causes.{session_as}
 
@@ -58,3 +59,21 @@ source_of_file before after answer (load.Fault k) is same = subst (IsSourceReadF
 source_of_file before after answer (load.TooLong k) is same = subst (IsSourceReadFor before after) (sym is) same
 source_of_file before after answer (load.Refused k why) is same = subst (IsSourceReadFor before after) (sym is) same
 source_of_file before after answer load.NoMemory is same = subst (IsSourceReadFor before after) (sym is) same
+
+-- nothing is left of a source whose session was run; of any other nothing is said
+pub end_of_session : (left : Option (List ℕ)) (answer : Answer) (h : List (Entry Meaning)) (stopped : Option Stop) (ends : List (List LineEnd)) → answer ≡ session_answer h stopped ends → IsAtEnd left → IsSourceEndFor left answer
+end_of_session left answer h stopped ends is end = subst (IsSourceEndFor left) (sym is) (session_as (IsSourceEndFor left) end (λ len. end) tt h stopped ends)
+
+pub end_of_wanting : (left : Option (List ℕ)) (answer : Answer) → answer ≡ NoMemory → IsSourceEndFor left answer
+end_of_wanting left answer is = subst (IsSourceEndFor left) (sym is) tt
+
+pub end_of_unasked : (before after : Option (List ℕ)) (notes first read : ℕ) (answer : Answer) → IsUnasked before notes first read answer → IsSourceEndFor after answer
+end_of_unasked before after notes first read answer (unread (inl p)) = subst (IsSourceEndFor after) (sym p.1) tt
+end_of_unasked before after notes first read answer (unread (inr is)) = subst (IsSourceEndFor after) (sym is) tt
+end_of_unasked before after notes first read answer (refused line why on is) = subst (IsSourceEndFor after) (sym is) tt
+
+pub end_of_file : (left : Option (List ℕ)) (answer : Answer) (e : LoadError) → answer ≡ file_answer e → IsSourceEndFor left answer
+end_of_file left answer (load.Fault k) is = subst (IsSourceEndFor left) (sym is) tt
+end_of_file left answer (load.TooLong k) is = subst (IsSourceEndFor left) (sym is) tt
+end_of_file left answer (load.Refused k why) is = subst (IsSourceEndFor left) (sym is) tt
+end_of_file left answer load.NoMemory is = subst (IsSourceEndFor left) (sym is) tt

@@ -28,7 +28,7 @@ use Rattle.answers.specs.Written.{AreCut, AreQuiet, Held}
 use Rattle.session_answers.specs.Ends.{session_answer}
 use Rattle.session_answers.specs.Found.{IsFound, IsRefusedOn}
 use Rattle.session_answers.specs.Notes.{AreBack}
-use Rattle.session_answers.specs.Reads.{IsSourceReadFor}
+use Rattle.session_answers.specs.Reads.{IsSourceEndFor, IsSourceReadFor}
 use Rattle.session_answers.specs.Texts.{IsScriptOn, IsSession, counted, session_text}
 
 -- What a call was handed and what it left: how many workers the words ask for, the notifiers, what the source has left, the files, out and
@@ -140,6 +140,8 @@ module _ {N : Type 0} (heard : N → Option Outcome) (number : N → ℕ) (jmax 
     pub write_fault : answer ≡ WriteFault → Rose c.out_before.faults c.out_after.faults ⊎ Rose c.log_before.faults c.log_after.faults
     -- the source has counted one fault more where that it couldn't be read was found, and else none
     pub source : HoldsOfFound (IsSourceReadFor c.source_before.faults c.source_after.faults) answer
+    -- nothing is left of it where a session was found to be run, whole or until its journal was full
+    pub source_end : HoldsOfFound (IsSourceEndFor c.source_after.bytes) answer
     -- a line is refused only where it is the first bad one, for that reason; and where the source tells its bytes, exactly there
     pub script_only : (line : ℕ) (why : ScriptWhy) → answer ≡ ScriptRefused line why → IsRefusedOn c.source_before.bytes (counted (length c.handed)) line why
     pub script_told : (bytes : List ℕ) (line : ℕ) (why : ScriptWhy) → c.source_before.bytes ≡ Some bytes → script_in c bytes ≡ Err (BadLine line why) → (answer ≡ ScriptRefused line why) ⊎ HasReadFault answer

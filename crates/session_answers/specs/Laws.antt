@@ -4,8 +4,8 @@ use Rattle.orc_ids.specs.declared.lookup.Outcome.{Outcome}
 use Rattle.answers.specs.declared.answer.Answer.{Answer}
 use Rattle.answers.specs.Written.{IsFinished}
 use Rattle.session_answers.specs.Clauses.{Call, Finds, SessionAnswers}
-use Rattle.session_answers.specs.Reads.{IsSourceReadFor}
+use Rattle.session_answers.specs.Reads.{IsSourceEndFor, IsSourceReadFor}
 
 abbrev pub SessionAnswersAreKept : Type 0 → Type 0
 SessionAnswersAreKept N = (heard : N → Option Outcome) (number : N → ℕ) (jmax : ℕ) (c : Call N) (found answer : Answer) (output : List ℕ) →
-    Finds heard number jmax c found output → IsSourceReadFor c.source_before.faults c.source_after.faults found → IsFinished c.out_before c.out_after c.log_before c.log_after found output [] answer → SessionAnswers heard number jmax c answer
+    Finds heard number jmax c found output → IsSourceReadFor c.source_before.faults c.source_after.faults found → IsSourceEndFor c.source_after.bytes found → IsFinished c.out_before c.out_after c.log_before c.log_after found output [] answer → SessionAnswers heard number jmax c answer

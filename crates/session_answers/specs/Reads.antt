@@ -1,10 +1,11 @@
 -- How the source and the files were read for what a session found.
 use Rattle.std.specs.Prelude.{◌≡◌, ℕ, ◌+◌, ◌≤◌, List, [], Option}
+use Rattle.std.specs.Io.KnownBytes.{IsAtEnd}
 use Rattle.orc_io.specs.Causes.{Rose}
 use Rattle.object_files.specs.Reads.{AreReadIn, Use}
 use Rattle.session_script.specs.declared.script.Script.{Script}
 use Rattle.answers.specs.declared.answer.Answer.{Answer}
-use Rattle.answers.specs.declared.answer.Answer.TheVariants.{NoMemory, ReadFault, ScriptRefused}
+use Rattle.answers.specs.declared.answer.Answer.TheVariants.{Done, JournalFull, NoMemory, ReadFault, ScriptRefused}
 use Rattle.answers.specs.Reads.{AreReadFor}
 use Rattle.session_answers.specs.Texts.{IsScriptOn}
 
@@ -12,6 +13,12 @@ use Rattle.session_answers.specs.Texts.{IsScriptOn}
 abbrev pub IsSourceReadFor : ℕ → ℕ → Answer → Type 0
 IsSourceReadFor before after ReadFault = Rose before after × (after ≤ before + 1)
 IsSourceReadFor before after _ = after ≡ before
+
+-- Nothing is left of the source where its script's session was run, whole or until its journal was full.
+abbrev pub IsSourceEndFor : Option (List ℕ) → Answer → Type 0
+IsSourceEndFor left Done = IsAtEnd left
+IsSourceEndFor left (JournalFull len) = IsAtEnd left
+IsSourceEndFor left _ = Unit {0}
 
 -- there may be no script
 abbrev pub IsUnscripted : Answer → Type 0

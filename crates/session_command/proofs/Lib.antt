@@ -1,6 +1,7 @@
 mod Lists
 mod Placing
 mod AllTold
+mod ScriptSize
 mod Stops
 mod TextsRead
 mod Stopped

@@ -8,9 +8,9 @@ use Rattle.session_script.specs.declared.script.Script.{Script}
 use Rattle.answers.specs.declared.answer.Answer.{Answer}
 use Rattle.session_answers.specs.Found as found
 use Rattle.session_answers.specs.Found.{IsFound, refused, unread, in_source, in_script, wanting}
-use Rattle.session_answers.specs.Reads.{IsSourceReadFor}
+use Rattle.session_answers.specs.Reads.{IsSourceEndFor, IsSourceReadFor}
 use Rattle.session_answers.specs.Texts.{IsScriptOn, counted}
-use Rattle.session_answers.proofs.Reading.{source_of_file}
+use Rattle.session_answers.proofs.Reading.{end_of_file, end_of_unasked, source_of_file}
 use Rattle.session_command.specs.Loading.{HasStoppedAt, HasStoppedIn, in_files, unasked}
 use Rattle.session_command.specs.declared.command.Loaded.{Loaded}
 
@@ -30,3 +30,8 @@ silent_found heard number jmax workers handed left first read told before after 
 pub source_of_script : (first read : ℕ) (told : Told) (before after : ℕ) (script : Script) (r : Result Loaded Answer) → read ≡ first → IfErr r (HasStoppedAt told before after script) → IfErr r (IsSourceReadFor first read)
 source_of_script first read told before after script (Ok loaded) same stopped = tt
 source_of_script first read told before after script (Err answer) same stopped = source_of_file first read answer stopped.error stopped.answers same
+
+-- nothing is said of what is left of a source without a session
+pub end_of_stopped : (left after : Option (List ℕ)) (notes first read : ℕ) (told : Told) (before now : ℕ) (answer : Answer) → HasStoppedIn left notes first read told before now answer → IsSourceEndFor after answer
+end_of_stopped left after notes first read told before now answer (unasked u) = end_of_unasked left after notes first read answer u
+end_of_stopped left after notes first read told before now answer (in_files script on s) = end_of_file after answer s.error s.answers

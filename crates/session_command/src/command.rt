@@ -1,5 +1,6 @@
 //! The whole command.
 ghost use Rattle.std.specs.Prelude.{◌≡◌, ◌≢◌, ◌≤◌, ℕ, List, [], All, Option, None, length, map, IfErr, IfOk, OnOk, IsTrue};
+ghost use Rattle.std.specs.Io.KnownBytes.{IsAtEnd};
 ghost use Rattle.execution_session.specs.declared.session.TheConstants.{JOURNAL_LIMIT};
 ghost use Rattle.noted.specs.Heard.{AllHaveHeard};
 ghost use Rattle.orc_io.specs.Numbers.{AreNumberedFrom};
@@ -7,7 +8,7 @@ ghost use Rattle.object_files.specs.Files.{Told};
 ghost use Rattle.object_files.specs.Reads.{AreReadIn, use_of};
 ghost use Rattle.answers.specs.Reads.{AreReadFor};
 ghost use Rattle.session_answers.specs.Found.{HasSession, IsFound};
-ghost use Rattle.session_answers.specs.Reads.{AreScriptRead, IsReadWhole, IsSourceReadFor};
+ghost use Rattle.session_answers.specs.Reads.{AreScriptRead, IsReadWhole, IsSourceEndFor, IsSourceReadFor};
 ghost use Rattle.session_answers.specs.Texts.{counted};
 ghost use Rattle.session_command.specs.Loading.{HasStoppedAt, HasStoppedIn, HasUnits, IsLoaded};
 
@@ -126,6 +127,7 @@ fn load<S: Source, F: Files>(
         (use_of (F.reads files.old) (F.faults files.old)) (use_of (F.reads files.new) (F.faults files.new))) }
     ensures read_for { IfErr result (AreScriptRead (S.left source.old) notes
         (use_of (F.reads files.old) (F.faults files.old)) (use_of (F.reads files.new) (F.faults files.new))) }
+    ensures end { OnOk result (IsAtEnd (S.left source.new)) }
     ensures source_quiet { OnOk result (S.faults source.new ≡ S.faults source.old) }
     ensures source_read { IfErr result (IsSourceReadFor (S.faults source.old) (S.faults source.new)) }
     ensures source_counted { S.faults source.old ≤ S.faults source.new }
@@ -228,6 +230,7 @@ pub fn find_session<
     ensures read { AreScriptRead (S.left source.old) (counted (length notes.items))
         (use_of (F.reads files.old) (F.faults files.old)) (use_of (F.reads files.new) (F.faults files.new)) result.answer }
     ensures source_read { IsSourceReadFor (S.faults source.old) (S.faults source.new) result.answer }
+    ensures source_end { IsSourceEndFor (S.left source.new) result.answer }
     ensures heard { AllHaveHeard N.heard result.notes }
     ensures source_counted { S.faults source.old ≤ S.faults source.new }
     ensures counted { F.faults files.old ≤ F.faults files.new }

@@ -1,5 +1,7 @@
 //! The script that a source has.
-ghost use Rattle.std.specs.Prelude.{◌≡◌, ◌≤◌, IfOk, IfErr, OnOk};
+ghost use Rattle.std.specs.Prelude.{◌≡◌, ◌≤◌, length, IfOk, IfErr, OnOk};
+ghost use Rattle.std.specs.Io.KnownBytes.{IsAtEnd};
+ghost use Rattle.session_script.specs.declared.limits.TheConstants.{SIZE_LIMIT};
 ghost use Rattle.session_script.specs.WellFormed.{IsWellFormed};
 ghost use Rattle.session_answers.specs.Found.{IsUnasked, IsUnread};
 ghost use Rattle.session_answers.specs.Reads.{IsSourceReadFor};
@@ -16,6 +18,7 @@ use std::alloc::Global;
 fn read_text<S: Source>(alloc: Global, source: &mut S) -> Result<Bytes, Answer>
     ensures read { IfOk result (AreRead (S.left source.old)) }
     ensures unread { IfErr result (IsUnread (S.faults source.old) (S.faults source.new)) }
+    ensures end { IfOk result (λ text. length text ≤ SIZE_LIMIT → IsAtEnd (S.left source.new)) }
     ensures quiet { OnOk result (S.faults source.new ≡ S.faults source.old) }
     ensures source_read { IfErr result (IsSourceReadFor (S.faults source.old) (S.faults source.new)) }
     ensures counted { S.faults source.old ≤ S.faults source.new }
@@ -37,6 +40,7 @@ pub(crate) fn read_asked<S: Source>(
 ) -> Result<Script, Answer>
     ensures asked { IfOk result (IsScriptOn (S.left source.old) notes) }
     ensures well_formed { IfOk result (IsWellFormed notes) }
+    ensures end { OnOk result (IsAtEnd (S.left source.new)) }
     ensures unasked { IfErr result (IsUnasked (S.left source.old) notes (S.faults source.old) (S.faults source.new)) }
     ensures quiet { OnOk result (S.faults source.new ≡ S.faults source.old) }
     ensures source_read { IfErr result (IsSourceReadFor (S.faults source.old) (S.faults source.new)) }

@@ -2,7 +2,7 @@ use Rattle.std.proofs.Common.{◌≡◌, ◌∙◌, Ok, refl, ap, subst}
 use Rattle.answers.specs.declared.answer.Answer.TheVariants.{Usage}
 use Rattle.command_line.specs.Words.{Explains, asked_by, asked_of, request}
 use Rattle.run_answers.specs.Answered.{in_words}
-use Rattle.session_answers.proofs.Reading.{source_of_wanting}
+use Rattle.session_answers.proofs.Reading.{end_of_wanting, source_of_wanting}
 use Rattle.object_files.proofs.Readings.{none_read}
 use Rattle.orc_cli.proofs.Asked.{asked_nothing, asked_run}
 use Rattle.orc_cli.proofs.Readings.{memory_before_script, memory_first, unasked_read}
@@ -52,3 +52,6 @@ returns-in-Ok-Generation-clause-generation_read g c objects asks = none_read _
 
 pub returns-in-Err-NoMemory-clause-generation_read : goal.returns-in-Err-NoMemory-clause-generation_read
 returns-in-Err-NoMemory-clause-generation_read g c objects asks = none_read _
+
+pub returns-in-Err-NoMemory-clause-source_end : goal.returns-in-Err-NoMemory-clause-source_end
+returns-in-Err-NoMemory-clause-source_end g c workers asks = rw c.untold-in-Err-NoMemory.ensures.found (end_of_wanting _ _ c.silent-in-Err-NoMemory.ensures.answer)

@@ -15,7 +15,7 @@ pub returns-clause-never_full : goal.returns-clause-never_full
 returns-clause-never_full g c e asked asks = never_full_at _ (texts c.args.words.now) asked asks _ _ _ _ _ _ _ _ (answered _ _ _ _ _ _ _ _ _ _ _ _ _ (c.ask-found.ensures.run asked asks) c.write_found-answer.ensures.written) e
 
 pub returns-clause-session : goal.returns-clause-session
-returns-clause-session g c workers asks = session_answers_are_kept g.N.Notify.heard g.N.Notify.number _ _ _ _ _ (c.ask-found.ensures.session workers asks) (c.ask-found.ensures.source_read workers asks)
+returns-clause-session g c workers asks = session_answers_are_kept g.N.Notify.heard g.N.Notify.number _ _ _ _ _ (c.ask-found.ensures.session workers asks) (c.ask-found.ensures.source_read workers asks) (c.ask-found.ensures.source_end workers asks)
     (without_journal _ _ _ _ _ _ _ _ (c.ask-found.ensures.session_log workers asks) c.write_found-answer.ensures.written)
 
 pub returns-clause-assembly : goal.returns-clause-assembly

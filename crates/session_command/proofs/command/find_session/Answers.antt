@@ -1,11 +1,11 @@
 use Rattle.std.proofs.Common.{arith, ◌≡◌, length, sym, subst, ap, ◌∙◌}
 use Rattle.object_files.specs.Reads.{use_of}
 use Rattle.session_answers.specs.Found.{in_session}
-use Rattle.session_answers.specs.Reads.{AreScriptRead, IsReadWhole, IsSourceReadFor}
+use Rattle.session_answers.specs.Reads.{AreScriptRead, IsReadWhole, IsSourceEndFor, IsSourceReadFor}
 use Rattle.session_answers.specs.Texts.{counted}
-use Rattle.session_answers.proofs.Reading.{read_by_session, source_of_session, source_of_wanting, wanting_read}
+use Rattle.session_answers.proofs.Reading.{end_of_session, end_of_wanting, read_by_session, source_of_session, source_of_wanting, wanting_read}
 use Rattle.session_command.specs.Loading.{HasStoppedIn, IsLoaded}
-use Rattle.session_command.proofs.Stopped.{silent_found}
+use Rattle.session_command.proofs.Stopped.{end_of_stopped, silent_found}
 use Rattle.session_command.proofs.command.find_session.Goals as goal
 
 pub returns-in-Ok-run_loaded-clause-found : goal.returns-in-Ok-run_loaded-clause-found
@@ -72,3 +72,18 @@ returns-in-Err-run_loaded-clause-source_read g c = source_of_wanting (g.S.Source
 
 pub returns-in-Err-clause-source_read : goal.returns-in-Err-clause-source_read
 returns-in-Err-clause-source_read g c = subst (IsSourceReadFor (g.S.Source.faults c.args.source.now) (g.S.Source.faults c.load.new.source)) (sym c.silent.ensures.answer) c.in-Err.ensures.source_read
+
+pub returns-in-Ok-run_loaded-clause-source_end : goal.returns-in-Ok-run_loaded-clause-source_end
+returns-in-Ok-run_loaded-clause-source_end g c =
+    let left = g.S.Source.left c.args.source.now in
+    let told = g.F.Files.holds c.args.files.now in
+    let long : c.len.result ≡ length c.args.notes.items = omega (arith, c.len.ensures, c.args.notes.ok.0) in
+    let is = subst (λ n. IsLoaded left n told c.in-Ok.loaded) (c.counted.ensures ∙ ap counted long) c.in-Ok.ensures.loaded in
+    let s = c.in-Ok-run_loaded.ensures.session left told is in
+    end_of_session (g.S.Source.left c.load.new.source) _ s.history s.stopped s.ends s.answers c.in-Ok.ensures.end
+
+pub returns-in-Err-run_loaded-clause-source_end : goal.returns-in-Err-run_loaded-clause-source_end
+returns-in-Err-run_loaded-clause-source_end g c = end_of_wanting (g.S.Source.left c.load.new.source) _ c.wanting.ensures.answer
+
+pub returns-in-Err-clause-source_end : goal.returns-in-Err-clause-source_end
+returns-in-Err-clause-source_end g c = subst (IsSourceEndFor (g.S.Source.left c.load.new.source)) (sym c.silent.ensures.answer) (end_of_stopped _ _ _ _ _ _ _ _ c.in-Err.answer c.in-Err.ensures.stopped)
