@@ -10,6 +10,7 @@ use Rattle.session_model.specs.declared.entry.Event.{Event}
 use Rattle.session_model.specs.declared.entry.Reply.{Reply}
 use Rattle.script_calls.specs.Lines.{Line, One, LookUp, Run, PeekAt}
 use Rattle.given_names.specs.Given.{Given, address_of}
+use Rattle.look_ends.proofs.Stopping.{stopped_begins}
 use Rattle.script_laws.specs.Lines.{AreLines, AtEnd, CallsOf, CopiesAndRuns, Goes, IsCopy, IsLine, OneCall, Stops}
 use Rattle.script_laws.specs.declared.line_end.LineEnd.{LineEnd}
 use Rattle.script_laws.specs.declared.line_end.LineEnd.TheVariants.{Looked, Peeked, Ran, Replied, Unfound}
@@ -94,7 +95,8 @@ lines_are_calls h given lines ends cs (AtEnd g) tame = tt
 lines_are_calls h given lines ends cs (Goes g line rest end more now later is goes) tame =
     each_joined NumberedClient now later (line_cost h g line end now tame.0 is).calls (lines_are_calls h _ rest more later goes tame.1)
 lines_are_calls h given lines ends cs (Stops g line rest st skipped now stopped skip) tame =
-    each_front NumberedClient now stopped.rest (calls_cost h g line (now ++ stopped.rest) tame.0 stopped.would).calls
+    let s = stopped_begins (CallsOf h g line) now st stopped in
+    each_front NumberedClient now s.rest (calls_cost h g line (now ++ s.rest) tame.0 s.would).calls
 
 pub lines_are_short : (h : List (Entry Meaning)) (given : Given) (lines : List Line) (ends : List LineEnd) (cs : List (ℕ × Entry Meaning)) → AreLines h given lines ends cs → AllByRecursion IsTame lines → AllByRecursion NumberedUnoffered cs → length cs ≤ total cost lines + 5 * total taken cs
 lines_are_short h given lines ends cs (AtEnd g) tame un = omega arith
@@ -103,5 +105,6 @@ lines_are_short h given lines ends cs (Goes g line rest end more now later is go
     let others = lines_are_short h _ rest more later goes tame.1 (each_back NumberedUnoffered now later un) in
     omega (arith, first, others, length-append now later, total_joined taken now later)
 lines_are_short h given lines ends cs (Stops g line rest st skipped now stopped skip) tame un =
-    let first = (calls_cost h g line (now ++ stopped.rest) tame.0 stopped.would).few now stopped.rest refl un in
+    let s = stopped_begins (CallsOf h g line) now st stopped in
+    let first = (calls_cost h g line (now ++ s.rest) tame.0 s.would).few now s.rest refl un in
     omega (arith, first)

@@ -17,7 +17,7 @@ use Rattle.orc_ids.specs.declared.lookup.Stop.{Stop}
 use Rattle.orc_ids.specs.declared.lookup.Stop.TheVariants as stop
 use Rattle.orc_ids.specs.declared.lookup.Wanted.{Wanted}
 use Rattle.session_model.specs.Answer.{answer_ask, answer_lookup, error_of, lodged_reply, missing_of, no_dylib, offer_of, order_dylibs, refused_lookup}
-use Rattle.session_model.specs.Calls.{EndsAsk, IsStopped, Lookup, Looks, Works, lookup_event}
+use Rattle.session_model.specs.Calls.{EndsAsk, Lookup, Looks, Works, lookup_event}
 use Rattle.session_model.specs.Calls.{Asks, Again}
 use Rattle.session_model.specs.Change.{matched}
 use Rattle.session_model.specs.Lists.{first_some, only_if}
@@ -51,6 +51,7 @@ use Rattle.seat_calls.proofs.Numbers.{taken_start}
 use Rattle.link_worker.specs.Does.{Does}
 use Rattle.link_worker.specs.Jobs.{IsCause, SpareAll}
 use Rattle.look_ends.specs.Ends.{EndsAs, LastIs}
+use Rattle.look_ends.specs.Stopped.{IsCutShort}
 use Rattle.link_worker.specs.Looks.{Asking, HasAwaited, HasLooked, HasSettled, IsAsked, IsLodgedBy, end_stopped, has_lodged, is_ask, left_of, lookup_of, offered_in}
 use Rattle.link_worker.specs.Works.{IsFree}
 use Rattle.look_ends.specs.declared.look_end.LookEnd.{LookEnd}
@@ -131,8 +132,8 @@ abbrev refused_entry : Lookup → Entry Meaning
 refused_entry l = record { seat = record { 0 = 0 }; event = lookup_event l; reply = reply.InError (record { 0 = 0 }) }
 
 -- a stop before the next ask
-asking_stopped : (l : Lookup) (h : List (Entry Meaning)) (cs : List (ℕ × Entry Meaning)) → Asking l h cs → IsStopped (Looks h l) cs
-asking_stopped l h cs a = record { rest = (0, refused_entry l) ∷ []; would = a.rest ((0, refused_entry l) ∷ []) (Asks 0 (refused_entry l) [] refl refl) }
+asking_stopped : (l : Lookup) (h : List (Entry Meaning)) (cs : List (ℕ × Entry Meaning)) → Asking l h cs → IsCutShort (Looks h l) cs
+asking_stopped l h cs a = record { rest = (0, refused_entry l) ∷ []; would = a.rest ((0, refused_entry l) ∷ []) (Asks 0 (refused_entry l) [] refl refl); more = λ e. cc }
 
 -- a generator was offered by the last call: its use, and a lookup, come after these calls
 record WasOffered (l : Lookup) (g : GenId) (h : List (Entry Meaning)) (cs : List (ℕ × Entry Meaning)) : Type 0 where
@@ -143,8 +144,8 @@ record WasOffered (l : Lookup) (g : GenId) (h : List (Entry Meaning)) (cs : List
 abbrev used_by : GenId → Entry Meaning
 used_by g = record { seat = record { 0 = 0 }; event = event.Generate g; reply = reply.Spent g }
 
-offered_stopped : (l : Lookup) (g : GenId) (h : List (Entry Meaning)) (cs : List (ℕ × Entry Meaning)) → WasOffered l g h cs → IsStopped (Looks h l) cs
-offered_stopped l g h cs a = record { rest = (0, used_by g) ∷ (0, refused_entry l) ∷ []; would = a.rest 0 (used_by g) ((0, refused_entry l) ∷ []) refl (Asks 0 (refused_entry l) [] refl refl) }
+offered_stopped : (l : Lookup) (g : GenId) (h : List (Entry Meaning)) (cs : List (ℕ × Entry Meaning)) → WasOffered l g h cs → IsCutShort (Looks h l) cs
+offered_stopped l g h cs a = record { rest = (0, used_by g) ∷ (0, refused_entry l) ∷ []; would = a.rest 0 (used_by g) ((0, refused_entry l) ∷ []) refl (Asks 0 (refused_entry l) [] refl refl); more = λ e. cc }
 
 -- a query was lodged by call n: what waits for it comes after these calls
 record Lodged (l : Lookup) (q : QueryId) (n : ℕ) (h : List (Entry Meaning)) (cs : List (ℕ × Entry Meaning)) : Type 0 where
@@ -203,13 +204,13 @@ module _ {U N : Type 0} (means : U → Meaning) (hears : N → Option Outcome) (
           still_free means jmax x y free _ t s.0,
         )
       where
-        cut : Did means x y Nothing → c ≡ b → Does means hears v y a c (λ h cs. IsStopped (Looks h l) cs × (back ≡ left_of then' cs))
-        cut none same = does_both means hears v x y a b c (Asking l) Nothing (λ h cs. IsStopped (Looks h l) cs × (back ≡ left_of then' cs))
-            (λ h cs ds w e. subst (λ z. IsStopped (Looks h l) z × (back ≡ left_of then' z)) (sym (append-nil cs) ∙ ap (λ z. cs ++ z) (sym e)) (asking_stopped l h cs w, t.did.1 ∙ ap (λ k. if k then None else then') (sym w.none)))
+        cut : Did means x y Nothing → c ≡ b → Does means hears v y a c (λ h cs. IsCutShort (Looks h l) cs × (back ≡ left_of then' cs))
+        cut none same = does_both means hears v x y a b c (Asking l) Nothing (λ h cs. IsCutShort (Looks h l) cs × (back ≡ left_of then' cs))
+            (λ h cs ds w e. subst (λ z. IsCutShort (Looks h l) z × (back ≡ left_of then' z)) (sym (append-nil cs) ∙ ap (λ z. cs ++ z) (sym e)) (asking_stopped l h cs w, t.did.1 ∙ ap (λ k. if k then None else then') (sym w.none)))
             so (subst (λ z. Does means hears x y b z Nothing) (sym same) (does_none means hears x y b Nothing (λ h. refl) none))
     ask_stopped stop.NoMemory back fires free t told = (
-      does_both means hears v x y a b c (Asking l) Nothing (λ h cs. IsStopped (Looks h l) cs × (back ≡ left_of then' cs))
-          (λ h cs ds w e. subst (λ z. IsStopped (Looks h l) z × (back ≡ left_of then' z)) (sym (append-nil cs) ∙ ap (λ z. cs ++ z) (sym e)) (asking_stopped l h cs w, t.did.1 ∙ ap (λ k. if k then None else then') (sym w.none)))
+      does_both means hears v x y a b c (Asking l) Nothing (λ h cs. IsCutShort (Looks h l) cs × (back ≡ left_of then' cs))
+          (λ h cs ds w e. subst (λ z. IsCutShort (Looks h l) z × (back ≡ left_of then' z)) (sym (append-nil cs) ∙ ap (λ z. cs ++ z) (sym e)) (asking_stopped l h cs w, t.did.1 ∙ ap (λ k. if k then None else then') (sym w.none)))
           so (subst (λ z. Does means hears x y b z Nothing) (sym (no_notices hears fires b c t.did.0.tells told)) (does_none means hears x y b Nothing (λ h. refl) (no_call means jmax x y _ t t.did.0.performs))),
       still_free means jmax x y free _ t t.did.0.performs,
     )
@@ -252,9 +253,9 @@ module _ {U N : Type 0} (means : U → Meaning) (hears : N → Option Outcome) (
         used_free r free u = free_after means jmax y z free _ u (event.Generate g) r u.did.grown (generate_untaken (state (plain_history means u.old)) y.number g r)
 
         -- the use was stopped
-        cut_use : Does means hears y z c c Nothing → Does means hears v z a c (λ h cs. IsStopped (Looks h l) cs × (back ≡ left_of then' cs))
-        cut_use none = does_both means hears v y z a c c (WasOffered l g) Nothing (λ h cs. IsStopped (Looks h l) cs × (back ≡ left_of then' cs))
-            (λ h cs ds w e. subst (λ k. IsStopped (Looks h l) k × (back ≡ left_of then' k)) (sym (append-nil cs) ∙ ap (λ k. cs ++ k) (sym e)) (offered_stopped l g h cs w, back_is ∙ ap (λ k. if k then None else then') (sym w.none)))
+        cut_use : Does means hears y z c c Nothing → Does means hears v z a c (λ h cs. IsCutShort (Looks h l) cs × (back ≡ left_of then' cs))
+        cut_use none = does_both means hears v y z a c c (WasOffered l g) Nothing (λ h cs. IsCutShort (Looks h l) cs × (back ≡ left_of then' cs))
+            (λ h cs ds w e. subst (λ k. IsCutShort (Looks h l) k × (back ≡ left_of then' k)) (sym (append-nil cs) ∙ ap (λ k. cs ++ k) (sym e)) (offered_stopped l g h cs w, back_is ∙ ap (λ k. if k then None else then') (sym w.none)))
             offered none
 
         pub use_stopped : (st : Stop) → IsFree means y → UseOf (Err st) → HasLooked means hears jmax v z a c l then' (end_stopped st) back × IsFree means z
@@ -328,9 +329,9 @@ module _ {U N : Type 0} (means : U → Meaning) (hears : N → Option Outcome) (
       left_none : (cs ds : List (ℕ × Entry Meaning)) → has_lodged cs ≡ true → back ≡ left_of then' (cs ++ ds)
       left_none cs ds e = gone ∙ ap (λ k. if k then None else then') (sym (lodged_both cs ds ∙ ap (λ k. k || has_lodged ds) e))
 
-      cut_wait : Does means hears y z c d (λ h cs. IsStopped (Works h q n) cs) → Does means hears v z a d (λ h cs. IsStopped (Looks h l) cs × (back ≡ left_of then' cs))
-      cut_wait s = does_both means hears v y z a c d (Lodged l q n) (λ h cs. IsStopped (Works h q n) cs) (λ h cs. IsStopped (Looks h l) cs × (back ≡ left_of then' cs))
-          (λ h cs ds w k. (record { rest = k.rest; would = subst (Looks h l) (sym (append_assoc cs ds k.rest)) (w.rest (ds ++ k.rest) k.would) }, left_none cs ds w.lodged)) first s
+      cut_wait : Does means hears y z c d (λ h cs. IsCutShort (Works h q n) cs) → Does means hears v z a d (λ h cs. IsCutShort (Looks h l) cs × (back ≡ left_of then' cs))
+      cut_wait s = does_both means hears v y z a c d (Lodged l q n) (λ h cs. IsCutShort (Works h q n) cs) (λ h cs. IsCutShort (Looks h l) cs × (back ≡ left_of then' cs))
+          (λ h cs ds w k. (record { rest = k.rest; would = subst (Looks h l) (sym (append_assoc cs ds k.rest)) (w.rest (ds ++ k.rest) k.would); more = k.more }, left_none cs ds w.lodged)) first s
 
       end_wait : (e : LookEnd) → Does means hears y z c d (λ h cs. Works h q n cs × EndsAs e cs × SpareAll cs) → Does means hears v z a d (λ h cs. Looks h l cs × EndsAs e cs × (back ≡ left_of then' cs) × SpareAll cs)
       end_wait e s = does_both means hears v y z a c d (Lodged l q n) (λ h cs. Works h q n cs × EndsAs e cs × SpareAll cs) (λ h cs. Looks h l cs × EndsAs e cs × (back ≡ left_of then' cs) × SpareAll cs)

@@ -2,7 +2,7 @@
 use Rattle.std.proofs.Common.{◌≡◌, ℕ, ◌<◌, ◌≤◌, true, false, List, [], ◌∷◌, ◌++◌, length, take, drop, slice_get, inl, inr, append-nil, append_assoc, length-take-le, take-append-drop, take-take, refl, sym, ap, subst, ◌∙◌, arith, Some, All}
 use Rattle.std.proofs.lemmas.List.Elements.{All-head, All-tail}
 use Rattle.orc_ids.specs.declared.ids.QueryId.{QueryId}
-use Rattle.session_model.specs.Calls.{IsJob, IsStopped, Works, is_collected}
+use Rattle.session_model.specs.Calls.{IsJob, Works, is_collected}
 use Rattle.session_model.specs.Calls.{Collects as Collected, Job as AJob}
 use Rattle.session_model.specs.Meaning.{Meaning}
 use Rattle.session_model.specs.Plain.{Plain, empty}
@@ -16,6 +16,7 @@ use Rattle.session_laws.proofs.Declared.{same_element, query_stays, state_from_j
 use Rattle.turn_lock.specs.declared.view.View.{View}
 use Rattle.link_worker.specs.Jobs.{SpareAll, is_cut_fail}
 use Rattle.look_ends.specs.Ends.{LastIs}
+use Rattle.look_ends.specs.Stopped.{IsCutShort}
 use Rattle.link_worker.specs.Looks.{Waits}
 use Rattle.link_worker.specs.Works.{OneJobAtMost}
 use Rattle.link_worker.proofs.Knowing.{Between}
@@ -108,11 +109,11 @@ abbrev collect_entry : QueryId → Entry Meaning
 collect_entry q = record { seat = record { 0 = 0 }; event = event.Collect q; reply = reply.Found 0 [] }
 
 -- a stop leaves the beginning of such a list
-pub waits_stopped : (q : QueryId) (n k : ℕ) (h : List (Entry Meaning)) (cs : List (ℕ × Entry Meaning)) → Waits q n k h cs → IsStopped (Works h q n) cs
-waits_stopped q n k h cs w = record { rest = (0, collect_entry q) ∷ []; would = w.rest ((0, collect_entry q) ∷ []) (Collected w.last 0 (collect_entry q) refl refl) }
+pub waits_stopped : (q : QueryId) (n k : ℕ) (h : List (Entry Meaning)) (cs : List (ℕ × Entry Meaning)) → Waits q n k h cs → IsCutShort (Works h q n) cs
+waits_stopped q n k h cs w = record { rest = (0, collect_entry q) ∷ []; would = w.rest ((0, collect_entry q) ∷ []) (Collected w.last 0 (collect_entry q) refl refl); more = λ e. cc }
 
 -- a job in which a call was stopped is the last of the calls
-cut_in : (q : QueryId) (n k : ℕ) (h : List (Entry Meaning)) (cs ds : List (ℕ × Entry Meaning)) → StillWaits q n k h cs → IsJob h ds → IsStopped (Works h q n) (cs ++ ds)
+cut_in : (q : QueryId) (n k : ℕ) (h : List (Entry Meaning)) (cs ds : List (ℕ × Entry Meaning)) → StillWaits q n k h cs → IsJob h ds → IsCutShort (Works h q n) (cs ++ ds)
 cut_in q n k h cs [] w job = absurd job
 cut_in q n k h cs (d ∷ ds) w job =
     let s = split_end d ds in
@@ -123,8 +124,9 @@ cut_in q n k h cs (d ∷ ds) w job =
       would = subst (Works h q n) (sym (append_assoc cs (d ∷ ds) end)) (x.rest ((d ∷ ds) ++ end)
           (subst (λ l. Works h q x.last (l ++ end)) (sym s.2) (subst (Works h q x.last) (sym (append_assoc s.0 (s.1 ∷ []) end))
           (AJob x.last 0 x.query s.1 s.0 end x.there w.open_then (subst (IsJob h) s.2 job) (Collected s.1.0 0 (collect_entry q) refl refl)))));
+      more = λ e. cc;
     }
 
-pub waits_cut : (q : QueryId) (n k m : ℕ) (h : List (Entry Meaning)) (cs ds : List (ℕ × Entry Meaning)) → k ≤ m → StillWaits q n k h cs → OneJobAtMost h ds → IsStopped (Works h q n) (cs ++ ds)
+pub waits_cut : (q : QueryId) (n k m : ℕ) (h : List (Entry Meaning)) (cs ds : List (ℕ × Entry Meaning)) → k ≤ m → StillWaits q n k h cs → OneJobAtMost h ds → IsCutShort (Works h q n) (cs ++ ds)
 waits_cut q n k m h cs ds within w (inl none) = waits_stopped q n m h (cs ++ ds) (waits_idle q n k m h cs ds within w none)
 waits_cut q n k m h cs ds within w (inr job) = cut_in q n k h cs ds w job

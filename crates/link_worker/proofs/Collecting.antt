@@ -8,7 +8,7 @@ use Rattle.orc_ids.specs.declared.ids.QueryId.{QueryId}
 use Rattle.orc_ids.specs.declared.lookup.Outcome.{Outcome}
 use Rattle.orc_ids.specs.declared.lookup.Stop.{Stop}
 use Rattle.orc_ids.specs.declared.lookup.Stop.TheVariants as stop
-use Rattle.session_model.specs.Calls.{IsStopped, Works}
+use Rattle.session_model.specs.Calls.{Works}
 use Rattle.session_model.specs.Meaning.{Meaning}
 use Rattle.session_model.specs.Plain.{Plain, empty, kept}
 use Rattle.session_model.specs.History.{HasPlaces, IsLegal}
@@ -32,6 +32,7 @@ use Rattle.seat_calls.proofs.Numbers.{plain_starts, taken_start}
 use Rattle.link_worker.specs.Does.{Does}
 use Rattle.link_worker.specs.Jobs.{IsCause, LacksPlaces, SpareAll}
 use Rattle.look_ends.specs.Ends.{EndsAs}
+use Rattle.look_ends.specs.Stopped.{IsCutShort}
 use Rattle.link_worker.specs.Looks.{HasAwaited, IsLodgedBy, Waits, end_in, end_stopped}
 use Rattle.link_worker.specs.Works.{IsFree, OneJob, OneJobAtMost}
 use Rattle.look_ends.specs.declared.look_end.LookEnd.{LookEnd}
@@ -108,12 +109,12 @@ module _ {U N : Type 0} (means : U → Meaning) (hears : N → Option Outcome) (
           still_free means jmax x y free _ t s.0,
         )
       where
-        cut : Does means hears x y b b Nothing → Does means hears v y a b (λ h cs. IsStopped (Works h q n) cs)
-        cut none = does_both means hears v x y a b b (Waits q n (seen_count means x)) Nothing (λ h cs. IsStopped (Works h q n) cs)
-            (λ h cs ds w e. subst (IsStopped (Works h q n)) (sym (append-nil cs) ∙ ap (λ l. cs ++ l) (sym e)) (waits_stopped q n (seen_count means x) h cs w)) so none
+        cut : Does means hears x y b b Nothing → Does means hears v y a b (λ h cs. IsCutShort (Works h q n) cs)
+        cut none = does_both means hears v x y a b b (Waits q n (seen_count means x)) Nothing (λ h cs. IsCutShort (Works h q n) cs)
+            (λ h cs ds w e. subst (IsCutShort (Works h q n)) (sym (append-nil cs) ∙ ap (λ l. cs ++ l) (sym e)) (waits_stopped q n (seen_count means x) h cs w)) so none
     collect_stopped stop.NoMemory free t = (
-      does_both means hears v x y a b b (Waits q n (seen_count means x)) Nothing (λ h cs. IsStopped (Works h q n) cs)
-          (λ h cs ds w e. subst (IsStopped (Works h q n)) (sym (append-nil cs) ∙ ap (λ l. cs ++ l) (sym e)) (waits_stopped q n (seen_count means x) h cs w)) so (does_none means hears x y b Nothing (λ h. refl) (no_call means jmax x y _ t t.did.0)),
+      does_both means hears v x y a b b (Waits q n (seen_count means x)) Nothing (λ h cs. IsCutShort (Works h q n) cs)
+          (λ h cs ds w e. subst (IsCutShort (Works h q n)) (sym (append-nil cs) ∙ ap (λ l. cs ++ l) (sym e)) (waits_stopped q n (seen_count means x) h cs w)) so (does_none means hears x y b Nothing (λ h. refl) (no_call means jmax x y _ t t.did.0)),
       still_free means jmax x y free _ t t.did.0,
     )
 
@@ -177,6 +178,6 @@ module _ {U N : Type 0} (means : U → Meaning) (hears : N → Option Outcome) (
     work_idle none = does_both means hears v y z a b c (StillWaits q n (seen_count means y)) Nothing (Waits q n (seen_count means z))
         (λ h cs ds w e. waits_idle q n (seen_count means y) (seen_count means z) h cs ds (count_grows means y z none.did.later) w e) so none
 
-    pub work_cut : Does means hears y z b c OneJobAtMost → Does means hears v z a c (λ h cs. IsStopped (Works h q n) cs)
-    work_cut job = does_both means hears v y z a b c (StillWaits q n (seen_count means y)) OneJobAtMost (λ h cs. IsStopped (Works h q n) cs)
+    pub work_cut : Does means hears y z b c OneJobAtMost → Does means hears v z a c (λ h cs. IsCutShort (Works h q n) cs)
+    work_cut job = does_both means hears v y z a b c (StillWaits q n (seen_count means y)) OneJobAtMost (λ h cs. IsCutShort (Works h q n) cs)
         (λ h cs ds w p. waits_cut q n (seen_count means y) (seen_count means z) h cs ds (count_grows means y z job.did.later) w p) so job

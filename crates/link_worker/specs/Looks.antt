@@ -9,7 +9,7 @@ use Rattle.orc_ids.specs.declared.lookup.Outcome.{Outcome}
 use Rattle.orc_ids.specs.declared.lookup.Stop.{Stop}
 use Rattle.orc_ids.specs.declared.lookup.Stop.TheVariants as stop
 use Rattle.orc_ids.specs.declared.lookup.Wanted.{Wanted}
-use Rattle.session_model.specs.Calls.{IsStopped, Lookup, Looks, Works}
+use Rattle.session_model.specs.Calls.{Lookup, Looks, Works}
 use Rattle.session_model.specs.Meaning.{Meaning}
 use Rattle.session_model.specs.State.{plain_history, state}
 use Rattle.session_model.specs.declared.entry.Entry.{Entry}
@@ -23,6 +23,7 @@ use Rattle.notifiers.specs.declared.notice.Notice.{Notice}
 use Rattle.notifiers.specs.declared.notice.Unheard.{Unheard}
 use Rattle.turn_lock.specs.declared.view.View.{View}
 use Rattle.look_ends.specs.Ends.{EndsAs}
+use Rattle.look_ends.specs.Stopped.{IsCutShort}
 use Rattle.link_worker.specs.Does.{Does}
 use Rattle.link_worker.specs.Jobs.{SpareAll}
 use Rattle.link_worker.specs.Works.{WasStopped}
@@ -79,8 +80,8 @@ module _ {U : Type 0} (means : U → Meaning) where
   module _ {N : Type 0} (heard : N → Option Outcome) (jmax : ℕ) (v w : View (Entry U)) (old new : List (Notice N)) where
     -- the calls since call n are jobs that were begun while the query was open, none of which was cut, and its end; or they were stopped
     abbrev pub HasAwaited : QueryId → ℕ → LookEnd → Type 0
-    HasAwaited q n (JournalFull len) = Does means heard v w old new (λ h cs. IsStopped (Works h q n) cs) × WasStopped means jmax v.seen w.seen (stop.JournalFull len)
-    HasAwaited q n NoMemory = Does means heard v w old new (λ h cs. IsStopped (Works h q n) cs)
+    HasAwaited q n (JournalFull len) = Does means heard v w old new (λ h cs. IsCutShort (Works h q n) cs) × WasStopped means jmax v.seen w.seen (stop.JournalFull len)
+    HasAwaited q n NoMemory = Does means heard v w old new (λ h cs. IsCutShort (Works h q n) cs)
     HasAwaited q n end = Does means heard v w old new (λ h cs. Works h q n cs × EndsAs end cs × SpareAll cs)
 
     -- what follows an ask that was answered so
@@ -94,8 +95,8 @@ module _ {U : Type 0} (means : U → Meaning) where
 
     -- The calls are those of a lookup, which ended so, and no job of it was cut; or it was stopped. What is left of the notifier is it, unless a query was lodged.
     abbrev pub HasLooked : Lookup → Option (Unheard N) → LookEnd → Option (Unheard N) → Type 0
-    HasLooked l then' (JournalFull len) back = Does means heard v w old new (λ h cs. IsStopped (Looks h l) cs × (back ≡ left_of then' cs)) × WasStopped means jmax v.seen w.seen (stop.JournalFull len)
-    HasLooked l then' NoMemory back = Does means heard v w old new (λ h cs. IsStopped (Looks h l) cs × (back ≡ left_of then' cs))
+    HasLooked l then' (JournalFull len) back = Does means heard v w old new (λ h cs. IsCutShort (Looks h l) cs × (back ≡ left_of then' cs)) × WasStopped means jmax v.seen w.seen (stop.JournalFull len)
+    HasLooked l then' NoMemory back = Does means heard v w old new (λ h cs. IsCutShort (Looks h l) cs × (back ≡ left_of then' cs))
     HasLooked l then' end back = Does means heard v w old new (λ h cs. Looks h l cs × EndsAs end cs × (back ≡ left_of then' cs) × SpareAll cs)
 
 -- the end of a lookup, by the reply to its collect; none while its query is open

@@ -7,7 +7,7 @@ use Rattle.orc_ids.specs.declared.lookup.Outcome.{Outcome}
 use Rattle.orc_ids.specs.declared.lookup.Stop.{Stop}
 use Rattle.orc_ids.specs.declared.lookup.Stop.TheVariants as stop
 use Rattle.code_memory.specs.declared.image.Segment.{Segment}
-use Rattle.session_model.specs.Calls.{IsStopped, Looks}
+use Rattle.session_model.specs.Calls.{Looks}
 use Rattle.session_model.specs.Meaning.{Meaning, Bindings}
 use Rattle.session_model.specs.State.{state}
 use Rattle.session_model.specs.declared.entry.Entry.{Entry}
@@ -16,6 +16,8 @@ use Rattle.notifiers.specs.declared.notice.Unheard.{Unheard}
 use Rattle.turn_lock.specs.declared.view.View.{View}
 use Rattle.seat_calls.specs.Did.{Did, Nothing, Then}
 use Rattle.seat_calls.proofs.Doing.{less_is_done, parts_are_done}
+use Rattle.look_ends.specs.Stopped.{IsCutShort}
+use Rattle.look_ends.proofs.Stopping.{cut_begins}
 use Rattle.link_worker.specs.Does.{Does, PlacesLowest, ToldAt}
 use Rattle.look_ends.specs.Ends.{EndsAs}
 use Rattle.link_worker.specs.Looks.{HasLooked, end_stopped, left_of}
@@ -36,9 +38,9 @@ module _ {U N : Type 0} (means : U → Meaning) (heard : N → Option Outcome) (
     found_end e does = less_is_done means v w (λ h cs. (Looks h (lookup_of entry) cs × EndsAs e cs × (back ≡ left_of then' cs) × SpareAll cs) × ToldAt h cs does.told × PlacesLowest h cs) (Ends entry e)
         (λ h cs k. (k.0.0, k.0.1, k.2, k.0.3)) does.did
 
-    stopped_end : Does means heard v w old new (λ h cs. IsStopped (Looks h (lookup_of entry)) cs × (back ≡ left_of then' cs)) → Did means v w (Begins entry)
-    stopped_end does = less_is_done means v w (λ h cs. (IsStopped (Looks h (lookup_of entry)) cs × (back ≡ left_of then' cs)) × ToldAt h cs does.told × PlacesLowest h cs) (Begins entry)
-        (λ h cs k. (k.0.0, k.2)) does.did
+    stopped_end : Does means heard v w old new (λ h cs. IsCutShort (Looks h (lookup_of entry)) cs × (back ≡ left_of then' cs)) → Did means v w (Begins entry)
+    stopped_end does = less_is_done means v w (λ h cs. (IsCutShort (Looks h (lookup_of entry)) cs × (back ≡ left_of then' cs)) × ToldAt h cs does.told × PlacesLowest h cs) (Begins entry)
+        (λ h cs k. (cut_begins (Looks h (lookup_of entry)) cs k.0.0, k.2)) does.did
 
     pub looked_up : (e : LookEnd) → HasLooked means heard jmax v w old new (lookup_of entry) then' e back → LookedUp means jmax entry v w e
     looked_up (end.Found matches) has = found_end (end.Found matches) has

@@ -7,7 +7,7 @@ use Rattle.code_memory.specs.Mapped.{byte_at}
 use Rattle.code_memory.specs.declared.image.Segment.{Segment}
 use Rattle.exec_run.specs.Run.{RunsTo}
 use Rattle.exec_run.specs.declared.ran.RunEnd.{RunEnd}
-use Rattle.session_model.specs.Calls.{IsStopped, Looks}
+use Rattle.session_model.specs.Calls.{Looks}
 use Rattle.session_model.specs.Meaning.{Meaning}
 use Rattle.session_model.specs.Plain.{address_at}
 use Rattle.session_model.specs.Reach.{IsReady}
@@ -17,6 +17,7 @@ use Rattle.session_model.specs.declared.entry.Event.{Event}
 use Rattle.session_model.specs.declared.entry.Event.TheVariants as event
 use Rattle.session_model.specs.declared.entry.Reply.{Reply}
 use Rattle.look_ends.specs.Ends.{EndsAs}
+use Rattle.look_ends.specs.Stopped.{IsStoppedBy}
 use Rattle.look_ends.specs.declared.look_end.LookEnd.TheVariants as look
 use Rattle.look_ends.specs.declared.peeked.Peek.{Peek}
 use Rattle.look_ends.specs.declared.peeked.Peek.TheVariants as peek
@@ -85,11 +86,11 @@ AreSkipped [] [] = ⊤
 AreSkipped (line ∷ lines) (Skipped ∷ ends) = AreSkipped lines ends
 AreSkipped lines ends = ⊥
 
--- The lines made these calls, one line after the other, and each ended so. One that was stopped made the beginning of its calls, and
--- the lines after it are skipped, without a call.
+-- The lines made these calls, one line after the other, and each ended so. One that was stopped made the beginning of its calls,
+-- but the one that found no place, if one did; and the lines after it are skipped, without a call.
 pub data AreLines (h : List (Entry Meaning)) : Given → List Line → List LineEnd → List (ℕ × Entry Meaning) → Type 0 where
   AtEnd : (given : Given) → AreLines h given [] [] []
   Goes : (given : Given) (line : Line) (lines : List Line) (end : LineEnd) (ends : List LineEnd) (now later : List (ℕ × Entry Meaning)) →
       IsLine h given line end now → AreLines h (given_by line end ++ given) lines ends later → AreLines h given (line ∷ lines) (end ∷ ends) (now ++ later)
   Stops : (given : Given) (line : Line) (lines : List Line) (st : Stop) (skipped : List LineEnd) (now : List (ℕ × Entry Meaning)) →
-      IsStopped (CallsOf h given line) now → AreSkipped lines skipped → AreLines h given (line ∷ lines) (Stopped st ∷ skipped) now
+      IsStoppedBy st (CallsOf h given line) now → AreSkipped lines skipped → AreLines h given (line ∷ lines) (Stopped st ∷ skipped) now

@@ -39,7 +39,7 @@ gone_on given done ends line e h cs ds before now lines es later more =
     (subst (AreLines h [] (done ++ line ∷ lines) (ends ++ e ∷ es)) (sym (append_assoc cs ds later)) whole))
 
 -- or stopped
-halted_in : (given : Given) (done : List Line) (ends : List LineEnd) (line : Line) (st : Stop) (h : List (Entry Meaning)) (cs ds : List (ℕ × Entry Meaning)) → Going given done ends h cs → Begins given line h ds → Halted (done ++ line ∷ []) (ends ++ end.Stopped st ∷ []) h (cs ++ ds)
+halted_in : (given : Given) (done : List Line) (ends : List LineEnd) (line : Line) (st : Stop) (h : List (Entry Meaning)) (cs ds : List (ℕ × Entry Meaning)) → Going given done ends h cs → Begins st given line h ds → Halted (done ++ line ∷ []) (ends ++ end.Stopped st ∷ []) h (cs ++ ds)
 halted_in given done ends line st h cs ds before now lines es skipped =
     let whole = before (line ∷ lines) (end.Stopped st ∷ es) ds (Stops given line lines st es ds now skipped) in
     subst (λ l. AreLines h [] l ((ends ++ end.Stopped st ∷ []) ++ es) (cs ++ ds)) (longer done line lines)
@@ -115,7 +115,7 @@ module _ {U N : Type 0} (means : U → Meaning) (heard : N → Option Outcome) (
   later_of given line (end.Peeked p) v w a b has = has.did.later
   later_of given line end.Skipped v w a b has = has.did.later
 
-  stop_of : (given : Given) (line : Line) (st : Stop) (e : LineEnd) (v w : View (Entry U)) (a b : List (Notice N)) → e ≡ end.Stopped st → HasDone means heard jmax given line e v w a b → Does means heard v w a b (Begins given line) × WasStopped means jmax v.seen w.seen st
+  stop_of : (given : Given) (line : Line) (st : Stop) (e : LineEnd) (v w : View (Entry U)) (a b : List (Notice N)) → e ≡ end.Stopped st → HasDone means heard jmax given line e v w a b → Does means heard v w a b (Begins st given line) × WasStopped means jmax v.seen w.seen st
   stop_of given line st e v w a b is has = subst (λ x. HasDone means heard jmax given line x v w a b) is has
 
   -- a line, and then no call
@@ -165,7 +165,7 @@ module _ {U N : Type 0} (means : U → Meaning) (heard : N → Option Outcome) (
         by (inl (st, is)) = record {
           going = λ isnt. absurd (both_ways (is_stopped e) isnt (ap is_stopped is));
           halted = λ yes. subst (λ y. Does means heard v w a c (Halted (lines ++ line ∷ []) (ends ++ y ∷ []))) (sym is)
-              (does_both means heard v x w a b c (Going went.0 lines ends) (Begins went.0 line) (Halted (lines ++ line ∷ []) (ends ++ end.Stopped st ∷ [])) (halted_in went.0 lines ends line st) went.2 (stop_of went.0 line st e x w b c is has).0);
+              (does_both means heard v x w a b c (Going went.0 lines ends) (Begins st went.0 line) (Halted (lines ++ line ∷ []) (ends ++ end.Stopped st ∷ [])) (halted_in went.0 lines ends line st) went.2 (stop_of went.0 line st e x w b c is has).0);
           causes = causes;
         }
         by (inr none) = record {

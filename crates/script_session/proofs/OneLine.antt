@@ -15,7 +15,7 @@ use Rattle.code_memory.specs.Mapped.{byte_at}
 use Rattle.code_memory.specs.declared.image.Segment.{Segment}
 use Rattle.exec_run.specs.Run.{RunsTo}
 use Rattle.exec_run.specs.declared.ran.RunEnd.{RunEnd}
-use Rattle.session_model.specs.Calls.{Asks, IsStopped, Lookup, Looks, lookup_event}
+use Rattle.session_model.specs.Calls.{Asks, Lookup, Looks, lookup_event}
 use Rattle.session_model.specs.History.{places}
 use Rattle.session_model.specs.Meaning.{Bindings, Meaning}
 use Rattle.session_model.specs.Plain.{kept}
@@ -37,6 +37,8 @@ use Rattle.shared_session.specs.Does.{Tells, seat}
 use Rattle.turn_lock.specs.declared.view.View.{View}
 use Rattle.seat_calls.specs.Did.{Did, Nothing, Promise}
 use Rattle.seat_calls.proofs.Doing.{less_is_done, nothing_is_done}
+use Rattle.look_ends.specs.Stopped.{IsCutShort}
+use Rattle.look_ends.proofs.Stopping.{cut_by}
 use Rattle.link_worker.specs.Does.{Call, Does, Nobody, PlacesLowest, ToldAt}
 use Rattle.link_worker.specs.Jobs.{IsCause, SpareAll}
 use Rattle.look_ends.specs.Ends.{EndsAs}
@@ -65,14 +67,14 @@ abbrev some_entry : Event Meaning → Reply → Entry Meaning
 some_entry e r = record { seat = seat 0; event = e; reply = r }
 
 -- before its first call, each line that has one has made the beginning of its calls
-none_begins_one : (h : List (Entry Meaning)) (given : Given) (e : Event Meaning) → IsStopped (CallsOf h given (One e)) []
-none_begins_one h given e = record { rest = (0, some_entry e reply.Set) ∷ []; would = (reply.Set, (0, some_entry e reply.Set, refl, refl, refl)) }
+none_begins_one : (h : List (Entry Meaning)) (given : Given) (e : Event Meaning) → IsCutShort (CallsOf h given (One e)) []
+none_begins_one h given e = record { rest = (0, some_entry e reply.Set) ∷ []; would = (reply.Set, (0, some_entry e reply.Set, refl, refl, refl)); more = λ e. cc }
 
-none_begins_lookup : (h : List (Entry Meaning)) (given : Given) (l : Lookup) → IsStopped (CallsOf h given (LookUp l)) []
-none_begins_lookup h given l = record { rest = (0, some_entry (lookup_event l) (reply.Missing (record { 0 = 0 }))) ∷ []; would = Asks 0 (some_entry (lookup_event l) (reply.Missing (record { 0 = 0 }))) [] refl refl }
+none_begins_lookup : (h : List (Entry Meaning)) (given : Given) (l : Lookup) → IsCutShort (CallsOf h given (LookUp l)) []
+none_begins_lookup h given l = record { rest = (0, some_entry (lookup_event l) (reply.Missing (record { 0 = 0 }))) ∷ []; would = Asks 0 (some_entry (lookup_event l) (reply.Missing (record { 0 = 0 }))) [] refl refl; more = λ e. cc }
 
-none_begins_run : (h : List (Entry Meaning)) (given : Given) (name : NameId) (fuel : ℕ) (args : List ℕ) (address : ℕ) → address_of name given ≡ Some address → IsStopped (CallsOf h given (Run name fuel args)) []
-none_begins_run h given name fuel args address is = record { rest = (0, some_entry event.Image reply.Image) ∷ []; would = (address, is, refl) }
+none_begins_run : (h : List (Entry Meaning)) (given : Given) (name : NameId) (fuel : ℕ) (args : List ℕ) (address : ℕ) → address_of name given ≡ Some address → IsCutShort (CallsOf h given (Run name fuel args)) []
+none_begins_run h given name fuel args address is = record { rest = (0, some_entry event.Image reply.Image) ∷ []; would = (address, is, refl); more = λ e. cc }
 
 module _ {U N : Type 0} (means : U → Meaning) (heard : N → Option Outcome) (jmax : ℕ) (v w : View (Entry U)) (given : Given) where
   -- a call that was answered, or stopped
@@ -84,8 +86,8 @@ module _ {U N : Type 0} (means : U → Meaning) (heard : N → Option Outcome) (
   entry_of e r = record { seat = seat v.number; event = e; reply = r }
 
   -- nothing was called, and nobody told
-  stopped_first : (line : Line) (st : Stop) (told : List (Notice N)) → ((h : List (Entry Meaning)) → IsStopped (CallsOf h given line) []) → Did means v w Nothing → WasStopped means jmax v.seen w.seen st → HasDone means heard jmax given line (Stopped st) v w told told
-  stopped_first line st told begins none was = (does_none means heard v w told (Begins given line) begins none, was)
+  stopped_first : (line : Line) (st : Stop) (told : List (Notice N)) → ((h : List (Entry Meaning)) → IsCutShort (CallsOf h given line) []) → Did means v w Nothing → WasStopped means jmax v.seen w.seen st → HasDone means heard jmax given line (Stopped st) v w told told
+  stopped_first line st told begins none was = (does_none means heard v w told (Begins st given line) (λ h. cut_by (CallsOf h given line) [] st (begins h)) none, was)
 
   -- a call that was stopped made no entry
   stopped_call : (e : Event U) (st : Stop) → ((old : List (Entry U)) → places (state_of means old) v.number (plain_event means e) ≡ 1) → Performed e (Err st) → Did means v w Nothing × WasStopped means jmax v.seen w.seen st
@@ -153,7 +155,7 @@ module _ {U N : Type 0} (means : U → Meaning) (heard : N → Option Outcome) (
     -- the memory was copied, and there was none to run it in
     pub not_ran : (memory : List Segment) → CopiesAt means v w memory → HasDone means heard jmax given (Run name fuel args) (Stopped stop.NoMemory) v w told told
     not_ran memory copied = (
-      copy_does memory (Begins given (Run name fuel args)) (λ h n c image has. record { rest = []; would = (address, is, image) }) copied,
+      copy_does memory (Begins stop.NoMemory given (Run name fuel args)) (λ h n c image has. record { rest = []; would = (address, is, image) }) copied,
       stopped_now means jmax v.seen w.seen stop.NoMemory copied.later tt,
     )
 
@@ -168,15 +170,15 @@ module _ {U N : Type 0} (means : U → Meaning) (heard : N → Option Outcome) (
   -- a lookup whose notifier couldn't be made
   pub not_armed : (l : Lookup) (told : List (Notice N)) → w ≡ v → HasDone means heard jmax given (LookUp l) (Stopped stop.NoMemory) v w told told
   not_armed l told same = subst (λ x. HasDone means heard jmax given (LookUp l) (Stopped stop.NoMemory) v x told told) (sym same)
-      (does_none means heard v v told (Begins given (LookUp l)) (λ h. none_begins_lookup h given l) (nothing_is_done means v), stopped_now means jmax v.seen v.seen stop.NoMemory ([], sym (append-nil v.seen)) tt)
+      (does_none means heard v v told (Begins stop.NoMemory given (LookUp l)) (λ h. cut_by (CallsOf h given (LookUp l)) [] stop.NoMemory (none_begins_lookup h given l)) (nothing_is_done means v), stopped_now means jmax v.seen v.seen stop.NoMemory ([], sym (append-nil v.seen)) tt)
 
   -- a lookup
   module _ (old new : List (Notice N)) (l : Lookup) (then' back : Option (Unheard N)) where
     ended : (e : LookEnd) → Does means heard v w old new (λ h cs. Looks h l cs × EndsAs e cs × (back ≡ left_of then' cs) × SpareAll cs) → Does means heard v w old new (Makes given (LookUp l) (Looked e))
     ended e does = does_less means heard v w old new (λ h cs. Looks h l cs × EndsAs e cs × (back ≡ left_of then' cs) × SpareAll cs) (Makes given (LookUp l) (Looked e)) (λ h cs k. (k.0, k.1)) does
 
-    cut : Does means heard v w old new (λ h cs. IsStopped (Looks h l) cs × (back ≡ left_of then' cs)) → Does means heard v w old new (Begins given (LookUp l))
-    cut does = does_less means heard v w old new (λ h cs. IsStopped (Looks h l) cs × (back ≡ left_of then' cs)) (Begins given (LookUp l)) (λ h cs k. k.0) does
+    cut : (st : Stop) → Does means heard v w old new (λ h cs. IsCutShort (Looks h l) cs × (back ≡ left_of then' cs)) → Does means heard v w old new (Begins st given (LookUp l))
+    cut st does = does_less means heard v w old new (λ h cs. IsCutShort (Looks h l) cs × (back ≡ left_of then' cs)) (Begins st given (LookUp l)) (λ h cs k. cut_by (Looks h l) cs st k.0) does
 
     pub looked : (e : LookEnd) → HasLooked means heard jmax v w old new l then' e back → HasDone means heard jmax given (LookUp l) (lookup_end e) v w old new
     looked (look.Found matches) has = ended (look.Found matches) has
@@ -184,14 +186,14 @@ module _ {U N : Type 0} (means : U → Meaning) (heard : N → Option Outcome) (
     looked (look.InError i) has = ended (look.InError i) has
     looked (look.Missing name) has = ended (look.Missing name) has
     looked (look.NoDylib d) has = ended (look.NoDylib d) has
-    looked (look.JournalFull len) has = (cut has.0, has.1)
-    looked look.NoMemory has = let d = cut has in (d, stopped_now means jmax v.seen w.seen stop.NoMemory d.did.later tt)
+    looked (look.JournalFull len) has = (cut (stop.JournalFull len) has.0, has.1)
+    looked look.NoMemory has = let d = cut stop.NoMemory has in (d, stopped_now means jmax v.seen w.seen stop.NoMemory d.did.later tt)
 
     -- one that was found, and then there was no memory for the addresses
     pub found_and_stopped : (matches : Bindings) → HasLooked means heard jmax v w old new l then' (look.Found matches) back → HasDone means heard jmax given (LookUp l) (Stopped stop.NoMemory) v w old new
     found_and_stopped matches has =
         let d = ended (look.Found matches) has in (
-          does_less means heard v w old new (Makes given (LookUp l) (Looked (look.Found matches))) (Begins given (LookUp l)) (λ h cs k. record { rest = []; would = subst (Looks h l) (sym (append-nil cs)) k.0 }) d,
+          does_less means heard v w old new (Makes given (LookUp l) (Looked (look.Found matches))) (Begins stop.NoMemory given (LookUp l)) (λ h cs k. record { rest = []; would = subst (Looks h l) (sym (append-nil cs)) k.0 }) d,
           stopped_now means jmax v.seen w.seen stop.NoMemory d.did.later tt,
         )
 

@@ -2,12 +2,12 @@
 use Rattle.std.specs.Prelude.{◌≡◌, ◌≤◌, ℕ, Bool, true, false, List, [], ◌++◌, slice_get, vec_capacity, All, Option, None, Some}
 use Rattle.orc_ids.specs.declared.lookup.Outcome.{Outcome}
 use Rattle.orc_ids.specs.declared.lookup.Stop.{Stop}
-use Rattle.session_model.specs.Calls.{IsStopped}
 use Rattle.session_model.specs.Meaning.{Meaning}
 use Rattle.session_model.specs.declared.entry.Entry.{Entry}
 use Rattle.notifiers.specs.declared.notice.Notice.{Notice}
 use Rattle.turn_lock.specs.declared.view.View.{View}
 use Rattle.seat_calls.specs.Did.{Promise}
+use Rattle.look_ends.specs.Stopped.{IsStoppedBy}
 use Rattle.link_worker.specs.Does.{Does}
 use Rattle.link_worker.specs.Works.{WasStopped}
 use Rattle.given_names.specs.Given.{Given}
@@ -29,12 +29,12 @@ pub record IsEmpty {N : Type 0} (lines : ℕ) (client : ClientEnd N) : Type 0 wh
 abbrev pub AreUnheard : {N : Type 0} → (N → Option Outcome) → (N → ℕ) → List (ℕ × N) → Type 0
 AreUnheard heard number notes = All (λ w. (heard w.1 ≡ None) × (number w.1 ≡ w.0)) notes
 
--- the calls of a line, which ended so; or the beginning of them
+-- the calls of a line, which ended so; or those of one that was stopped
 abbrev pub Makes : Given → Line → LineEnd → Promise
 Makes given line end h cs = IsLine h given line end cs
 
-abbrev pub Begins : Given → Line → Promise
-Begins given line h cs = IsStopped (CallsOf h given line) cs
+abbrev pub Begins : Stop → Given → Line → Promise
+Begins st given line h cs = IsStoppedBy st (CallsOf h given line) cs
 
 -- the calls of lines, which ended so
 abbrev pub MakesAll : List Line → List LineEnd → Promise
@@ -51,7 +51,7 @@ Halted done ends h cs = (lines : List Line) (es : List LineEnd) → AreSkipped l
 module _ {U N : Type 0} (means : U → Meaning) (heard : N → Option Outcome) (jmax : ℕ) where
   -- the seat did a line, which ended so; names were given these addresses before
   abbrev pub HasDone : Given → Line → LineEnd → View (Entry U) → View (Entry U) → List (Notice N) → List (Notice N) → Type 0
-  HasDone given line (Stopped st) v w old new = Does means heard v w old new (Begins given line) × WasStopped means jmax v.seen w.seen st
+  HasDone given line (Stopped st) v w old new = Does means heard v w old new (Begins st given line) × WasStopped means jmax v.seen w.seen st
   HasDone given line end v w old new = Does means heard v w old new (Makes given line end)
 
   -- the seat did some lines, and was stopped in one, or not; the table has the addresses that names were given

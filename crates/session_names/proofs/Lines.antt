@@ -12,6 +12,7 @@ use Rattle.session_model.specs.declared.entry.Event.{Event}
 use Rattle.session_model.specs.declared.entry.Reply.{Reply}
 use Rattle.session_model.specs.declared.entry.Reply.TheVariants as reply
 use Rattle.journal_text.specs.Replies.{KnownReply}
+use Rattle.look_ends.proofs.Stopping.{stopped_begins}
 use Rattle.look_ends.specs.Ends.{EndsAs, LastIs}
 use Rattle.look_ends.specs.declared.look_end.LookEnd.{LookEnd}
 use Rattle.look_ends.specs.declared.look_end.LookEnd.TheVariants as look
@@ -70,7 +71,9 @@ lines_speak names h given lines ends cs named (AtEnd g) = tt
 lines_speak names h given lines ends cs named (Goes g line more end later now after is goes) = joined names ⊤ now after
     (run_line_speaks names ⊤ h g line end now named.0 is)
     (lines_speak names h (given_by line end ++ g) more later after named.1 goes)
-lines_speak names h given lines ends cs named (Stops g line more st skipped now stopped none) = front names ⊤ now stopped.rest (calls_speak names ⊤ h g line (now ++ stopped.rest) named.0 stopped.would)
+lines_speak names h given lines ends cs named (Stops g line more st skipped now stopped none) =
+    let s = stopped_begins (CallsOf h g line) now st stopped in
+    front names ⊤ now s.rest (calls_speak names ⊤ h g line (now ++ s.rest) named.0 s.would)
 
 -- The end of a line
 
