@@ -1,11 +1,11 @@
 -- Generators whose units are defined, and those that are spent for nothing.
 use Rattle.std.proofs.Common.{◌≡◌, ℕ, ◌+◌, ◌<◌, ◌≤◌, true, false, [], length, slice_get, Option, Some, None, Result, Ok, Err, refl, ap, sym, subst, ◌∙◌}
-use Rattle.std.specs.Prelude.{◌&&◌, ◌==◌, not, is_none, option_map, nat_le, nat_lt, unwrap_or, IfOk, OnOk}
+use Rattle.std.specs.Prelude.{◌&&◌, ◌==◌, not, is_none, is_some, option_map, nat_le, nat_lt, unwrap_or, IfOk, OnOk}
 use Rattle.std.specs.Bool.{if◌then◌else◌}
 use Rattle.std.specs.List.{list_any}
 use Rattle.std.specs.Option.{option_map_or}
 use Rattle.std.proofs.lemmas.Bool.{and_parts, both_ways, eq-eqb, ltb-false, leb-false, not-true, or_parts}
-use Rattle.std.proofs.lemmas.Option.{same_Some}
+use Rattle.std.proofs.lemmas.Option.{none-some, same_Some}
 use Rattle.generators.specs.Rows.{gen_row}
 use Rattle.generators.specs.declared.generator.Generator.{Generator}
 use Rattle.jit_dylib.specs.Rows.{IsRefusedBy}
@@ -136,6 +136,23 @@ owned_by_its means p m g x are there its = by_track (slice_get m.trackers x.trac
     by_track : (o : Option Track) → slice_get m.trackers x.tracker ≡ o → option_map_or (λ (y : Track). not y.gone && y.dylib == x.dylib) o false ≡ true → owns_generator p.trackers (record { 0 = x.tracker }) g ≡ true
     by_track None e f = absurd (both_ways false refl f)
     by_track (Some y) e f = by_owned (within (slice_get p.trackers.tracks x.tracker)) refl (are.kept.owners.gone x.tracker y e ∙ not-true y.gone (and_parts (not y.gone) (y.dylib == x.dylib) f).0)
+
+pub some_mapped : {A B : Type 0} (f : A → B) (o : Option A) (p : Option B) → option_map f o ≡ p → is_some p ≡ true → is_some o ≡ true
+some_mapped f None p e there = ap is_some e ∙ there
+some_mapped f (Some x) p e there = refl
+
+pub generator_there : {U N : Type 0} (means : U → Meaning) (p : Parts U N) (m : Plain) (g : GenId) → AreParts means p m → AcceptsGenerate m g → is_some (slice_get p.generators.rows g.0) ≡ true
+generator_there {U} {N} means p m g are a = by (slice_get p.generators.rows g.0) refl
+  where
+    by : (o : Option (Generator U)) → slice_get p.generators.rows g.0 ≡ o → is_some (slice_get p.generators.rows g.0) ≡ true
+    by (Some x) e = ap is_some e
+    by None e = absurd (none-some a.generator (sym (are.kept.generators.rows g.0 ∙ ap (option_map (gen_row means (generator_tracker m.generators g.0))) e) ∙ a.there))
+
+pub owner_there : {U N : Type 0} (means : U → Meaning) (p : Parts U N) (m : Plain) (g : GenId) (o : Option TrackId) → AreParts means p m → UnspentAreThere m → AcceptsGenerate m g →
+    ((t : TrackId) → owns_generator p.trackers t g ≡ true → o ≡ Some t) → is_some o ≡ true
+owner_there means p m g o are unspent a owner =
+    let y = a.generator in
+    ap is_some (owner (record { 0 = y.tracker }) (owned_by_its means p m g y are a.there (unspent g.0 y a.there a.unspent)))
 
 pub ready_by : {U N : Type 0} (means : U → Meaning) (p : Parts U N) (m : Plain) (g : GenId) (x : Generator U) (t : TrackId) (unit : U) (o : Option TrackId) → AreParts means p m → UnspentAreThere m → AcceptsGenerate m g → slice_get p.generators.rows g.0 ≡ Some x →
     ((t : TrackId) → owns_generator p.trackers t g ≡ true → o ≡ Some t) → o ≡ Some t → means unit ≡ means x.unit → IsReady m g x.dylib t (means unit)

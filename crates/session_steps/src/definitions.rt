@@ -129,12 +129,8 @@ impl<U: UnitKind, N: Notify> Live<U, N> {
         requires accepted { AcceptsGenerate m g }
         ensures { IfOk result (λ x. IsReady m g x.dylib x.tracker (U.meaning x.unit)) }
     {
-        let Some(generator) = self.parts.generators.get(g) else {
-            return Err(AllocError);
-        };
-        let Some(tracker) = self.parts.trackers.owner(g) else {
-            return Err(AllocError);
-        };
+        let generator = self.parts.generators.get(g).unwrap();
+        let tracker = self.parts.trackers.owner(g).unwrap();
         let unit = generator.unit.share(self.parts.alloc)?;
         Ok(Generated {
             dylib: generator.dylib,
