@@ -7,12 +7,15 @@
 use answers::{Answer, end_line};
 use command_line::UsageKind;
 use orc_cli::orc;
-use orc_io::{FolderFiles, Note, OpenGate, Sink, StdSink, StdSource, write_all};
+use orc_io::{Files, FolderFiles, Note, OpenGate, Sink, Source, StdSink, StdSource, write_all};
 use std::alloc::Global;
 use std::io::ErrorKind;
 use std::process::ExitCode;
+use std::random::RandomSource;
 use std::rc::RcStr;
 use std::rt::Env;
+use std::sync::Wait;
+use std::thread::Threads;
 use std::{env, io};
 
 /// How many notifiers a call is handed.
@@ -29,10 +32,7 @@ fn main(rt: HostRuntime) -> ExitCode {
     let Ok(runtime) = runtime else {
         return refuse(alloc, &mut log, Answer::NoMemory);
     };
-    let Ok(notes) = Note::numbered(alloc, NOTES) else {
-        return refuse(alloc, &mut log, Answer::NoMemory);
-    };
-    let ended = orc(
+    end_of_call(
         &rt,
         alloc,
         words.as_slice(),
@@ -40,9 +40,23 @@ fn main(rt: HostRuntime) -> ExitCode {
         &mut FolderFiles::new(runtime),
         &mut StdSink::new(rt.stdout()),
         &mut log,
-        &OpenGate,
-        notes,
-    );
+    )
+}
+
+/// Makes the call of these words over this outside, and ends with its status.
+fn end_of_call<R: Threads + Wait + Sync + RandomSource, S: Source, F: Files, O: Sink, L: Sink>(
+    rt: &R,
+    alloc: Global,
+    words: &[RcStr],
+    source: &mut S,
+    files: &mut F,
+    out: &mut O,
+    log: &mut L,
+) -> ExitCode {
+    let Ok(notes) = Note::numbered(alloc, NOTES) else {
+        return refuse(alloc, log, Answer::NoMemory);
+    };
+    let ended = orc(rt, alloc, words, source, files, out, log, &OpenGate, notes);
     ExitCode::from(ended.status)
 }
 

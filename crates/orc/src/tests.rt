@@ -2,7 +2,7 @@
 //!
 //! They stand in the crate of the program, and so need no library of their own. A test is a call, or a table of calls,
 //! that `playing` makes: `calls` says what one is made of and comes to, `contents` has the files, `expected` the texts
-//! that are looked for, and `outside` the devices. `run`, `session`, `assembly` and `generation` have the calls of a
+//! that are looked for, and `outside` the devices. `ends` has the status that the program ends with. `run`, `session`, `assembly` and `generation` have the calls of a
 //! command each, and `gate` two sessions whose jobs wait for each other.
 //!
 //! The objects are those that other assemblers make, or are assembled here. What programs and sessions write was
@@ -10,6 +10,7 @@
 mod assembly;
 mod calls;
 mod contents;
+mod ends;
 mod expected;
 mod gate;
 mod generation;

@@ -4,11 +4,12 @@ ghost use Rattle.std.specs.Prelude.{◌≤◌};
 use super::calls::{Call, Reads};
 use super::outside::{Outside, SureOutside};
 use super::texts::text_of;
+use crate::end_of_call;
 use orc_cli::{Ended, JOURNAL_LIMIT, Noted, Notes, orc, orc_sized};
 use orc_ids::Outcome;
 use orc_io::{Files, Gate, Note, OpenGate, Sink, Source};
 use std::alloc::{AllocError, Global};
-use std::process::Abort;
+use std::process::{Abort, ExitCode};
 use std::random::RandomSource;
 use std::rc::RcStr;
 use std::sync::Wait;
@@ -100,6 +101,39 @@ pub fn expect_each_surely<R: Threads + Wait + Sync + RandomSource + Abort + Allo
     for call in calls {
         expect_surely(rt, call)?;
     }
+    Ok(())
+}
+
+/// Makes a call as the program does, and looks whether it ends with the call's status.
+pub fn expect_exit<R: Threads + Wait + Sync + RandomSource + Abort + AllocGlobal>(
+    rt: &R,
+    call: &Call,
+) -> Result<(), Fail> {
+    let mut outside = Outside::new(rt.alloc(), call)?;
+    let words = words_of(rt.alloc(), call.words)?;
+    let exit = end_of_call(
+        rt,
+        rt.alloc(),
+        words.as_slice(),
+        &mut outside.source,
+        &mut outside.files,
+        &mut outside.out,
+        &mut outside.log,
+    );
+    assert_eq!(rt;
+        exit,
+        ExitCode::from(call.status),
+        "the end of {words:?}",
+        words = call.words
+    );
+    expect_texts(
+        rt,
+        call,
+        call.status,
+        outside.out.bytes(),
+        outside.log.bytes(),
+    );
+    expect_reads(rt, call, &outside);
     Ok(())
 }
 
