@@ -11,7 +11,8 @@ use Rattle.session_model.specs.declared.entry.Reply.{Reply}
 use Rattle.script_calls.specs.Lines.{Line, One, LookUp, Run, PeekAt}
 use Rattle.given_names.specs.Given.{Given, address_of}
 use Rattle.look_ends.proofs.Stopping.{stopped_begins}
-use Rattle.script_laws.specs.Lines.{AreLines, AtEnd, CallsOf, CopiesAndRuns, Goes, IsCopy, IsLine, OneCall, Stops}
+use Rattle.run_laws.specs.Runs.{IsCopy}
+use Rattle.script_laws.specs.Lines.{AreLines, AtEnd, CallsOf, CopiesAndRuns, Goes, IsLine, OneCall, Stops}
 use Rattle.script_laws.specs.declared.line_end.LineEnd.{LineEnd}
 use Rattle.script_laws.specs.declared.line_end.LineEnd.TheVariants.{Looked, Peeked, Ran, Replied, Unfound}
 use Rattle.run_laws.proofs.Costs.{Costs, NumberedCall, NumberedUnoffered, each_back, each_front, each_joined, front_length, looks_cost, taken, total_joined}

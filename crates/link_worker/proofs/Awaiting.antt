@@ -17,6 +17,7 @@ use Rattle.turn_lock.specs.declared.view.View.{View}
 use Rattle.link_worker.specs.Jobs.{SpareAll, is_cut_fail}
 use Rattle.look_ends.specs.Ends.{LastIs}
 use Rattle.look_ends.specs.Stopped.{IsCutShort}
+use Rattle.look_ends.proofs.Lasts.{split_end}
 use Rattle.link_worker.specs.Looks.{Waits}
 use Rattle.link_worker.specs.Works.{OneJobAtMost}
 use Rattle.link_worker.proofs.Knowing.{Between}
@@ -27,10 +28,6 @@ use Rattle.link_worker.proofs.Sparing.{spare_both, spare_one}
 split_last : {X : Type 0} (P : X → Type 0) (x : X) (xs : List X) → All P (x ∷ xs) → (before : List X) × (last : X) × (x ∷ xs ≡ before ++ last ∷ []) × P last
 split_last P x [] a = ([], x, refl, All-head P x [] a)
 split_last P x (y ∷ ys) a = let r = split_last P y ys (All-tail P x (y ∷ ys) a) in (x ∷ r.0, r.1, ap (λ l. x ∷ l) r.2, r.3)
-
-split_end : {X : Type 0} (x : X) (xs : List X) → (before : List X) × (last : X) × (x ∷ xs ≡ before ++ last ∷ [])
-split_end x [] = ([], x, refl)
-split_end x (y ∷ ys) = let r = split_end y ys in (x ∷ r.0, r.1, ap (λ l. x ∷ l) r.2)
 
 -- how many entries a pass has seen
 abbrev pub seen_count : {U : Type 0} → (U → Meaning) → View (Entry U) → ℕ

@@ -7,7 +7,7 @@ use Rattle.orc_ids.specs.declared.ids.NameId.{NameId}
 use Rattle.orc_ids.specs.declared.lookup.Stop.{Stop}
 use Rattle.orc_ids.specs.declared.lookup.Stop.TheVariants as stop
 use Rattle.code_memory.specs.declared.image.Segment.{Segment}
-use Rattle.session_model.specs.Calls.{IsStopped, Looks, numbered_calls}
+use Rattle.session_model.specs.Calls.{Looks, numbered_calls}
 use Rattle.session_model.specs.Meaning.{Meaning}
 use Rattle.session_model.specs.State.{plain_history}
 use Rattle.session_model.specs.declared.entry.Entry.{Entry}
@@ -24,12 +24,13 @@ use Rattle.seat_calls.proofs.Numbers.{starts_again}
 use Rattle.link_worker.specs.Does.{PlacesLowest}
 use Rattle.link_worker.specs.Jobs.{SpareAll, is_cut_fail}
 use Rattle.look_ends.specs.Ends.{LastIs}
+use Rattle.look_ends.specs.Stopped.{IsCutShort}
 use Rattle.look_ends.specs.declared.look_end.LookEnd.{LookEnd}
 use Rattle.look_ends.specs.declared.look_end.LookEnd.TheVariants as look
 use Rattle.program_names.specs.Programs.{setup_events}
 use Rattle.run_laws.specs.Ended.{Ended, InDefinition, InSetUp, InLookup, NotThere, NotReady, IsReady, IsRefusedAt, IsRun, NoneIsCut, is_cut, is_whole}
 use Rattle.run_laws.specs.Laws.{EndsLookup}
-use Rattle.run_laws.specs.Runs.{AreJobs, IsRunBy, IsSetUp, NoJob, lookup_of}
+use Rattle.run_laws.specs.Runs.{AreJobs, IsRunBy, IsSetUp, LooksAndCopies, NoJob, lookup_of}
 use Rattle.run_laws.specs.declared.linked.Linked.{Linked}
 use Rattle.run_laws.specs.declared.linked.Linked.TheVariants as linked
 use Rattle.run_laws.proofs.Ends.{lookup_ends_so}
@@ -292,11 +293,11 @@ module _ {U : Type 0} (means : U → Meaning) (jmax workers : ℕ) (main entry :
       client_ended (look.JournalFull len) None (did, stopped) =
           let m = client_made (Begins entry) did in (
             tt,
-            λ l is. subst IsIt (sym is) (InLookup (stop.JournalFull len) set (subst (IsStopped (Looks h (lookup_of entry))) (sym m.calls) m.holds.0) (cause_in means jmax (stop.JournalFull len) log stopped.0 (starts_again log client.after.seen stopped.0 client.kept.later stopped.1) stopped.3)),
+            λ l is. subst IsIt (sym is) (InLookup (stop.JournalFull len) set (subst (IsCutShort (LooksAndCopies h entry)) (sym m.calls) m.holds.0) (cause_in means jmax (stop.JournalFull len) log stopped.0 (starts_again log client.after.seen stopped.0 client.kept.later stopped.1) stopped.3)),
           )
       client_ended look.NoMemory None did =
           let m = client_made (Begins entry) did in
-          (tt, λ l is. subst IsIt (sym is) (InLookup stop.NoMemory set (subst (IsStopped (Looks h (lookup_of entry))) (sym m.calls) m.holds.0) tt))
+          (tt, λ l is. subst IsIt (sym is) (InLookup stop.NoMemory set (subst (IsCutShort (LooksAndCopies h entry)) (sym m.calls) m.holds.0) tt))
       client_ended (look.Failed i) (Some memory) none = absurd none
       client_ended (look.InError i) (Some memory) none = absurd none
       client_ended (look.Missing name) (Some memory) none = absurd none

@@ -1,5 +1,5 @@
 -- What a lookup comes to, and a copy of the memory after it.
-use Rattle.std.proofs.Common.{◌≡◌, ℕ, ◌-◌, Bool, true, false, List, [], ◌∷◌, ◌++◌, take, append-nil, refl, sym, ap, subst, ◌∙◌, Option, None, Result, Ok, Err}
+use Rattle.std.proofs.Common.{◌≡◌, ℕ, ◌-◌, Bool, true, false, MatchBool, List, [], ◌∷◌, ◌++◌, take, append-nil, append_assoc, refl, sym, ap, subst, ◌∙◌, Option, None, Result, Ok, Err}
 use Rattle.std.proofs.lemmas.Bool.{both_ways}
 use Rattle.std.proofs.lemmas.List.Elements.{All-append, All-cons, All-nil}
 use Rattle.orc_ids.specs.declared.ids.NameId.{NameId}
@@ -11,13 +11,16 @@ use Rattle.session_model.specs.Calls.{Looks}
 use Rattle.session_model.specs.Meaning.{Meaning, Bindings}
 use Rattle.session_model.specs.State.{state}
 use Rattle.session_model.specs.declared.entry.Entry.{Entry}
+use Rattle.session_model.specs.declared.entry.Event.TheVariants as event
+use Rattle.session_model.specs.declared.entry.Reply.TheVariants as reply
+use Rattle.shared_session.specs.Does.{seat}
 use Rattle.notifiers.specs.declared.notice.Notice.{Notice}
 use Rattle.notifiers.specs.declared.notice.Unheard.{Unheard}
 use Rattle.turn_lock.specs.declared.view.View.{View}
 use Rattle.seat_calls.specs.Did.{Did, Nothing, Then}
 use Rattle.seat_calls.proofs.Doing.{less_is_done, parts_are_done}
 use Rattle.look_ends.specs.Stopped.{IsCutShort}
-use Rattle.look_ends.proofs.Stopping.{cut_begins}
+use Rattle.look_ends.proofs.Lasts.{split_end}
 use Rattle.link_worker.specs.Does.{Does, PlacesLowest, ToldAt}
 use Rattle.look_ends.specs.Ends.{EndsAs}
 use Rattle.link_worker.specs.Looks.{HasLooked, end_stopped, left_of}
@@ -27,9 +30,65 @@ use Rattle.link_worker.specs.Jobs.{SpareAll, is_cut_fail}
 use Rattle.link_worker.proofs.Sparing.{spare_both, spare_one}
 use Rattle.link_worker.proofs.Telling.{is_placing, places_nothing, IsCalledLowest}
 use Rattle.link_worker.proofs.Working.{stopped_since}
-use Rattle.run_laws.specs.Runs.{lookup_of}
+use Rattle.run_laws.specs.Runs.{IsCopy, LooksAndCopies, has_found, lookup_of}
 use Rattle.linked_program.specs.Clients.{Begins, Copies, Ends, IsClient, LookedUp, found_in}
 use Rattle.seat_work.specs.Copies.{CopiesAt, IsStoppedAt, OneCopy}
+
+-- What was still to come
+
+abbrev some_copy : ℕ × Entry Meaning
+some_copy = (0, record { seat = seat 0; event = event.Image; reply = reply.Image })
+
+-- a copy where the lookup has found the entry
+abbrev copied_after : Bool → List (ℕ × Entry Meaning)
+copied_after true = some_copy ∷ []
+copied_after false = []
+
+copies_after : (b : Bool) → MatchBool b (IsCopy (copied_after b)) (copied_after b ≡ [])
+copies_after true = refl
+copies_after false = refl
+
+more_than : {X : Type 0} (xs ys : List X) → (xs ≡ [] → ⊥) → xs ++ ys ≡ [] → ⊥
+more_than [] ys more e = more refl
+more_than (x ∷ xs) ys more e = absurd (cc)
+
+-- the rest of a lookup, and the copy
+cut_in_lookup : (h : List (Entry Meaning)) (entry : NameId) (cs : List (ℕ × Entry Meaning)) → IsCutShort (Looks h (lookup_of entry)) cs → IsCutShort (LooksAndCopies h entry) cs
+cut_in_lookup h entry cs s = by s.rest s.would s.more
+  where
+    by : (rest : List (ℕ × Entry Meaning)) → Looks h (lookup_of entry) (cs ++ rest) → (rest ≡ [] → ⊥) → IsCutShort (LooksAndCopies h entry) cs
+    by [] looks more = absurd (more refl)
+    by (r ∷ rs) looks more =
+        let s = split_end r rs in
+        let found = has_found s.1.1.reply in
+        let are : cs ++ (r ∷ rs) ≡ (cs ++ s.0) ++ s.1 ∷ [] = ap (λ l. cs ++ l) s.2 ∙ sym (append_assoc cs s.0 (s.1 ∷ [])) in
+        record {
+          rest = (r ∷ rs) ++ copied_after found;
+          would = record {
+            before = cs ++ s.0;
+            last = s.1;
+            copied = copied_after found;
+            are = sym (append_assoc cs (r ∷ rs) (copied_after found)) ∙ ap (λ l. l ++ copied_after found) are;
+            looks = subst (Looks h (lookup_of entry)) are looks;
+            copies = copies_after found;
+          };
+          more = more_than (r ∷ rs) (copied_after found) more;
+        }
+
+-- the copy alone
+cut_in_copy : (h : List (Entry Meaning)) (entry : NameId) (cs : List (ℕ × Entry Meaning)) (m : Bindings) → Looks h (lookup_of entry) cs → EndsAs (end.Found m) cs → IsCutShort (LooksAndCopies h entry) cs
+cut_in_copy h entry cs m looks (at, last) = record {
+  rest = some_copy ∷ [];
+  would = record {
+    before = last.before;
+    last = (last.number, last.entry);
+    copied = some_copy ∷ [];
+    are = ap (λ l. l ++ some_copy ∷ []) last.are;
+    looks = subst (Looks h (lookup_of entry)) last.are looks;
+    copies = subst (λ r. MatchBool (has_found r) (IsCopy (some_copy ∷ [])) (some_copy ∷ [] ≡ [])) (sym last.reply) refl;
+  };
+  more = λ e. absurd (cc);
+}
 
 module _ {U N : Type 0} (means : U → Meaning) (heard : N → Option Outcome) (jmax : ℕ) (v w : View (Entry U)) (old new : List (Notice N)) where
   -- what a lookup of the entry came to, whoever was told
@@ -40,7 +99,7 @@ module _ {U N : Type 0} (means : U → Meaning) (heard : N → Option Outcome) (
 
     stopped_end : Does means heard v w old new (λ h cs. IsCutShort (Looks h (lookup_of entry)) cs × (back ≡ left_of then' cs)) → Did means v w (Begins entry)
     stopped_end does = less_is_done means v w (λ h cs. (IsCutShort (Looks h (lookup_of entry)) cs × (back ≡ left_of then' cs)) × ToldAt h cs does.told × PlacesLowest h cs) (Begins entry)
-        (λ h cs k. (cut_begins (Looks h (lookup_of entry)) cs k.0.0, k.2)) does.did
+        (λ h cs k. (cut_in_lookup h entry cs k.0.0, k.2)) does.did
 
     pub looked_up : (e : LookEnd) → HasLooked means heard jmax v w old new (lookup_of entry) then' e back → LookedUp means jmax entry v w e
     looked_up (end.Found matches) has = found_end (end.Found matches) has
@@ -91,7 +150,7 @@ module _ {U : Type 0} (means : U → Meaning) (jmax : ℕ) (entry : NameId) (v x
 
   only_looked : Did means x w Nothing → Did means v w (Begins entry)
   only_looked none = less_is_done means v w (Then (Ends entry (end.Found m)) Nothing) (Begins entry)
-      (λ h cs t. subst (Begins entry h) (sym (t.2 ∙ (ap (λ l. t.0 ++ l) t.4 ∙ append-nil t.0))) (record { rest = []; would = subst (Looks h (lookup_of entry)) (sym (append-nil t.0)) t.3.0 }, t.3.2))
+      (λ h cs t. subst (Begins entry h) (sym (t.2 ∙ (ap (λ l. t.0 ++ l) t.4 ∙ append-nil t.0))) (cut_in_copy h entry t.0 m t.3.0 t.3.1, t.3.2))
       (parts_are_done means v x w (Ends entry (end.Found m)) Nothing found_first none)
 
   pub looked_and_stopped : (st : Stop) → IsStoppedAt means jmax x w st → IsClient means jmax entry v w (end_stopped st) None

@@ -3,7 +3,7 @@ use Rattle.std.specs.Prelude.{◌≡◌, ℕ, List, [], ◌∷◌, ◌++◌, tak
 use Rattle.orc_ids.specs.declared.ids.NameId.{NameId}
 use Rattle.orc_ids.specs.declared.lookup.Stop.TheVariants as stop
 use Rattle.code_memory.specs.declared.image.Segment.{Segment}
-use Rattle.session_model.specs.Calls.{IsStopped, Looks}
+use Rattle.session_model.specs.Calls.{Looks}
 use Rattle.session_model.specs.Meaning.{Meaning, Bindings}
 use Rattle.session_model.specs.State.{state}
 use Rattle.session_model.specs.declared.entry.Entry.{Entry}
@@ -14,18 +14,19 @@ use Rattle.seat_calls.specs.Did.{Did, Promise}
 use Rattle.link_worker.specs.Does.{PlacesLowest}
 use Rattle.link_worker.specs.Jobs.{SpareAll}
 use Rattle.look_ends.specs.Ends.{EndsAs}
+use Rattle.look_ends.specs.Stopped.{IsCutShort}
 use Rattle.link_worker.specs.Works.{WasStopped}
 use Rattle.look_ends.specs.declared.look_end.LookEnd.{LookEnd}
 use Rattle.look_ends.specs.declared.look_end.LookEnd.TheVariants.{Found, JournalFull, NoMemory}
-use Rattle.run_laws.specs.Runs.{lookup_of}
+use Rattle.run_laws.specs.Runs.{LooksAndCopies, lookup_of}
 use Rattle.linked_program.specs.declared.client.ClientEnd.{ClientEnd}
 
--- the calls of a lookup of the entry, which ended so, and no job of which was cut; or the beginning of them
+-- the calls of a lookup of the entry, which ended so, and no job of which was cut; or the client's calls as far as one was stopped
 abbrev pub Ends : NameId → LookEnd → Promise
 Ends entry end h cs = Looks h (lookup_of entry) cs × EndsAs end cs × PlacesLowest h cs × SpareAll cs
 
 abbrev pub Begins : NameId → Promise
-Begins entry h cs = IsStopped (Looks h (lookup_of entry)) cs × PlacesLowest h cs
+Begins entry h cs = IsCutShort (LooksAndCopies h entry) cs × PlacesLowest h cs
 
 -- the calls of a lookup that found the entry, and then a copy of the memory
 pub record Copies (entry : NameId) (end : LookEnd) (memory : List Segment) (h : List (Entry Meaning)) (cs : List (ℕ × Entry Meaning)) : Type 0 where

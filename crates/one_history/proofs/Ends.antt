@@ -21,20 +21,11 @@ use Rattle.program_names.specs.Programs.{setup_events}
 use Rattle.run_laws.specs.Ended.{Ended, IsRefusedAt, IsRun, client_calls, is_whole}
 use Rattle.run_laws.specs.declared.linked.Linked.{Linked}
 use Rattle.run_laws.specs.declared.linked.Linked.TheVariants as linked
-use Rattle.run_laws.proofs.Seats.{call_stands, calls_past, legal_at, never_empty, same_head, same_last, same_tail}
+use Rattle.run_laws.proofs.Seats.{call_stands, calls_past, legal_at, never_empty, same_front, same_last}
 use Rattle.one_history.specs.Beginnings.{EndAlike}
 use Rattle.one_history.proofs.Runs.{events_count}
 
 -- Lists
-
-same_front : {X : Type 0} (xs ys : List X) (x y : X) → xs ++ x ∷ [] ≡ ys ++ y ∷ [] → xs ≡ ys
-same_front [] [] x y e = refl
-same_front [] (z ∷ zs) x y e = never_empty zs y [] (sym (same_tail x z [] (zs ++ y ∷ []) e))
-same_front (z ∷ zs) [] x y e = never_empty zs x [] (same_tail z y (zs ++ x ∷ []) [] e)
-same_front (z ∷ zs) (w ∷ ws) x y e = cons (same_head z w (zs ++ x ∷ []) (ws ++ y ∷ []) e) (same_front zs ws x y (same_tail z w (zs ++ x ∷ []) (ws ++ y ∷ []) e))
-  where
-    cons : z ≡ w → zs ≡ ws → z ∷ zs ≡ w ∷ ws
-    cons a b = ap (λ c. c ∷ zs) a ∙ ap (λ l. w ∷ l) b
 
 same_bytes : (f g : ℕ → Option ℕ) → ((a : ℕ) → f a ≡ g a) → f ≡ g
 same_bytes f g h = λ i a. h a i

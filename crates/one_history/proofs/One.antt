@@ -16,9 +16,10 @@ use Rattle.session_laws.proofs.Declared.{mapped_some}
 use Rattle.session_laws.specs.Entries.{entries}
 use Rattle.program_names.specs.Programs.{first_dylib, first_tracker, is_done, setup_events}
 use Rattle.run_laws.specs.Ended.{Ended, IsRefusedAt, IsRun, IsSetUpTo, client_calls, is_whole}
-use Rattle.run_laws.specs.Runs.{IsSetUp, lookup_of}
+use Rattle.run_laws.specs.Runs.{IsSetUp, has_found, lookup_of}
 use Rattle.run_laws.specs.declared.linked.Linked.{Linked}
 use Rattle.run_laws.specs.declared.linked.Linked.TheVariants as linked
+use Rattle.run_laws.proofs.Cutting.{cut_client}
 use Rattle.run_laws.proofs.Seats.{same_head, same_tail}
 use Rattle.one_history.specs.Beginnings.{AreOne, EdgesAreTold, EndAlike, IsBeginning, IsSpared, StopsClean}
 use Rattle.one_history.specs.Laws.{OneHistory, WholeRunsAreOne}
@@ -26,7 +27,7 @@ use Rattle.one_history.proofs.Ends.{ends_alike}
 use Rattle.one_history.proofs.Fronts.{Same, left}
 use Rattle.one_history.proofs.Lookups.{Stands, stands_front}
 use Rattle.one_history.proofs.Runs.{client_is, edges_are_told, events_count, goes, is_spared, later_is, one_seat, stands_numbered, turn}
-use Rattle.one_history.proofs.Sets.{Client, IsCopy, Sets, clients, ends_found, is_found, sets}
+use Rattle.one_history.proofs.Sets.{Client, IsCopy, Sets, clients, ends_found, sets}
 
 -- Lists
 
@@ -48,7 +49,7 @@ left_few (suc m) (x ∷ xs) n b = left_few m xs n (omega (arith, b))
 left_none : {X : Type 0} (m : ℕ) (xs : List X) → m ≤ length xs → left m xs ≡ zero
 left_none m xs b = omega (arith, left_few m xs 0 (omega (arith, b)))
 
-last_found : (xs : List (Entry Meaning)) (e : Entry Meaning) → ends_found (xs ++ e ∷ []) ≡ is_found e.reply
+last_found : (xs : List (Entry Meaning)) (e : Entry Meaning) → ends_found (xs ++ e ∷ []) ≡ has_found e.reply
 last_found [] e = refl
 last_found (x ∷ []) e = refl
 last_found (x ∷ y ∷ ys) e = last_found (y ∷ ys) e
@@ -212,21 +213,21 @@ module _ (jmax : ℕ) (main entry : NameId) (units : List Meaning) (h : List (En
     ends = λ w. refl;
   }
 
-  found_as : (before : List (ℕ × Entry Meaning)) (n : ℕ) (c : Entry Meaning) (b : Bool) → is_found c.reply ≡ b → ends_found (entries (before ++ (n, c) ∷ [])) ≡ b
+  found_as : (before : List (ℕ × Entry Meaning)) (n : ℕ) (c : Entry Meaning) (b : Bool) → has_found c.reply ≡ b → ends_found (entries (before ++ (n, c) ∷ [])) ≡ b
   found_as before n c b is = ap ends_found (map-append (λ (d : ℕ × Entry Meaning). d.1) before ((n, c) ∷ [])) ∙ (last_found (entries before) c ∙ is)
 
-  no_copy : (m : ℕ) (last : Linked) → m ≤ length h → IsSetUp main units run.setup → (before : List (ℕ × Entry Meaning)) (n : ℕ) (c : Entry Meaning) → client_calls h ≡ before ++ (n, c) ∷ [] → Looks h (lookup_of entry) (before ++ (n, c) ∷ []) → is_found c.reply ≡ false → Process m last
+  no_copy : (m : ℕ) (last : Linked) → m ≤ length h → IsSetUp main units run.setup → (before : List (ℕ × Entry Meaning)) (n : ℕ) (c : Entry Meaning) → client_calls h ≡ before ++ (n, c) ∷ [] → Looks h (lookup_of entry) (before ++ (n, c) ∷ []) → has_found c.reply ≡ false → Process m last
   no_copy m last b s before n c calls looks none = ended_so m last b s (before ++ (n, c) ∷ []) [] (calls ∙ sym (append-nil (before ++ (n, c) ∷ []))) looks
       (let empty : List (Entry Meaning) = [] in subst (λ f. MatchBool f (IsCopy empty) (empty ≡ [])) (sym (found_as before n c false none)) refl)
 
   process : (m : ℕ) (last : Linked) → m ≤ length h → Ended jmax main entry units h run.setup run.later last → Process m last
   process m last b (Ended.InDefinition k r none) = refused m k (linked.Refused k) r none
   process m last b (Ended.InSetUp n st first is few none cause) = cut_short m n (linked.Stopped st) b first few none refl
-  process m last b (Ended.InLookup st s stopped cause) = looked m (linked.Stopped st) b s stopped refl
-  process m last b (Ended.NotThere before n c s calls looks is) = no_copy m linked.Missing b s before n c calls looks (ap is_found is)
-  process m last b (Ended.NotReady before n c at i s calls looks is) = no_copy m (linked.Failed i) b s before n c calls looks (ap is_found is)
+  process m last b (Ended.InLookup st s stopped cause) = looked m (linked.Stopped st) b s (cut_client h entry (client_calls h) stopped) refl
+  process m last b (Ended.NotThere before n c s calls looks is) = no_copy m linked.Missing b s before n c calls looks (ap has_found is)
+  process m last b (Ended.NotReady before n c at i s calls looks is) = no_copy m (linked.Failed i) b s before n c calls looks (ap has_found is)
   process m last b (Ended.IsReady before k n at address c copy i ranges s calls looks is image memory) = ended_so m (linked.Found address ranges) b s (before ++ (k, c) ∷ []) ((n, copy) ∷ []) calls looks
-      (subst (λ f. MatchBool f (copy.event ≡ event.Image) (copy ∷ [] ≡ [])) (sym (found_as before k c true (ap is_found is))) image)
+      (subst (λ f. MatchBool f (copy.event ≡ event.Image) (copy ∷ [] ≡ [])) (sym (found_as before k c true (ap has_found is))) image)
 
   processed : (m : ℕ) → m ≤ length h → Process m end
   processed m b = process m end b run.ended

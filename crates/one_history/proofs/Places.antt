@@ -23,6 +23,7 @@ use Rattle.run_laws.specs.Ended.{Ended, IsRun, client_calls}
 use Rattle.run_laws.specs.Runs.{IsRunBy, IsSetUp, lookup_of}
 use Rattle.run_laws.specs.declared.linked.Linked.{Linked}
 use Rattle.run_laws.proofs.Calm.{IsCall, after_many}
+use Rattle.run_laws.proofs.Cutting.{cut_client}
 use Rattle.run_laws.proofs.Costs.{each_front}
 use Rattle.run_laws.proofs.Ready.{IsReady, set_up_ready, setup_length}
 use Rattle.run_laws.proofs.Seats.{legal_at, same_head, same_tail}
@@ -78,7 +79,7 @@ module _ (jmax : ℕ) (main entry : NameId) (units : List Meaning) (h : List (En
   short : (last : Linked) → Ended jmax main entry units h run.setup run.later last → length run.later ≤ 3 + 12 * length units
   short last (Ended.InDefinition k r none) = none_short none
   short last (Ended.InSetUp n st first is few none cause) = none_short none
-  short last (Ended.InLookup st s stopped cause) = short_by s (client_calls h) [] (sym (append-nil (client_calls h))) stopped.rest stopped.would (All-nil IsCopy) (omega arith)
+  short last (Ended.InLookup st s stopped cause) = let b = cut_client h entry (client_calls h) stopped in short_by s (client_calls h) [] (sym (append-nil (client_calls h))) b.rest b.would (All-nil IsCopy) (omega arith)
   short last (Ended.NotThere before n c s calls looks is) = whole_by s (before ++ (n, c) ∷ []) calls looks
   short last (Ended.NotReady before n c at i s calls looks is) = whole_by s (before ++ (n, c) ∷ []) calls looks
   short last (Ended.IsReady before m n at address c copy i ranges s calls looks is image memory) = short_by s (before ++ (m, c) ∷ []) ((n, copy) ∷ []) calls [] (subst (Looks h (lookup_of entry)) (sym (append-nil (before ++ (m, c) ∷ []))) looks)

@@ -31,6 +31,7 @@ use Rattle.run_laws.specs.Ended.{Ended, IsRefusedAt, IsRun, client_calls, is_cut
 use Rattle.run_laws.specs.Runs.{IsSetUp, lookup_of}
 use Rattle.run_laws.specs.declared.linked.Linked.{Linked}
 use Rattle.run_laws.proofs.Calm.{IsCall, IsUnoffered, Unoffered, is_call, is_offer, never_offered}
+use Rattle.run_laws.proofs.Cutting.{cut_client}
 use Rattle.run_laws.proofs.Costs.{NumberedCall, each_front, each_joined, looks_cost}
 use Rattle.run_laws.proofs.Ready.{set_up_ready, setup_length}
 use Rattle.run_laws.proofs.Seats.{calls_past, legal_at}
@@ -197,7 +198,8 @@ module _ (jmax : ℕ) (main entry : NameId) (units : List Meaning) (h : List (En
   ended_parts : (last : Linked) → Ended jmax main entry units h run.setup run.later last → Parts units main run.setup run.later
   ended_parts last (Ended.InDefinition k refused none) = refused_parts k refused none
   ended_parts last (Ended.InSetUp n st first is few none cause) = unfinished (front_set main units n run.setup first.events) (omega (arith, is, few)) none
-  ended_parts last (Ended.InLookup st s stopped cause) = set_up_parts s (each_front NumberedCall (client_calls h) stopped.rest (looks_cost h (lookup_of entry) (client_calls h ++ stopped.rest) stopped.would).calls)
+  ended_parts last (Ended.InLookup st s stopped cause) = let b = cut_client h entry (client_calls h) stopped in
+      set_up_parts s (each_front NumberedCall (client_calls h) b.rest (looks_cost h (lookup_of entry) (client_calls h ++ b.rest) b.would).calls)
   ended_parts last (Ended.NotThere before n c s calls looks is) = set_up_parts s (subst (AllByRecursion NumberedCall) (sym calls) (looks_cost h (lookup_of entry) (before ++ (n, c) ∷ []) looks).calls)
   ended_parts last (Ended.NotReady before n c at i s calls looks is) = set_up_parts s (subst (AllByRecursion NumberedCall) (sym calls) (looks_cost h (lookup_of entry) (before ++ (n, c) ∷ []) looks).calls)
   ended_parts last (Ended.IsReady before m n at address c copy i ranges s calls looks is image memory) = set_up_parts s (subst (AllByRecursion NumberedCall) (sym calls)

@@ -11,7 +11,7 @@ use Rattle.session_model.specs.declared.entry.Reply.{Reply}
 use Rattle.session_model.specs.declared.entry.Reply.TheVariants as reply
 use Rattle.session_laws.specs.Entries.{entries}
 use Rattle.program_names.specs.Programs.{is_done}
-use Rattle.run_laws.specs.Runs.{lookup_of}
+use Rattle.run_laws.specs.Runs.{has_found, lookup_of}
 use Rattle.one_history.proofs.Fronts.{Same, left, same_behind, same_far, same_inside}
 use Rattle.one_history.proofs.Lookups.{Stands, goes_behind, goes_front, looks}
 use Rattle.one_history.proofs.Phases.{Goes, step, step_on}
@@ -23,14 +23,10 @@ Sets P m past (v ∷ vs) [] = ⊥
 Sets P zero past (v ∷ vs) (e ∷ es) = ⊤
 Sets P (suc m) past (v ∷ vs) (e ∷ es) = (e.event ≡ v) × MatchBool (is_done e.reply) (Sets P m (past ++ e ∷ []) vs es) (es ≡ [])
 
-abbrev pub is_found : Reply → Bool
-is_found (reply.Found at matches) = true
-is_found r = false
-
 -- the last entry found the names
 abbrev pub ends_found : List (Entry Meaning) → Bool
 ends_found [] = false
-ends_found (e ∷ []) = is_found e.reply
+ends_found (e ∷ []) = has_found e.reply
 ends_found (e ∷ f ∷ es) = ends_found (f ∷ es)
 
 abbrev pub IsCopy : List (Entry Meaning) → Type 0

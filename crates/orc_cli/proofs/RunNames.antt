@@ -19,6 +19,7 @@ use Rattle.run_laws.specs.Ended.{Ended, IsRefusedAt, IsRun, IsSetUpTo, client_ca
 use Rattle.run_laws.specs.Runs.{IsSetUp, lookup_of}
 use Rattle.run_laws.specs.declared.linked.Linked.{Linked}
 use Rattle.run_laws.proofs.Costs.{each_joined}
+use Rattle.run_laws.proofs.Cutting.{cut_client}
 use Rattle.run_laws.proofs.Seats.{calls_past}
 use Rattle.spoken_names.specs.Speaking.{Speaks}
 use Rattle.spoken_names.proofs.Seats.{IsNamed, IsNamedEntry, each_taken, of_events, setup_speaks, spoken_known}
@@ -77,9 +78,9 @@ module _ (names : List (List ℕ)) (jmax workers : ℕ) (main entry : NameId) (u
   known_run : (last : Linked) → Ended jmax main entry units h run.setup run.later last → IsKnownRun names h run.setup
   known_run last (Ended.InDefinition k refused none) = record { setup_is = refused_named k run.setup refused; client = silent none }
   known_run last (Ended.InSetUp n st to at few none cause) = record { setup_is = up_to n run.setup to; client = silent none }
-  known_run last (Ended.InLookup st set_up stopped cause) = record {
+  known_run last (Ended.InLookup st set_up stopped cause) = let b = cut_client h entry (client_calls h) stopped in record {
     setup_is = whole run.setup set_up;
-    client = by_calls (client_calls h) refl (front names ⊤ (client_calls h) stopped.rest (lookup_speaks names h entry (client_calls h ++ stopped.rest) entry_given stopped.would));
+    client = by_calls (client_calls h) refl (front names ⊤ (client_calls h) b.rest (lookup_speaks names h entry (client_calls h ++ b.rest) entry_given b.would));
   }
   known_run last (Ended.NotThere before n c set_up calls looks is) = record {
     setup_is = whole run.setup set_up;

@@ -27,6 +27,7 @@ use Rattle.run_laws.specs.Ended.{Ended, IsCauseIn, IsCrowded, IsRun, client_call
 use Rattle.run_laws.specs.Runs.{IsRunBy, IsSetUp}
 use Rattle.run_laws.specs.declared.linked.Linked.{Linked}
 use Rattle.run_laws.specs.declared.linked.Linked.TheVariants as linked
+use Rattle.run_laws.proofs.Cutting.{cut_client}
 use Rattle.run_laws.proofs.Short.{run_is_short}
 use Rattle.run_answers.specs.Clauses.{IsInSession, OfSession, call_of}
 use Rattle.run_answers.specs.Laws.{NeverFull}
@@ -126,7 +127,7 @@ was_full jmax workers main entry units h end len r plain last (Ended.InSetUp n s
 was_full jmax workers main entry units h end len r plain last (Ended.InLookup st set_up stopped cause) e =
     let same : st ≡ stop.JournalFull len = cc in
     let later = run_is_short jmax main entry units h r.setup r.later (run_by jmax workers main entry units h end r set_up plain) (client_calls h) []
-    (record { calls = sym (append-nil (client_calls h)); looks = stopped; copies = All-nil (λ (c : ℕ × Entry Meaning). c.1.event ≡ event.Image) }) (omega arith) in
+    (record { calls = sym (append-nil (client_calls h)); looks = cut_client h entry (client_calls h) stopped; copies = All-nil (λ (c : ℕ × Entry Meaning). c.1.event ≡ event.Image) }) (omega arith) in
     full_cause jmax (length units) len h st same cause (omega (arith, ap length r.parts, length-append r.setup r.later, setup_length main units r.setup set_up, later))
 was_full jmax workers main entry units h end len r plain last (Ended.NotThere before n c set_up calls looks is) e = absurd (cc)
 was_full jmax workers main entry units h end len r plain last (Ended.NotReady before n c at i set_up calls looks is) e = absurd (cc)

@@ -7,3 +7,4 @@ pub mod Falling
 pub mod Costs
 pub mod Sums
 pub mod Short
+pub mod Cutting

@@ -34,6 +34,16 @@ same_last [] (b ∷ bs) x y e = never_empty bs y [] (sym (same_tail x b [] (bs +
 same_last (a ∷ rest) [] x y e = never_empty rest x [] (same_tail a y (rest ++ x ∷ []) [] e)
 same_last (a ∷ rest) (b ∷ bs) x y e = same_last rest bs x y (same_tail a b (rest ++ x ∷ []) (bs ++ y ∷ []) e)
 
+-- and the same elements before it
+pub same_front : {X : Type 0} (xs ys : List X) (x y : X) → xs ++ x ∷ [] ≡ ys ++ y ∷ [] → xs ≡ ys
+same_front [] [] x y e = refl
+same_front [] (z ∷ zs) x y e = never_empty zs y [] (sym (same_tail x z [] (zs ++ y ∷ []) e))
+same_front (z ∷ zs) [] x y e = never_empty zs x [] (same_tail z y (zs ++ x ∷ []) [] e)
+same_front (z ∷ zs) (w ∷ ws) x y e = cons (same_head z w (zs ++ x ∷ []) (ws ++ y ∷ []) e) (same_front zs ws x y (same_tail z w (zs ++ x ∷ []) (ws ++ y ∷ []) e))
+  where
+    cons : z ≡ w → zs ≡ ws → z ∷ zs ≡ w ∷ ws
+    cons a b = ap (λ c. c ∷ zs) a ∙ ap (λ l. w ∷ l) b
+
 -- The calls of one seat
 
 -- entries of seat 0 are no calls of another seat

@@ -10,7 +10,7 @@ use Rattle.orc_ids.specs.declared.place.Shape.{Shape}
 use Rattle.code_memory.specs.declared.image.Segment.{Segment}
 use Rattle.code_memory.specs.Mapped.{byte_at}
 use Rattle.session_model.specs.Answer.{IsFree}
-use Rattle.session_model.specs.Calls.{IsStopped, Looks, numbered_calls}
+use Rattle.session_model.specs.Calls.{Looks, numbered_calls}
 use Rattle.session_model.specs.History.{IsLegal, HasPlaces}
 use Rattle.session_model.specs.Meaning.{Meaning}
 use Rattle.session_model.specs.Memory.{memory}
@@ -22,7 +22,8 @@ use Rattle.session_model.specs.declared.entry.Event.TheVariants as event
 use Rattle.session_model.specs.declared.entry.Reply.TheVariants as reply
 use Rattle.session_model.specs.declared.entry.Why.TheVariants as why
 use Rattle.program_names.specs.Programs.{first_dylib, first_tracker, is_done, setup_events}
-use Rattle.run_laws.specs.Runs.{AreJobs, IsSetUp, lookup_of}
+use Rattle.look_ends.specs.Stopped.{IsCutShort}
+use Rattle.run_laws.specs.Runs.{AreJobs, IsSetUp, LooksAndCopies, lookup_of}
 use Rattle.run_laws.specs.declared.linked.Linked.{Linked}
 use Rattle.run_laws.specs.declared.linked.Linked.TheVariants as linked
 
@@ -81,11 +82,11 @@ client_calls h = numbered_calls 1 1 h
 
 -- How the run ended. A definition that was refused is the last entry; so is the last event of a set-up that was stopped.
 -- Else the client looked the entry up, and copied the memory where it was found: with the entry's address and the memory at
--- that copy.
+-- that copy; or one of these calls was stopped, which was still to come.
 pub data Ended (jmax : ℕ) (main entry : NameId) (units : List Meaning) (h setup later : List (Entry Meaning)) : Linked → Type 0 where
   InDefinition : (k : ℕ) → IsRefusedAt main units k setup → later ≡ [] → Ended jmax main entry units h setup later (linked.Refused k)
   InSetUp : (n : ℕ) (st : Stop) → IsSetUpTo main units n setup → length setup ≡ n → n < 2 + length units → later ≡ [] → IsCauseIn jmax h st → Ended jmax main entry units h setup later (linked.Stopped st)
-  InLookup : (st : Stop) → IsSetUp main units setup → IsStopped (Looks h (lookup_of entry)) (client_calls h) → IsCauseIn jmax h st → Ended jmax main entry units h setup later (linked.Stopped st)
+  InLookup : (st : Stop) → IsSetUp main units setup → IsCutShort (LooksAndCopies h entry) (client_calls h) → IsCauseIn jmax h st → Ended jmax main entry units h setup later (linked.Stopped st)
   NotThere : (before : List (ℕ × Entry Meaning)) (n : ℕ) (last : Entry Meaning) → IsSetUp main units setup → client_calls h ≡ before ++ (n, last) ∷ [] → Looks h (lookup_of entry) (before ++ (n, last) ∷ []) →
       last.reply ≡ reply.Missing entry → Ended jmax main entry units h setup later linked.Missing
   NotReady : (before : List (ℕ × Entry Meaning)) (n : ℕ) (last : Entry Meaning) (at : ℕ) (i : InstId) → IsSetUp main units setup → client_calls h ≡ before ++ (n, last) ∷ [] → Looks h (lookup_of entry) (before ++ (n, last) ∷ []) →

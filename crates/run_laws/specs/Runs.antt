@@ -1,5 +1,5 @@
 -- What is known of the history of a program's run, whose set-up was done.
-use Rattle.std.specs.Prelude.{◌≡◌, ℕ, ◌<◌, true, false, List, [], ◌∷◌, ◌++◌, map, All, None}
+use Rattle.std.specs.Prelude.{◌≡◌, ℕ, ◌<◌, Bool, true, false, MatchBool, List, [], ◌∷◌, ◌++◌, map, All, None}
 use Rattle.orc_ids.specs.declared.ids.NameId.{NameId}
 use Rattle.orc_ids.specs.declared.lookup.Level.TheVariants.{Ready}
 use Rattle.orc_ids.specs.declared.lookup.Scope.TheVariants.{All as AllScope}
@@ -8,6 +8,8 @@ use Rattle.session_model.specs.History.{IsLegal}
 use Rattle.session_model.specs.Meaning.{Meaning}
 use Rattle.session_model.specs.declared.entry.Entry.{Entry}
 use Rattle.session_model.specs.declared.entry.Event.TheVariants as event
+use Rattle.session_model.specs.declared.entry.Reply.{Reply}
+use Rattle.session_model.specs.declared.entry.Reply.TheVariants as reply
 use Rattle.program_names.specs.Programs.{first_dylib, is_done, setup_events}
 
 -- the lookup of a required name at Ready, among all names of the dylib
@@ -38,6 +40,25 @@ pub record IsRunBy (jmax : ℕ) (main : NameId) (units : List Meaning) (h setup 
   pub set_up : IsSetUp main units setup
   pub plain_units : All (λ (u : Meaning). u.source ≡ None) units
   pub workers_do : (s : ℕ) → 1 < s → AreJobs h (numbered_calls s 1 h)
+
+-- a reply to a lookup that found its names
+abbrev pub has_found : Reply → Bool
+has_found (reply.Found at matches) = true
+has_found r = false
+
+-- one copy of the memory
+abbrev pub IsCopy : List (ℕ × Entry Meaning) → Type 0
+IsCopy (c ∷ []) = c.1.event ≡ event.Image
+IsCopy cs = ⊥
+
+-- all that the client calls: the lookup of the entry, and a copy of the memory where it was found
+pub record LooksAndCopies (h : List (Entry Meaning)) (entry : NameId) (cs : List (ℕ × Entry Meaning)) : Type 0 where
+  pub before : List (ℕ × Entry Meaning)
+  pub last : ℕ × Entry Meaning
+  pub copied : List (ℕ × Entry Meaning)
+  pub are : cs ≡ (before ++ last ∷ []) ++ copied
+  pub looks : Looks h (lookup_of entry) (before ++ last ∷ [])
+  pub copies : MatchBool (has_found last.1.reply) (IsCopy copied) (copied ≡ [])
 
 -- what the client calls: the lookup of the entry, and then a copy of the memory; or a beginning of that
 pub record ClientCalls (h : List (Entry Meaning)) (entry : NameId) (looked copied : List (ℕ × Entry Meaning)) : Type 0 where

@@ -25,6 +25,7 @@ use Rattle.script_calls.specs.Lines.{Line, One, LookUp, Run, PeekAt}
 use Rattle.given_names.specs.Given.{Given, address_of, given_names, match_of}
 use Rattle.given_names.specs.declared.names.GivenMatch.{GivenMatch}
 use Rattle.run_laws.specs.Ended.{AreMemory}
+use Rattle.run_laws.specs.Runs.{IsCopy}
 use Rattle.script_laws.specs.declared.line_end.LineEnd.{LineEnd}
 use Rattle.script_laws.specs.declared.line_end.LineEnd.TheVariants.{Looked, Peeked, Ran, Replied, Skipped, Stopped, Unfound}
 
@@ -36,11 +37,6 @@ given_by line end = []
 -- one call, which was answered so
 abbrev pub OneCall : Event Meaning → Reply → List (ℕ × Entry Meaning) → Type 0
 OneCall e r cs = (n : ℕ) × (c : Entry Meaning) × (cs ≡ (n, c) ∷ []) × (c.event ≡ e) × (c.reply ≡ r)
-
--- one copy of the memory
-abbrev pub IsCopy : List (ℕ × Entry Meaning) → Type 0
-IsCopy (c ∷ []) = c.1.event ≡ event.Image
-IsCopy cs = ⊥
 
 -- a copy of the memory, which was run from the address
 abbrev pub CopiesAndRuns : List (Entry Meaning) → Option ℕ → ℕ → List ℕ → RunEnd → List ℕ → List (ℕ × Entry Meaning) → Type 0

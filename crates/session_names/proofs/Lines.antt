@@ -18,7 +18,8 @@ use Rattle.look_ends.specs.declared.look_end.LookEnd.{LookEnd}
 use Rattle.look_ends.specs.declared.look_end.LookEnd.TheVariants as look
 use Rattle.given_names.specs.Given.{Given, address_of}
 use Rattle.script_calls.specs.Lines.{Line, One, LookUp, Run, PeekAt}
-use Rattle.script_laws.specs.Lines.{AreLines, AreSkipped, AtEnd, CallsOf, CopiesAndRuns, Goes, IsCopy, IsLine, OneCall, Stops, given_by}
+use Rattle.run_laws.specs.Runs.{IsCopy}
+use Rattle.script_laws.specs.Lines.{AreLines, AreSkipped, AtEnd, CallsOf, CopiesAndRuns, Goes, IsLine, OneCall, Stops, given_by}
 use Rattle.script_laws.specs.declared.line_end.LineEnd.{LineEnd}
 use Rattle.script_laws.specs.declared.line_end.LineEnd.TheVariants.{Looked, Peeked, Ran, Replied, Skipped, Unfound}
 use Rattle.result_text.specs.Known.{KnownEnd, KnownLook}
