@@ -68,7 +68,7 @@ other_untaken s (event.Generate g) (reply.Duplicate name i) = tt
 other_untaken s e r = tt
 
 -- only a take gives a seat a unit
-untaken : (m : Plain) (s : ℕ) (e : Event Meaning) (r : Reply) → is_take e ≡ false → NoTake s (change_of m s e r)
+pub untaken : (m : Plain) (s : ℕ) (e : Event Meaning) (r : Reply) → is_take e ≡ false → NoTake s (change_of m s e r)
 untaken m s (event.Dylib name) (reply.Made d) none = tt
 untaken m s (event.Tracker d) (reply.Tracker t) none = tt
 untaken m s (event.SetOrder d order) reply.Set none = tt

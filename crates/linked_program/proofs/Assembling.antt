@@ -9,13 +9,14 @@ use Rattle.orc_ids.specs.declared.lookup.Stop.TheVariants as stop
 use Rattle.code_memory.specs.declared.image.Segment.{Segment}
 use Rattle.session_model.specs.Calls.{Looks, numbered_calls}
 use Rattle.session_model.specs.Meaning.{Meaning}
-use Rattle.session_model.specs.State.{plain_history}
+use Rattle.session_model.specs.State.{plain_history, state}
 use Rattle.session_model.specs.declared.entry.Entry.{Entry}
 use Rattle.session_model.specs.declared.entry.Event.{Event}
 use Rattle.session_model.specs.declared.entry.Event.TheVariants as event
 use Rattle.session_model.specs.declared.entry.Reply.{Reply}
 use Rattle.session_model.specs.declared.entry.Reply.TheVariants as reply
 use Rattle.session_model.specs.declared.entry.Why.TheVariants as why
+use Rattle.materialization.specs.Rest.{HoldsNone}
 use Rattle.turn_lock.specs.declared.view.View.{View}
 use Rattle.turn_lock.specs.Told.{Shows}
 use Rattle.shared_session.specs.Home.{IsLawful, IsPosted, seat_of}
@@ -47,8 +48,8 @@ use Rattle.linked_program.specs.declared.client.ClientEnd.{ClientEnd}
 use Rattle.linked_program.specs.declared.setting_up.SetUp.TheVariants as set_up
 use Rattle.seat_work.proofs.Calls.{Made, member_made}
 use Rattle.seat_work.proofs.FirstSeat.{saw_all}
-use Rattle.seat_work.proofs.Whole.{IsWhole, PlacesNothing, alone, are_jobs, cause_in, none_of_rest, whole}
-use Rattle.link_worker.proofs.Telling.{is_placing}
+use Rattle.seat_work.proofs.Held.{AreStill, is_working, let_go}
+use Rattle.seat_work.proofs.Whole.{IsWhole, alone, are_jobs, cause_in, none_of_rest, whole}
 use Rattle.std.proofs.lemmas.Option.{none-some, same_Some}
 
 -- what cuts no job of a seat cuts none of the run
@@ -61,20 +62,20 @@ uncut _ e = refl
 none_is_cut : (cs : List (ℕ × Entry Meaning)) → SpareAll cs → NoneIsCut cs
 none_is_cut cs a = All-weaker (λ (c : ℕ × Entry Meaning). is_cut_fail c.1.event ≡ false) (λ (c : ℕ × Entry Meaning). is_cut c.1.event ≡ false) (λ c. uncut c.1.event) cs a
 
--- no event of a set-up places a unit
-not_placing : (main : NameId) (units : List Meaning) (k : ℕ) (e : Event Meaning) → slice_get (setup_events main units) k ≡ Some e → is_placing e ≡ false
-not_placing main units zero e there = subst (λ x. is_placing x ≡ false) (same_Some (event.Dylib main) e there) refl
-not_placing main units (suc zero) e there = subst (λ x. is_placing x ≡ false) (same_Some (event.Tracker (record { 0 = 0 })) e there) refl
-not_placing main units (suc (suc k)) e there = in_defines units k there
+-- no event of a set-up takes a job or places a unit
+not_working : (main : NameId) (units : List Meaning) (k : ℕ) (e : Event Meaning) → slice_get (setup_events main units) k ≡ Some e → is_working e ≡ false
+not_working main units zero e there = subst (λ x. is_working x ≡ false) (same_Some (event.Dylib main) e there) refl
+not_working main units (suc zero) e there = subst (λ x. is_working x ≡ false) (same_Some (event.Tracker (record { 0 = 0 })) e there) refl
+not_working main units (suc (suc k)) e there = in_defines units k there
   where
-    in_defines : (us : List Meaning) (k : ℕ) → slice_get (map (event.Define (record { 0 = 0 }) (record { 0 = 0 })) us) k ≡ Some e → is_placing e ≡ false
+    in_defines : (us : List Meaning) (k : ℕ) → slice_get (map (event.Define (record { 0 = 0 }) (record { 0 = 0 })) us) k ≡ Some e → is_working e ≡ false
     in_defines [] k there = absurd (none-some e there)
-    in_defines (x ∷ xs) zero there = subst (λ y. is_placing y ≡ false) (same_Some (event.Define (record { 0 = 0 }) (record { 0 = 0 }) x) e there) refl
+    in_defines (x ∷ xs) zero there = subst (λ y. is_working y ≡ false) (same_Some (event.Define (record { 0 = 0 }) (record { 0 = 0 }) x) e there) refl
     in_defines (x ∷ xs) (suc k) there = in_defines xs k there
 
--- a set-up's entries place none
-set_up_still : (main : NameId) (units : List Meaning) (es : List (Entry Meaning)) → ((k : ℕ) (e : Entry Meaning) → slice_get es k ≡ Some e → (j : ℕ) × (slice_get (setup_events main units) j ≡ Some e.event)) → PlacesNothing es
-set_up_still main units es sets k e there = let s = sets k e there in not_placing main units s.0 e.event s.1
+-- nor does an entry of it
+set_up_still : (main : NameId) (units : List Meaning) (es : List (Entry Meaning)) → ((k : ℕ) (e : Entry Meaning) → slice_get es k ≡ Some e → (j : ℕ) × (slice_get (setup_events main units) j ≡ Some e.event)) → AreStill es
+set_up_still main units es sets k e there = let s = sets k e there in not_working main units s.0 e.event s.1
 
 -- an event of a list of entries is one of the list of their events
 pub event_there : (es : List (Entry Meaning)) (evs : List (Event Meaning)) (k : ℕ) (e : Entry Meaning) → map (λ (x : Entry Meaning). x.event) es ≡ evs → slice_get es k ≡ Some e → slice_get evs k ≡ Some e.event
@@ -108,6 +109,7 @@ module _ {U : Type 0} (means : U → Meaning) (jmax workers : ℕ) (main entry :
     workers_do = jobs;
     ended = ended;
     uncut = none;
+    none_held = w.none_held;
   }
 
   -- where only the first seat came
@@ -233,9 +235,12 @@ module _ {U : Type 0} (means : U → Meaning) (jmax workers : ℕ) (main entry :
             above (suc zero) some other = absurd (other refl)
             above (suc (suc k)) some other = omega arith
 
+    all_free : (n : ℕ) → 0 < n → n < workers + 2 → HoldsNone (state h) n
+    all_free n some few = let m = member n some few in let_go means jmax log n m.after s.legal.legal m.same m.kept m.free
+
     module _ (set : IsSetUp main units (plain_history means v.seen)) (sources : All (λ (u : Meaning). u.source ≡ None) units) where
       all_of_it : IsWhole means jmax (workers + 2) log (plain_history means v.seen) (plain_history means rest)
-      all_of_it = whole means jmax (workers + 2) v z log rest (omega arith) f said parts seats s (set_up_still main units (plain_history means v.seen) (λ i e there. (i, event_there (plain_history means v.seen) (setup_events main units) i e set.events there))) all_lowest
+      all_of_it = whole means jmax (workers + 2) v z log rest (omega arith) f said parts seats s (set_up_still main units (plain_history means v.seen) (λ i e there. (i, event_there (plain_history means v.seen) (setup_events main units) i e set.events there))) all_lowest all_free
 
       -- the workers' calls are jobs
       workers_jobs : (n : ℕ) → 1 < n → AreJobs h (numbered_calls n 1 h)

@@ -16,7 +16,7 @@ use Rattle.look_ends.specs.declared.look_end.LookEnd.TheVariants as look
 use Rattle.crew.specs.Crew.{HaveWorked, IsKept, Says, WasDone}
 use Rattle.crew.proofs.Worked.{all_at, some_there}
 use Rattle.linked_program.specs.Clients.{IsClient}
-use Rattle.linked_program.specs.Members.{AreMembers, HasServed, is_client, last_end}
+use Rattle.linked_program.specs.Members.{AreMembers, HasServed, Serves, is_client, last_end}
 use Rattle.linked_program.specs.Worked.{IsMember, MembersWorked}
 use Rattle.linked_program.specs.declared.client.ClientEnd.{ClientEnd}
 use Rattle.linked_program.specs.declared.members.Member.{Member}
@@ -80,7 +80,7 @@ module _ {G : Type 0} (entry : NameId) where
 module _ {U G : Type 0} (means : U → Meaning) (jmax : ℕ) where
   -- what a member does
   abbrev pub Does : Member G → Member G → View (Entry U) → View (Entry U) → Type 0
-  Does m n v w = HasServed means jmax m.entry (is_client m.role) v w n.end
+  Does m n v w = Serves means jmax m.entry (is_client m.role) v w n.end
 
   -- the last member has the client's end
   last_is : (members : List (Member G)) (k : ℕ) (m : Member G) → slice_get members k ≡ Some m → length members ≡ k + 1 → last_end members ≡ m.end
@@ -111,7 +111,7 @@ module _ {U G : Type 0} (means : U → Meaning) (jmax : ℕ) where
         record { before = o.0; then' = n.0; knew = x.0; then_is = n.1; knew_is = x.1; done = worked.each k number o.0 n.0 x.0 o.1 n.1 x.1 (omega (arith, is, from, members.count)); role = m.1; its = m.0 }
 
     serves : (k number : ℕ) (a : At k number) → HasServed means jmax entry (eqb k workers) a.done.before a.knew a.then'.end
-    serves k number a = subst (λ n. HasServed means jmax n (eqb k workers) a.done.before a.knew a.then'.end) a.its (subst (λ q. HasServed means jmax a.before.entry q a.done.before a.knew a.then'.end) a.role a.done.did)
+    serves k number a = subst (λ n. HasServed means jmax n (eqb k workers) a.done.before a.knew a.then'.end) a.its (subst (λ q. HasServed means jmax a.before.entry q a.done.before a.knew a.then'.end) a.role a.done.did.0)
 
     -- the client's end is there
     pub end_there : (c : ClientEnd) × (last_end new ≡ Some c)
@@ -133,6 +133,7 @@ module _ {U G : Type 0} (means : U → Meaning) (jmax : ℕ) where
           new = a.done.begins;
           same = a.done.same;
           served = by_seat (eqb s 1) a.done.before a.knew a.then'.end (λ t. end_of k a.then' a.then_is (client ∙ t)) (subst (λ q. HasServed means jmax entry q a.done.before a.knew a.then'.end) client (serves k s a));
+          free = a.done.did.1;
           kept = all_at (IsKept seat_of log) worked.views k a.knew kept a.knew_is;
         }
       where

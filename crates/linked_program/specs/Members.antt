@@ -4,6 +4,7 @@ use Rattle.orc_ids.specs.declared.ids.NameId.{NameId}
 use Rattle.session_model.specs.Meaning.{Meaning}
 use Rattle.session_model.specs.declared.entry.Entry.{Entry}
 use Rattle.turn_lock.specs.declared.view.View.{View}
+use Rattle.link_worker.specs.Works.{IsFree}
 use Rattle.seat_work.specs.Assists.{HasDoneJobs}
 use Rattle.linked_program.specs.Clients.{IsClientOf}
 use Rattle.linked_program.specs.declared.client.ClientEnd.{ClientEnd}
@@ -21,6 +22,10 @@ module _ {U : Type 0} (means : U → Meaning) (jmax : ℕ) where
   HasServed entry true v w (Some client) = IsClientOf means jmax entry v w client
   HasServed entry true v w None = ⊥
   HasServed entry false v w end = HasDoneJobs means v w
+
+  -- and it holds no unit afterwards
+  abbrev pub Serves : NameId → Bool → View (Entry U) → View (Entry U) → Option ClientEnd → Type 0
+  Serves entry client v w end = HasServed entry client v w end × IsFree means w
 
 module _ {G : Type 0} where
   -- what the last member's lookup came to

@@ -8,6 +8,7 @@ use Rattle.turn_lock.specs.declared.view.View.{View}
 use Rattle.linked_program.specs.Ends.{IsPossible, Concludes}
 use Rattle.crew.specs.Crew.{IsKept, IsNew, Says}
 use Rattle.shared_session.specs.Home.{seat_of}
+use Rattle.link_worker.specs.Works.{IsFree}
 use Rattle.linked_program.specs.Members.{HasServed}
 use Rattle.run_laws.specs.Ended.{IsRun}
 use Rattle.linked_program.specs.declared.concluding.Outcome.{Outcome}
@@ -22,6 +23,7 @@ module _ {U : Type 0} (means : U → Meaning) (jmax : ℕ) where
     pub new : IsNew number seen before
     pub same : after.number ≡ number
     pub served : HasServed means jmax entry (number == 1) before after client
+    pub free : IsFree means after
     pub kept : IsKept seat_of log after
 
   -- the first seat knew v before the members worked; each worked, and this is what the client's lookup came to

@@ -95,6 +95,7 @@ pub(crate) fn run_client<U: LinkedUnit, G: Gate, R: Wait, const JMAX: usize>(
     requires ready { IsReady (turn_id shared.now) pass.old }
     requires free { IsFree U.meaning (view pass.old) }
     ensures ready { IsReady (turn_id shared.now) pass.new }
+    ensures free { IsFree U.meaning (view pass.new) }
     ensures client { IsClientOf U.meaning JMAX entry (view pass.old) (view pass.new) result }
 {
     match found_in(look_up(rt, alloc, shared, pass, gate, entry)) {

@@ -2,7 +2,7 @@
 ghost use Rattle.std.specs.Prelude.{◌≡◌, ◌+◌, Some, IfOk};
 ghost use Rattle.turn_lock.specs.Handles.{view, turn_id, IsReady};
 ghost use Rattle.link_worker.specs.Works.{IsFree};
-ghost use Rattle.linked_program.specs.Members.{AreMembers, HasServed, is_client, last_end};
+ghost use Rattle.linked_program.specs.Members.{AreMembers, Serves, is_client, last_end};
 
 use crate::client::{ClientEnd, run_client};
 use crew::Duty;
@@ -40,7 +40,7 @@ pub(crate) struct Member<'a, G: Gate> {
 impl<'a, U: LinkedUnit, G: Gate, const JMAX: usize> Duty<Home<U, Note, JMAX>> for Member<'a, G> {
     ghost may = { λ posts member v. IsFree U.meaning v };
 
-    ghost does = { λ member after v w. HasServed U.meaning JMAX member.entry (is_client member.role) v w after.end };
+    ghost does = { λ member after v w. Serves U.meaning JMAX member.entry (is_client member.role) v w after.end };
 
     fn serve<R: Wait>(
         &mut self,

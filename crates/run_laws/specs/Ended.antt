@@ -95,7 +95,8 @@ pub data Ended (jmax : ℕ) (main entry : NameId) (units : List Meaning) (h setu
       client_calls h ≡ (before ++ (m, last) ∷ []) ++ (n, copy) ∷ [] → Looks h (lookup_of entry) (before ++ (m, last) ∷ []) → last.reply ≡ reply.Found at (Some (i, address) ∷ []) →
       copy.event ≡ event.Image → AreMemory (state (take n h)) ranges → Ended jmax main entry units h setup later (linked.Found address ranges)
 
--- The history of a run with so many workers. Unless it was stopped, no job of the client was cut.
+-- The history of a run with so many workers. Unless it was stopped, no job of the client was cut; and stopped or not, no seat holds a
+-- unit in the end.
 pub record IsRun (jmax workers : ℕ) (main entry : NameId) (units : List Meaning) (h : List (Entry Meaning)) (end : Linked) : Type 0 where
   pub legal : IsLegal jmax h
   pub places : HasPlaces jmax h
@@ -108,3 +109,4 @@ pub record IsRun (jmax workers : ℕ) (main entry : NameId) (units : List Meanin
   pub workers_do : (s : ℕ) → 1 < s → AreJobs h (numbered_calls s 1 h)
   pub ended : Ended jmax main entry units h setup later end
   pub uncut : is_whole end ≡ true → NoneIsCut (client_calls h)
+  pub none_held : kept (state h) ≡ 0

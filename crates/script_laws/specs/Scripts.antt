@@ -4,6 +4,8 @@ use Rattle.orc_ids.specs.declared.lookup.Stop.{Stop}
 use Rattle.session_model.specs.Calls.{numbered_calls}
 use Rattle.session_model.specs.History.{HasPlaces, IsLegal}
 use Rattle.session_model.specs.Meaning.{Meaning}
+use Rattle.session_model.specs.Plain.{kept}
+use Rattle.session_model.specs.State.{state}
 use Rattle.session_model.specs.declared.entry.Entry.{Entry}
 use Rattle.session_model.specs.declared.entry.Event.{Event}
 use Rattle.run_laws.specs.Ended.{IsCauseIn, PlacesAreLowest}
@@ -33,7 +35,7 @@ pub data Went (jmax : ℕ) (script : Script) (ends : List (List LineEnd)) (h set
   Whole : AreCalled script.set_up setup → ClientsRan jmax script.clients ends h → Went jmax script ends h setup later None
   InSetUp : (n : ℕ) (st : Stop) → n < length script.set_up → AreCalled (take n script.set_up) setup → later ≡ [] → IsCauseIn jmax h st → NoClientRan script.clients ends → Went jmax script ends h setup later (Some st)
 
--- The history of a script's session with so many workers.
+-- The history of a script's session with so many workers. In the end no seat holds a unit, whatever was stopped.
 pub record IsScriptRun (jmax workers : ℕ) (script : Script) (stopped : Option Stop) (ends : List (List LineEnd)) (h : List (Entry Meaning)) : Type 0 where
   pub legal : IsLegal jmax h
   pub places : HasPlaces jmax h
@@ -45,3 +47,4 @@ pub record IsScriptRun (jmax workers : ℕ) (script : Script) (stopped : Option 
   pub later_seats : All (λ (e : Entry Meaning). (0 < e.seat.0) × (e.seat.0 ≤ length script.clients + workers)) later
   pub workers_do : (s : ℕ) → length script.clients < s → AreJobs h (numbered_calls s 1 h)
   pub went : Went jmax script ends h setup later stopped
+  pub none_held : kept (state h) ≡ 0

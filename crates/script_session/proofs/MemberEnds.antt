@@ -158,6 +158,7 @@ module _ {U N : Type 0} (means : U → Meaning) (heard : N → Option Outcome) (
     pub begins : IsNew number seen before
     pub same : after.number ≡ number
     pub does : Does means heard before after [] told P
+    pub free : IsFree means after
     pub kept : IsKept seat_of log after
 
   -- a client whose lines ended so
@@ -173,11 +174,11 @@ module _ {U N : Type 0} (means : U → Meaning) (heard : N → Option Outcome) (
         let x = some_there worked.views k (omega (arith, place, few, worked.seats, are.count)) in
         let done = worked.each k (1 + c) m n x.0 at now x.1 (omega (arith, place, from, are.count)) in
         let a = are.is_client k c m at few place in
-        let all = left_one a.0 m.role n.role es done.before x.0 n.fired a.2 ends done.did in (
+        let all = left_one a.0 m.role n.role es done.before x.0 n.fired a.2 ends done.did.0 in (
           a.0,
           a.1,
           record {
-            work = record { before = done.before; after = x.0; begins = done.begins; same = done.same; does = all.does; kept = all_at (IsKept seat_of log) worked.views k x.0 kept x.1 };
+            work = record { before = done.before; after = x.0; begins = done.begins; same = done.same; does = all.does; free = done.did.1; kept = all_at (IsKept seat_of log) worked.views k x.0 kept x.1 };
             causes = all.causes;
           },
         )
@@ -189,8 +190,8 @@ module _ {U N : Type 0} (means : U → Meaning) (heard : N → Option Outcome) (
         let n = some_there new k (omega (arith, few, are.count, worked.count)) in
         let x = some_there worked.views k (omega (arith, few, are.count, worked.seats)) in
         let done = worked.each k number m.0 n.0 x.0 m.1 n.1 x.1 (omega (arith, place, from, are.count)) in
-        let left = left_none m.0.role n.0.role done.before x.0 n.0.fired (are.is_worker k m.0 m.1 few) done.did in
-        (n.0.fired, record { before = done.before; after = x.0; begins = done.begins; same = done.same; does = left.1; kept = all_at (IsKept seat_of log) worked.views k x.0 kept x.1 })
+        let left = left_none m.0.role n.0.role done.before x.0 n.0.fired (are.is_worker k m.0 m.1 few) done.did.0 in
+        (n.0.fired, record { before = done.before; after = x.0; begins = done.begins; same = done.same; does = left.1; free = done.did.1; kept = all_at (IsKept seat_of log) worked.views k x.0 kept x.1 })
 
     -- whoever is at a place
     pub member_was : (log : List (Entry U)) → All (IsKept seat_of log) worked.views → (k number : ℕ) (n : Member U N G) → slice_get new k ≡ Some n → number + k ≡ workers + length clients → WasAtWork Anything v.seen log number n.fired × All (AreUnheard heard numbers) (unlodged_in n.role)
@@ -199,8 +200,8 @@ module _ {U N : Type 0} (means : U → Meaning) (heard : N → Option Outcome) (
         let m = some_there old k (omega (arith, below, worked.count)) in
         let x = some_there worked.views k (omega (arith, below, worked.count, worked.seats)) in
         let done = worked.each k number m.0 n x.0 m.1 now x.1 (omega (arith, place, from, are.count)) in
-        let work = some_work m.0.role n.role done.before x.0 n.fired done.did in
-        (record { before = done.before; after = x.0; begins = done.begins; same = done.same; does = work.0; kept = all_at (IsKept seat_of log) worked.views k x.0 kept x.1 }, work.1)
+        let work = some_work m.0.role n.role done.before x.0 n.fired done.did.0 in
+        (record { before = done.before; after = x.0; begins = done.begins; same = done.same; does = work.0; free = done.did.1; kept = all_at (IsKept seat_of log) worked.views k x.0 kept x.1 }, work.1)
 
     -- workers first, and then clients
     pub roles : AreRoles workers new
@@ -211,7 +212,7 @@ module _ {U N : Type 0} (means : U → Meaning) (heard : N → Option Outcome) (
           let x = some_there worked.views k (omega (arith, below, worked.count, worked.seats)) in
           let number : ℕ = (workers + length clients) - k in
           let done = worked.each k number m.0 n x.0 m.1 now x.1 (omega (arith, few, from, are.count)) in
-          ap ends_in (left_none m.0.role n.role done.before x.0 n.fired (are.is_worker k m.0 m.1 few) done.did).0;
+          ap ends_in (left_none m.0.role n.role done.before x.0 n.fired (are.is_worker k m.0 m.1 few) done.did.0).0;
       one = λ k n now past.
           let below = slice_get_within new k n now in
           let m = some_there old k (omega (arith, below, worked.count)) in
@@ -220,5 +221,5 @@ module _ {U N : Type 0} (means : U → Meaning) (heard : N → Option Outcome) (
           let place : k + c + 1 ≡ workers + length clients = omega (arith, below, worked.count, are.count) in
           let done = worked.each k (1 + c) m.0 n x.0 m.1 now x.1 (omega (arith, place, from, are.count)) in
           let a = are.is_client k c m.0 m.1 (omega (arith, place, past)) place in
-          some_ends a.0 m.0.role n.role done.before x.0 n.fired a.2 done.did;
+          some_ends a.0 m.0.role n.role done.before x.0 n.fired a.2 done.did.0;
     }

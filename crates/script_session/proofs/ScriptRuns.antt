@@ -8,7 +8,7 @@ use Rattle.orc_ids.specs.declared.lookup.Outcome.{Outcome}
 use Rattle.orc_ids.specs.declared.lookup.Stop.{Stop}
 use Rattle.session_model.specs.Calls.{numbered_calls}
 use Rattle.session_model.specs.Meaning.{Meaning}
-use Rattle.session_model.specs.State.{plain_history}
+use Rattle.session_model.specs.State.{plain_history, state}
 use Rattle.session_model.specs.declared.entry.Entry.{Entry}
 use Rattle.session_model.specs.declared.entry.Event.{Event}
 use Rattle.session_laws.proofs.Declared.{mapped_parts}
@@ -21,14 +21,15 @@ use Rattle.seat_calls.specs.Did.{Did, Promise, calls_in}
 use Rattle.seat_calls.proofs.Numbers.{starts_again}
 use Rattle.link_worker.specs.Does.{Nobody, PlacesLowest, ToldAt}
 use Rattle.link_worker.specs.Works.{Jobs}
-use Rattle.link_worker.proofs.Telling.{is_placing}
+use Rattle.materialization.specs.Rest.{HoldsNone}
 use Rattle.crew.specs.Crew.{HaveWorked, IsKept}
 use Rattle.crew.proofs.Taking.{says}
 use Rattle.crew.proofs.Worked.{all_at, some_there}
 use Rattle.run_laws.specs.Runs.{AreJobs, NoJob}
 use Rattle.seat_work.specs.First.{IsFirst}
 use Rattle.seat_work.proofs.Calls.{Made, member_made}
-use Rattle.seat_work.proofs.Whole.{IsWhole, PlacesNothing, alone, are_jobs, cause_in, none_of_rest, whole}
+use Rattle.seat_work.proofs.Held.{AreStill, is_working, let_go}
+use Rattle.seat_work.proofs.Whole.{IsWhole, alone, are_jobs, cause_in, none_of_rest, whole}
 use Rattle.script_laws.specs.Lines.{AreLines, AreSkipped}
 use Rattle.script_calls.specs.Lines.{Script}
 use Rattle.script_laws.specs.Scripts.{AreCalled, ClientsRan, InSetUp, IsScriptRun, NoClientRan, Went, Whole}
@@ -44,17 +45,17 @@ use Rattle.script_session.specs.declared.members.Role.TheVariants.{Client, Worke
 use Rattle.script_session.proofs.MemberEnds.{Anything, AreRoles, WasAtWork, WasClient, client_was, count_ends, ends_at, member_was, only_one, roles, worker_was}
 use Rattle.script_session.proofs.Notifying.{all_unlodged, told_at}
 
--- entries whose events place nothing
-still_entries : (es : List (Entry Meaning)) (events : List (Event Meaning)) → AreCalled events es → All (λ e. is_placing e ≡ false) events → PlacesNothing es
-still_entries es events called still k e there = all_at (λ x. is_placing x ≡ false) events k e.event still (subst (λ l. slice_get l k ≡ Some e.event) called (at es k there))
+-- entries whose events take no job and place nothing
+still_entries : (es : List (Entry Meaning)) (events : List (Event Meaning)) → AreCalled events es → All (λ e. is_working e ≡ false) events → AreStill es
+still_entries es events called still k e there = all_at (λ x. is_working x ≡ false) events k e.event still (subst (λ l. slice_get l k ≡ Some e.event) called (at es k there))
   where
     at : (xs : List (Entry Meaning)) (k : ℕ) → slice_get xs k ≡ Some e → slice_get (map (λ (x : Entry Meaning). x.event) xs) k ≡ Some e.event
     at [] k there = absurd (none-some e there)
     at (x ∷ xs) zero there = ap (λ (y : Entry Meaning). Some y.event) (same_Some x e there)
     at (x ∷ xs) (suc k) there = at xs k there
 
-still_taken : (n : ℕ) (events : List (Event Meaning)) → All (λ e. is_placing e ≡ false) events → All (λ e. is_placing e ≡ false) (take n events)
-still_taken n events still = Rattle.crew.proofs.Worked.all_from (λ e. is_placing e ≡ false) (take n events) (λ k e at. all_at (λ x. is_placing x ≡ false) events k e still (taken_there n k events e at))
+still_taken : (n : ℕ) (events : List (Event Meaning)) → All (λ e. is_working e ≡ false) events → All (λ e. is_working e ≡ false) (take n events)
+still_taken n events still = Rattle.crew.proofs.Worked.all_from (λ e. is_working e ≡ false) (take n events) (λ k e at. all_at (λ x. is_working x ≡ false) events k e still (taken_there n k events e at))
   where
     taken_there : (n k : ℕ) (xs : List (Event Meaning)) (x : Event Meaning) → slice_get (take n xs) k ≡ Some x → slice_get xs k ≡ Some x
     taken_there zero k xs x there = absurd (none-some x there)
@@ -66,7 +67,7 @@ still_taken n events still = Rattle.crew.proofs.Worked.all_from (λ e. is_placin
 abbrev With : {N : Type 0} → Promise → List (Notice N) → Promise
 With P told h cs = P h cs × ToldAt h cs told × PlacesLowest h cs
 
-module _ {U N : Type 0} (means : U → Meaning) (heard : N → Option Outcome) (numbers : N → ℕ) (jmax workers : ℕ) (events : List (Event Meaning)) (clients : List (List (ClientCall U N))) (still : All (λ e. is_placing e ≡ false) events) where
+module _ {U N : Type 0} (means : U → Meaning) (heard : N → Option Outcome) (numbers : N → ℕ) (jmax workers : ℕ) (events : List (Event Meaning)) (clients : List (List (ClientCall U N))) (still : All (λ e. is_working e ≡ false) events) where
   abbrev pub script : Script
   script = record { set_up = events; clients = map (map (line_of means)) clients }
 
@@ -90,6 +91,7 @@ module _ {U N : Type 0} (means : U → Meaning) (heard : N → Option Outcome) (
     later_seats = λ k d lt. let b = w.later_seats k d lt in (b.0, omega (arith, b.1, same_count));
     workers_do = λ s more. jobs s (omega (arith, more, same_count));
     went = went;
+    none_held = w.none_held;
   }
 
   -- The set-up was stopped.
@@ -198,8 +200,22 @@ module _ {U N : Type 0} (means : U → Meaning) (heard : N → Option Outcome) (
             let m = client_made c w.0 w.1 w.2 w.3 in
             subst (λ k. PlacesLowest (plain_history means log) (calls_in means k log)) (omega arith) (subst (PlacesLowest (plain_history means log)) (sym m.calls) m.holds.2)
 
+    -- no seat that worked holds a unit
+    gone : (P : Promise) (n : ℕ) (told : List (Notice N)) → WasAtWork means heard numbers jmax P v.seen log n told → HoldsNone (state (plain_history means log)) n
+    gone P n told w = let_go means jmax log n w.after s.legal.legal w.same w.kept w.free
+
+    free : (n : ℕ) → 0 < n → n < seats → HoldsNone (state (plain_history means log)) n
+    free n some few = by n some few (cases_lt (length clients) n)
+      where
+        by : (n : ℕ) → 0 < n → n < seats → (length clients < n) ⊎ (n ≤ length clients) → HoldsNone (state (plain_history means log)) n
+        by n some few (inl more) = let w = worker_at n more few in gone Jobs n w.0 w.1
+        by zero some few (inr not_more) = absurd (omega (arith, some))
+        by (suc c) some few (inr not_more) =
+            let w = client_at c (omega (arith, not_more)) in
+            subst (λ k. HoldsNone (state (plain_history means log)) k) (omega arith) (gone (MakesAll (map (line_of means) w.0) w.1) (1 + c) w.2 w.3.work)
+
     all_of_it : IsWhole means jmax seats log (plain_history means v.seen) (plain_history means rest)
-    all_of_it = whole means jmax seats v z log rest (omega arith) at.0 said.0 said.0.later.1 count s (still_entries (plain_history means v.seen) events at.1 still) lows
+    all_of_it = whole means jmax seats v z log rest (omega arith) at.0 said.0 said.0.later.1 count s (still_entries (plain_history means v.seen) events at.1 still) lows free
 
     workers_jobs : (n : ℕ) → length clients < n → AreJobs (plain_history means log) (numbered_calls n 1 (plain_history means log))
     workers_jobs n more = by (cases_lt n seats)

@@ -18,7 +18,7 @@ use Rattle.session_steps.specs.Performs.{Performs, PerformsWith, state_of}
 use Rattle.session_laws.proofs.Declared.{appended_at}
 use Rattle.turn_lock.specs.declared.view.View.{View}
 use Rattle.shared_session.specs.Does.{seat}
-use Rattle.link_worker.proofs.Telling.{is_placing}
+use Rattle.seat_work.proofs.Held.{is_working}
 use Rattle.link_worker.proofs.Turning.{TurnOf}
 use Rattle.seat_work.proofs.FirstSeat.{one_place}
 use Rattle.script_calls.specs.Dylibs.{dylib_names}
@@ -79,16 +79,16 @@ module _ {U : Type 0} (means : U → Meaning) where
   allowed m made (set_up.Attach d t unit) is can = has_source m made (means unit).source is can
 
   -- none of its calls places a unit
-  still_call : (call : SetUpCall U) → is_placing (event_of means call) ≡ false
+  still_call : (call : SetUpCall U) → is_working (event_of means call) ≡ false
   still_call (set_up.Dylib name) = refl
   still_call (set_up.Order d order) = refl
   still_call (set_up.Tracker d) = refl
   still_call (set_up.Define d t unit) = refl
   still_call (set_up.Attach d t unit) = refl
 
-  pub still_calls : (calls : List (SetUpCall U)) → All (λ e. is_placing e ≡ false) (map (event_of means) calls)
-  still_calls [] = All-nil (λ e. is_placing e ≡ false)
-  still_calls (c ∷ cs) = All-cons (λ e. is_placing e ≡ false) (event_of means c) (map (event_of means) cs) (still_call c) (still_calls cs)
+  pub still_calls : (calls : List (SetUpCall U)) → All (λ e. is_working e ≡ false) (map (event_of means) calls)
+  still_calls [] = All-nil (λ e. is_working e ≡ false)
+  still_calls (c ∷ cs) = All-cons (λ e. is_working e ≡ false) (event_of means c) (map (event_of means) cs) (still_call c) (still_calls cs)
 
 -- calls that were made, one that is next, and those behind it
 module _ {U : Type 0} (means : U → Meaning) (jmax : ℕ) (calls done rest : List (SetUpCall U)) (next : SetUpCall U) (parts : calls ≡ done ++ next ∷ rest) where

@@ -6,7 +6,7 @@ use Rattle.session_model.specs.declared.entry.Entry.{Entry}
 use Rattle.turn_lock.specs.declared.view.View.{View}
 use Rattle.notifiers.specs.declared.notice.Notice.{Notice}
 use Rattle.link_worker.specs.Does.{Does}
-use Rattle.link_worker.specs.Works.{Jobs}
+use Rattle.link_worker.specs.Works.{IsFree, Jobs}
 use Rattle.script_laws.specs.Lines.{AreSkipped}
 use Rattle.script_laws.specs.declared.line_end.LineEnd.{LineEnd}
 use Rattle.script_session.specs.Clients.{AreUnheard, HasDoneAll, IsEmpty}
@@ -39,9 +39,9 @@ module _ {U N : Type 0} (means : U → Meaning) (heard : N → Option Outcome) (
   IsSkipped Worker Worker = ⊤
   IsSkipped role other = ⊥
 
-  -- what a member did, by its roles before and after
+  -- what a member did, by its roles before and after; and it holds no unit afterwards
   abbrev pub Serves : {G : Type 0} → ℕ → Member U N G → Member U N G → View (Entry U) → View (Entry U) → Type 0
-  Serves jmax m n v w = HasServed jmax m.role n.role v w n.fired
+  Serves jmax m n v w = HasServed jmax m.role n.role v w n.fired × IsFree means w
 
   -- no line of a member was done, and nobody was told
   pub record WasSkipped {G : Type 0} (m n : Member U N G) : Type 0 where

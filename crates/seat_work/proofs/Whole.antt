@@ -1,6 +1,6 @@
 -- A session that was set up by its first seat, and on which seats behind it worked: the whole history.
 use Rattle.std.proofs.Common.{◌≡◌, ℕ, zero, suc, ◌+◌, ◌-◌, ◌<◌, ◌≤◌, ◌⊎◌, inl, inr, true, false, eqb, List, [], ◌∷◌, ◌++◌, length, take, append-nil, refl, sym, ap, ap₂, subst, ◌∙◌, arith, All, Some, slice_get}
-use Rattle.std.proofs.lemmas.Bool.{both_ways, cases_lt}
+use Rattle.std.proofs.lemmas.Bool.{both_ways, cases_eq, cases_lt}
 use Rattle.std.proofs.lemmas.List.{length-append, length-map, map-append}
 use Rattle.std.proofs.lemmas.List.Elements.{All-nil, filter-append}
 use Rattle.list_laws.proofs.Each.{all_at}
@@ -11,15 +11,20 @@ use Rattle.orc_ids.specs.declared.place.Shape.{Shape}
 use Rattle.session_model.specs.Calls.{numbered_calls}
 use Rattle.session_model.specs.History.{IsLegal, HasPlaces}
 use Rattle.session_model.specs.Meaning.{Meaning}
+use Rattle.session_model.specs.Plain.{kept}
 use Rattle.session_model.specs.State.{plain_entry, plain_history, state}
 use Rattle.session_model.specs.declared.entry.Entry.{Entry}
 use Rattle.session_model.specs.declared.entry.Event.TheVariants as event
 use Rattle.session_model.specs.declared.entry.Reply.TheVariants as reply
 use Rattle.session_steps.specs.Handed.{IsLowest}
+use Rattle.materialization.specs.Rest.{HoldsNone}
+use Rattle.materialization.specs.declared.stage.Stage.TheVariants as stage
+use Rattle.materialization.proofs.Leaving.{others_leave_has}
 use Rattle.turn_lock.specs.declared.view.View.{View}
 use Rattle.turn_lock.specs.Lists.{StartsWith, entries_of}
 use Rattle.turn_lock.specs.Told.{Shows}
 use Rattle.turn_lock.proofs.Entries.{none_since}
+use Rattle.shared_session.specs.Carried.{all_others}
 use Rattle.shared_session.specs.Home.{IsLawful, IsPosted, seat_of}
 use Rattle.seat_calls.specs.Did.{calls_in}
 use Rattle.seat_calls.proofs.Numbers.{numbered_none, plain_starts, taken_start}
@@ -33,19 +38,16 @@ use Rattle.crew.specs.Crew.{Says}
 use Rattle.seat_work.specs.First.{IsFirst}
 use Rattle.seat_work.proofs.Calls.{call_at, later_seats, none_beyond, none_of_other}
 use Rattle.seat_work.proofs.FirstSeat.{rest_below, saw_all}
-use Rattle.seat_work.proofs.NewSeats.{plain_all}
+use Rattle.seat_work.proofs.Held.{AreStill, all_let_go, none_at_first, none_is_held, not_placing, still_free}
+use Rattle.seat_work.proofs.NewSeats.{new_is_free, plain_all}
 
 -- jobs by both words
 pub are_jobs : (h : List (Entry Meaning)) (cs : List (ℕ × Entry Meaning)) → Jobs h cs → AreJobs h cs
 are_jobs h cs None' = NoJob
 are_jobs h cs (OneMore before job jobs one) = AnotherJob before job (are_jobs h before jobs) one
 
--- none of the entries places a unit
-abbrev pub PlacesNothing : List (Entry Meaning) → Type 0
-PlacesNothing es = (k : ℕ) (e : Entry Meaning) → slice_get es k ≡ Some e → is_placing e.event ≡ false
-
 -- by the calls of each seat behind the first
-lowest_places : (h setup later : List (Entry Meaning)) → h ≡ setup ++ later → PlacesNothing setup → All (λ (e : Entry Meaning). 0 < e.seat.0) later → ((s : ℕ) → 0 < s → PlacesLowest h (numbered_calls s 1 h)) → PlacesAreLowest h
+lowest_places : (h setup later : List (Entry Meaning)) → h ≡ setup ++ later → AreStill setup → All (λ (e : Entry Meaning). 0 < e.seat.0) later → ((s : ℕ) → 0 < s → PlacesLowest h (numbered_calls s 1 h)) → PlacesAreLowest h
 lowest_places h setup later parts still behind each n base other e u shape there is placed free = by_part (split setup later n e (subst (λ l. slice_get l n ≡ Some e) parts there))
   where
     -- an element of two lists is one of the first or of the second
@@ -62,12 +64,12 @@ lowest_places h setup later parts still behind each n base other e u shape there
         subst (λ k. IsLowest (state (take k h)) shape (reply.Placed base)) number (subst (λ r. IsLowest (state (take ((1 + n) - 1) h)) shape r) placed low) other free
 
     by_part : (slice_get setup n ≡ Some e) ⊎ ((j : ℕ) × (slice_get later j ≡ Some e)) → base ≤ other
-    by_part (inl at) = absurd (both_ways true (sym (subst (λ x. is_placing x ≡ true) (sym is) refl) ∙ still n e at) refl)
+    by_part (inl at) = absurd (both_ways true (sym (subst (λ x. is_placing x ≡ true) (sym is) refl) ∙ not_placing e.event (still n e at)) refl)
     by_part (inr (j, at)) = in_calls (all_at (λ (x : Entry Meaning). 0 < x.seat.0) later j e behind at)
 
 module _ {U : Type 0} (means : U → Meaning) (jmax : ℕ) where
-  -- What the whole history is: legal, within its places, the set-up first, and each unit placed at the lowest base. The seats behind
-  -- the first are those below `seats`.
+  -- What the whole history is: legal, within its places, the set-up first, and each unit placed at the lowest base; and in the end no
+  -- unit is held. The seats behind the first are those below `seats`.
   pub record IsWhole (seats : ℕ) (log : List (Entry U)) (setup later : List (Entry Meaning)) : Type 0 where
     pub legal : IsLegal jmax (plain_history means log)
     pub places : HasPlaces jmax (plain_history means log)
@@ -76,13 +78,23 @@ module _ {U : Type 0} (means : U → Meaning) (jmax : ℕ) where
     pub later_seats : All (λ (e : Entry Meaning). (0 < e.seat.0) × (e.seat.0 < seats)) later
     pub beyond : (n : ℕ) → seats ≤ n → numbered_calls n 1 (plain_history means log) ≡ []
     pub lowest : PlacesAreLowest (plain_history means log)
+    pub none_held : kept (state (plain_history means log)) ≡ 0
+
+  -- what the first seat did gives nobody a unit
+  first_holds_none : (v : View (Entry U)) → IsFirst means jmax v → AreStill (plain_history means v.seen) → HoldsNone (state (plain_history means v.seen)) 0
+  first_holds_none v f still = still_free 0 [] (plain_history means v.seen) (plain_all means (λ n. n ≡ 0) v.seen f.own) still (none_at_first 0)
+
+  first_alone : (n : ℕ) (v : View (Entry U)) → IsFirst means jmax v → AreStill (plain_history means v.seen) → (n ≡ 0) ⊎ (n ≡ 0 → ⊥) → HoldsNone (state (plain_history means v.seen)) n
+  first_alone n v f still (inl is) = subst (λ k. HoldsNone (state (plain_history means v.seen)) k) (sym is) (first_holds_none v f still)
+  first_alone zero v f still (inr other) = absurd (other refl)
+  first_alone (suc n) v f still (inr other) = new_is_free means jmax v.seen (suc n) (omega arith) f.lawful.legal f.own
 
   -- where only the first seat came, no other has a call
   pub none_of_rest : (v : View (Entry U)) (log : List (Entry U)) (n : ℕ) → 0 < n → IsFirst means jmax v → Shows seat_of (IsLawful means jmax) (IsPosted means) log v → numbered_calls n 1 (plain_history means log) ≡ []
   none_of_rest v log n more f s = ap (λ l. calls_in means n l) (saw_all means jmax v log f s) ∙ numbered_none means n 1 v.seen (none_of_other n v.seen more f.own)
 
   -- and the history is what it has seen
-  pub alone : (seats : ℕ) (v : View (Entry U)) (log : List (Entry U)) → 0 < seats → IsFirst means jmax v → Shows seat_of (IsLawful means jmax) (IsPosted means) log v → PlacesNothing (plain_history means v.seen) →
+  pub alone : (seats : ℕ) (v : View (Entry U)) (log : List (Entry U)) → 0 < seats → IsFirst means jmax v → Shows seat_of (IsLawful means jmax) (IsPosted means) log v → AreStill (plain_history means v.seen) →
       IsWhole seats log (plain_history means v.seen) []
   alone seats v log some f s still =
       let plain : plain_history means log ≡ plain_history means v.seen ++ [] = ap (plain_history means) (saw_all means jmax v log f s) ∙ sym (append-nil (plain_history means v.seen)) in
@@ -95,6 +107,7 @@ module _ {U : Type 0} (means : U → Meaning) (jmax : ℕ) where
         later_seats = All-nil (λ (e : Entry Meaning). (0 < e.seat.0) × (e.seat.0 < seats));
         beyond = λ n far. none n (omega (arith, some, far));
         lowest = lowest_places (plain_history means log) (plain_history means v.seen) [] plain still (All-nil (λ (e : Entry Meaning). 0 < e.seat.0)) (λ n more. subst (PlacesLowest (plain_history means log)) (sym (none n more)) (lowest_none (plain_history means log)));
+        none_held = subst (λ l. kept (state l) ≡ 0) (sym (ap (plain_history means) (saw_all means jmax v log f s))) (none_is_held (state (plain_history means v.seen)) (λ n. first_alone n v f still (cases_eq n 0)));
       }
 
   -- what is behind what the first seat had seen before the others worked
@@ -112,8 +125,8 @@ module _ {U : Type 0} (means : U → Meaning) (jmax : ℕ) where
     none_of_others : (n : ℕ) → seats ≤ n → numbered_calls n 1 (plain_history means log) ≡ []
     none_of_others n far = numbered_none means n 1 log (ap (entries_of seat_of n) parts ∙ (filter-append (λ e. eqb (seat_of e) n) v.seen rest ∙ (ap₂ (λ xs ys. xs ++ ys) (none_of_other n v.seen (omega (arith, far, some)) f.own) (none_beyond seats n rest far below))))
 
-    pub whole : PlacesNothing (plain_history means v.seen) → ((n : ℕ) → 0 < n → n < seats → PlacesLowest (plain_history means log) (calls_in means n log)) → IsWhole seats log (plain_history means v.seen) (plain_history means rest)
-    whole still each =
+    pub whole : AreStill (plain_history means v.seen) → ((n : ℕ) → 0 < n → n < seats → PlacesLowest (plain_history means log) (calls_in means n log)) → ((n : ℕ) → 0 < n → n < seats → HoldsNone (state (plain_history means log)) n) → IsWhole seats log (plain_history means v.seen) (plain_history means rest)
+    whole still each free =
         let plain : plain_history means log ≡ plain_history means v.seen ++ plain_history means rest = ap (plain_history means) parts ∙ map-append (plain_entry means) v.seen rest in
         record {
           legal = s.legal.legal;
@@ -123,8 +136,21 @@ module _ {U : Type 0} (means : U → Meaning) (jmax : ℕ) where
           later_seats = plain_all means (λ n. (0 < n) × (n < seats)) rest within;
           beyond = none_of_others;
           lowest = lowest_places (plain_history means log) (plain_history means v.seen) (plain_history means rest) plain still (plain_all means (λ n. 0 < n) rest (later_seats rest none_of_first)) lows;
+          none_held = all_let_go jmax seats (plain_history means log) s.legal.legal (plain_all means (λ n. n < seats) log (subst (λ n. All (λ (e : Entry U). seat_of e < n) log) count said.below)) (λ n few. by_seat n few (cases_eq n 0));
         }
       where
+        -- the first seat took no job
+        first_free : HoldsNone (state (plain_history means log)) 0
+        first_free =
+            let plain : plain_history means log ≡ plain_history means v.seen ++ plain_history means rest = ap (plain_history means) parts ∙ map-append (plain_entry means) v.seen rest in
+            subst (λ l. HoldsNone (state l) 0) (sym plain) (others_leave_has jmax (plain_history means v.seen) (plain_history means rest) (subst (IsLegal jmax) plain s.legal.legal) 0 0 (all_others means 0 rest none_of_first) stage.Over
+            (first_holds_none v f still))
+
+        by_seat : (n : ℕ) → n < seats → (n ≡ 0) ⊎ (n ≡ 0 → ⊥) → HoldsNone (state (plain_history means log)) n
+        by_seat n few (inl is) = subst (λ k. HoldsNone (state (plain_history means log)) k) (sym is) first_free
+        by_seat zero few (inr other) = absurd (other refl)
+        by_seat (suc n) few (inr other) = free (suc n) (omega arith) few
+
         lows : (n : ℕ) → 0 < n → PlacesLowest (plain_history means log) (numbered_calls n 1 (plain_history means log))
         lows n more = by_size (cases_lt n seats)
           where

@@ -26,6 +26,7 @@ pub fn do_jobs<U: LinkedUnit, N: Notify, G: Gate, R: Wait, const JMAX: usize>(
     requires ready { IsReady (turn_id shared.now) pass.old }
     requires free { IsFree U.meaning (view pass.old) }
     ensures ready { IsReady (turn_id shared.now) pass.new }
+    ensures free { IsFree U.meaning (view pass.new) }
     ensures jobs { HasDoneJobs U.meaning (view pass.old) (view pass.new) }
     ensures told { Does U.meaning N.heard (view pass.old) (view pass.new) [] result Jobs }
 {
