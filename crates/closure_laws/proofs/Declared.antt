@@ -2,6 +2,7 @@
 pub use Rattle.closure_laws.proofs.Depending.{dependencies_are_kept}
 pub use Rattle.closure_laws.proofs.Ends.{FoundAt, bindings_are_ends, bindings_are_matches, bound_addresses_are_kept, found_parts}
 pub use Rattle.closure_laws.proofs.Fields.{BindsBy, HasFields, IsNew, MovesTo, after_fields, change_fields, is_define, settled_fields}
+pub use Rattle.closure_laws.proofs.HandedIn.{after_have, all_have, empty_have}
 pub use Rattle.closure_laws.proofs.Histories.{OneMore, kept_along, kept_by_changes, one_more}
 pub use Rattle.closure_laws.proofs.Homing.{claims_frame, rows_have_homes, same_frame, settled_frame}
 pub use Rattle.closure_laws.proofs.LevelsStaying.{levels_stay, losses_stay, row_below}

@@ -3,6 +3,7 @@ mod Ends
 mod Fields
 mod Finishes
 mod Histories
+mod HandedIn
 mod HomeGuards
 mod Homing
 mod Lasting

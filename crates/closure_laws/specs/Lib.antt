@@ -2,6 +2,7 @@ pub mod Aliases
 pub mod Bindings
 pub mod Bound
 pub mod Dependencies
+pub mod HandedIn
 pub mod Homes
 pub mod Instances
 pub mod Levels

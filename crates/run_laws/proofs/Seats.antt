@@ -1,5 +1,6 @@
 -- The calls of each seat in a history.
 use Rattle.std.proofs.Common.{◌≡◌, ℕ, ◌+◌, ◌<◌, List, [], ◌∷◌, ◌++◌, length, All, ◌⊎◌, inl, inr, refl, sym, ap, ◌∙◌, arith, append_assoc, subst}
+use Rattle.std.specs.List.{AllByRecursion}
 use Rattle.std.proofs.lemmas.Bool.{cases_eq}
 use Rattle.std.proofs.lemmas.List.Elements.{All-head, All-tail}
 use Rattle.session_model.specs.Calls.{IsJob, numbered_calls}
@@ -43,6 +44,23 @@ same_front (z ∷ zs) (w ∷ ws) x y e = cons (same_head z w (zs ++ x ∷ []) (w
   where
     cons : z ≡ w → zs ≡ ws → z ∷ zs ≡ w ∷ ws
     cons a b = ap (λ c. c ∷ zs) a ∙ ap (λ l. w ∷ l) b
+
+-- The calls of each seat
+
+-- a fact of them all is one of each entry
+pub each_seat : (P : Entry Meaning → Type 0) (n : ℕ) (es : List (Entry Meaning)) → ((s : ℕ) → AllByRecursion (λ (c : ℕ × Entry Meaning). P c.1) (numbered_calls s n es)) → AllByRecursion P es
+each_seat P n [] each = tt
+each_seat P n (e ∷ es) each = (
+  (subst Q (call_first e.seat.0 n e es refl) (each e.seat.0)).0,
+  each_seat P (n + 1) es (λ s. others s (each s) (cases_eq e.seat.0 s)),
+)
+  where
+    Q : List (ℕ × Entry Meaning) → Type 0
+    Q cs = AllByRecursion (λ (c : ℕ × Entry Meaning). P c.1) cs
+
+    others : (s : ℕ) → Q (numbered_calls s n (e ∷ es)) → (e.seat.0 ≡ s) ⊎ (e.seat.0 ≡ s → ⊥) → Q (numbered_calls s (n + 1) es)
+    others s a (inl is) = (subst Q (call_first s n e es is) a).1
+    others s a (inr apart) = subst Q (call_skipped s n e es apart) a
 
 -- The calls of one seat
 

@@ -1,8 +1,9 @@
 -- A script's session keeps its promises.
-use Rattle.std.proofs.Common.{◌≡◌, ℕ, ◌+◌, List, [], ◌∷◌, ◌++◌, slice_get, take, drop, Option, None, Some, refl, sym, ap, subst, ◌∙◌}
+use Rattle.std.proofs.Common.{◌≡◌, ℕ, ◌+◌, List, [], ◌∷◌, ◌++◌, slice_get, take, drop, Option, None, Some, refl, sym, ap, subst, ◌∙◌, arith, suc, Bool, true, false, ◌==◌, All}
 use Rattle.std.proofs.lemmas.List.{take-append-drop}
-use Rattle.std.proofs.lemmas.List.Elements.{All-head}
-use Rattle.list_laws.proofs.Each.{all_front, all_back}
+use Rattle.std.proofs.lemmas.List.Elements.{All-head, All-cons, All-from_recursion, All-nil, recursion_from_All}
+use Rattle.list_laws.proofs.Each.{all_front, all_back, each_taken}
+use Rattle.std.specs.Bool.{if◌then◌else◌}
 use Rattle.orc_ids.specs.declared.lookup.Stop.{Stop}
 use Rattle.exec_run.specs.declared.ran.RunEnd.{RunEnd}
 use Rattle.run_laws.specs.Ended.{AreMemory}
@@ -27,7 +28,9 @@ use Rattle.session_promises.proofs.Entries.{calls_of}
 use Rattle.session_promises.proofs.FoundReady.{found_is_ready}
 use Rattle.session_promises.proofs.FoundStanding.{same_address}
 use Rattle.session_promises.proofs.Settled.{failed_where_lost, found_where_settled}
+use Rattle.session_promises.proofs.Objects.{objects_have_closures}
 use Rattle.session_promises.proofs.Runs.{intact_runs_as_linked}
+use Rattle.session_promises.specs.Runs.{IsLinkable}
 use Rattle.closures.proofs.Holding.{intact_holds}
 use Rattle.static_links.proofs.Linked.{image_is_linked}
 use Rattle.script_calls.specs.Lines.{Line, One, LookUp, Run, PeekAt, Script}
@@ -36,6 +39,12 @@ use Rattle.script_laws.specs.Scripts.{Went, Whole, InSetUp}
 use Rattle.script_laws.specs.declared.line_end.LineEnd.{LineEnd}
 use Rattle.script_laws.specs.declared.line_end.LineEnd.TheVariants.{Looked, Peeked, Ran, Skipped, Stopped}
 use Rattle.script_promises.specs.Promises.{AreKept, IsKept, IsPeeked, IsRun, ScriptKeepsPromises}
+use Rattle.closure_laws.specs.HandedIn.{HandsIn}
+use Rattle.script_promises.proofs.Objects.{hands_objects}
+
+-- what holds of all entries holds of the first ones
+all_taken : {X : Type 0} (P : X → Type 0) (n : ℕ) (xs : List X) → All P xs → All P (take n xs)
+all_taken P n xs a = All-from_recursion P (take n xs) (each_taken P n xs (recursion_from_All P xs a))
 
 -- One line
 
@@ -130,6 +139,8 @@ module _ (jmax : ℕ) (h : List (Entry Meaning)) (legal : IsLegal jmax h) where
 pub script_keeps_promises : ScriptKeepsPromises
 script_keeps_promises jmax workers script stopped ends h run = record {
   lines = went_kept jmax h run.legal script ends run.setup run.later stopped run.went;
+  closures = λ asks n i intact. objects_have_closures jmax (take n h) (front_legal jmax h n run.legal)
+      (all_taken (λ (e : Entry Meaning). HandsIn IsLinkable e.event) n h (hands_objects jmax workers script stopped ends h run asks)) i intact;
   failures = failure_hits_those h;
   nothing_else = nothing_else_fails h;
 }

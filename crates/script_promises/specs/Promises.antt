@@ -1,5 +1,5 @@
 -- What the session of a script promises its clients.
-use Rattle.std.specs.Prelude.{◌≡◌, ◌↔◌, ◌⊎◌, ⊤, ℕ, ◌+◌, true, false, List, [], ◌∷◌, ◌++◌, Contains, slice_get, take, Option, Some}
+use Rattle.std.specs.Prelude.{◌≡◌, ◌↔◌, ◌⊎◌, ⊤, ℕ, ◌+◌, true, false, List, [], ◌∷◌, ◌++◌, Contains, slice_get, take, All, Option, Some}
 use Rattle.orc_ids.specs.declared.ids.InstId.{InstId}
 use Rattle.orc_ids.specs.declared.ids.QueryId.{QueryId}
 use Rattle.orc_ids.specs.declared.lookup.Level.TheVariants.{Ready}
@@ -12,11 +12,13 @@ use Rattle.exec_run.specs.Run.{RunsTo}
 use Rattle.exec_run.specs.declared.ran.RunEnd.{RunEnd}
 use Rattle.session_model.specs.Calls.{Lookup}
 use Rattle.session_model.specs.Meaning.{Bindings, Meaning}
+use Rattle.session_model.specs.Owed.{IsIntact}
 use Rattle.session_model.specs.Plain.{failed_at}
 use Rattle.session_model.specs.Reach.{IsHit, IsReady}
 use Rattle.session_model.specs.State.{state}
 use Rattle.session_model.specs.declared.entry.Entry.{Entry}
 use Rattle.session_model.specs.declared.entry.Event.TheVariants as event
+use Rattle.closure_laws.specs.HandedIn.{HandsIn}
 use Rattle.session_laws.specs.Failures.{IsFailure}
 use Rattle.look_ends.specs.declared.look_end.LookEnd.TheVariants as look
 use Rattle.look_ends.specs.declared.peeked.Peek.{Peek}
@@ -26,8 +28,8 @@ use Rattle.given_names.specs.declared.names.GivenMatch.{GivenMatch}
 use Rattle.run_laws.specs.Ended.{AreMemory}
 use Rattle.session_promises.specs.Failures.{roots_of}
 use Rattle.session_promises.specs.Lookups.{IsFailedAt, IsFoundAt}
-use Rattle.session_promises.specs.Runs.{IsClosure}
-use Rattle.script_calls.specs.Lines.{Line, LookUp, Run, PeekAt, Script}
+use Rattle.session_promises.specs.Runs.{IsClosure, IsLinkable}
+use Rattle.script_calls.specs.Lines.{Line, LookUp, Run, PeekAt, Script, One}
 use Rattle.script_laws.specs.Lines.{IsReadyAt, given_by}
 use Rattle.script_laws.specs.Scripts.{IsScriptRun}
 use Rattle.script_laws.specs.declared.line_end.LineEnd.{LineEnd}
@@ -81,10 +83,21 @@ module _ (h : List (Entry Meaning)) where
   AreKept given (line ∷ lines) (end ∷ ends) = IsKept given line end × AreKept (given_by line end ++ given) lines ends
   AreKept given lines ends = ⊥
 
+-- each unit that a script asks for is that of an object, or needs no memory
+abbrev pub LineHandsIn : Line → Type 0
+LineHandsIn (One e) = HandsIn IsLinkable e
+LineHandsIn line = ⊤
+
+pub record AsksForObjects (script : Script) : Type 0 where
+  pub set_up : All (HandsIn IsLinkable) script.set_up
+  pub lines : All (All LineHandsIn) script.clients
+
 -- What the session of a script promises.
 pub record KeepsPromises (script : Script) (ends : List (List LineEnd)) (h : List (Entry Meaning)) : Type 0 where
   -- each line of each client
   pub lines : (k : ℕ) (lines : List Line) (its : List LineEnd) → slice_get script.clients k ≡ Some lines → slice_get ends k ≡ Some its → AreKept h [] lines its
+  -- where it asks for objects alone, there is a closure of each instance that is intact after an entry
+  pub closures : AsksForObjects script → (n i : ℕ) → IsIntact (state (take n h)).rows i → (closure : Map) × IsClosure (state (take n h)) i closure
   -- a failure puts in error exactly the unready instances that reach what it strikes
   pub failures : (n : ℕ) (e : Entry Meaning) → slice_get h n ≡ Some e → IsFailure e.event e.reply → (i : ℕ) →
       (failed_at (state (take (n + 1) h)).rows i ≡ true) ↔ (failed_at (state (take n h)).rows i ≡ true) ⊎ IsHit (state (take n h)).rows (roots_of (state (take n h)) e.event) i

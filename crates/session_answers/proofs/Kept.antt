@@ -23,6 +23,8 @@ use Rattle.session_answers.specs.Found.{wanting}
 use Rattle.session_answers.specs.Reads.{IsSourceEndFor, IsSourceReadFor}
 use Rattle.session_answers.specs.Laws.{SessionAnswersAreKept}
 use Rattle.session_answers.proofs.Causes.{Cause, Session, answer_of, cause_of, no_text, write_later}
+use Rattle.script_promises.specs.Promises.{KeepsPromises}
+use Rattle.session_answers.proofs.Objects.{asks_for_objects, loaded_have}
 use Rattle.session_answers.proofs.Determined.{loaded_found, refused_found, stopped_found}
 
 module _ {N : Type 0} (heard : N → Option Outcome) (number : N → ℕ) (jmax : ℕ) (c : Call N) (f answer : Answer) (output : List ℕ) (is : Finds heard number jmax c f output) where
@@ -64,12 +66,16 @@ module _ {N : Type 0} (heard : N → Option Outcome) (number : N → ℕ) (jmax 
         stopped = s.stopped;
         ends = s.ends;
         session = s.session;
-        promises = script_keeps_promises jmax c.workers (asked_script s.session.units s.script) s.stopped s.ends s.history s.session.run;
+        promises = kept s;
+        closures = (kept s).closures (asks_for_objects s.session.units (loaded_have c.told s.script.files s.names s.session.units s.session.loaded) s.script);
         answers = s.answers;
         written = (subst (λ text. HoldsWhole c.out_before c.out_after text) s.text h.out_holds).0;
         logged = h.log_holds.0;
         notes = s.notes quiet;
       }
+    where
+      kept : (s : Session heard number jmax c answer output) → KeepsPromises (asked_script s.session.units s.script) s.ends s.history
+      kept s = script_keeps_promises jmax c.workers (asked_script s.session.units s.script) s.stopped s.ends s.history s.session.run
 
   session : Written → IsOfSession answer → OfSession heard number jmax c answer
   session w (inl e) = of_session w (λ q. cc) (λ q. cc) (subst (λ x. Session heard number jmax c x output) (sym e) (caused Done e (λ q. cc) w))

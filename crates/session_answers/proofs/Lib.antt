@@ -1,4 +1,5 @@
 pub mod Causes
 pub mod Determined
 pub mod Kept
+pub mod Objects
 pub mod Reading

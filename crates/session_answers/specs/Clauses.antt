@@ -4,7 +4,10 @@ use Rattle.std.specs.Io.KnownBytes.{Appends}
 use Rattle.orc_ids.specs.declared.lookup.Outcome.{Outcome}
 use Rattle.orc_ids.specs.declared.lookup.Stop.{Stop}
 use Rattle.orc_io.specs.Causes.{Rose}
+use Rattle.rv_hart.specs.Map.{Map}
 use Rattle.session_model.specs.Meaning.{Meaning}
+use Rattle.session_model.specs.Owed.{IsIntact}
+use Rattle.session_model.specs.State.{state}
 use Rattle.session_model.specs.declared.entry.Entry.{Entry}
 use Rattle.object_files.specs.Files.{AreLoaded, HasStopped, Told}
 use Rattle.object_files.specs.declared.error.LoadError.{LoadError}
@@ -17,6 +20,7 @@ use Rattle.session_script.specs.declared.script.Script.{Script}
 use Rattle.noted.specs.declared.notes.Noted.{Noted}
 use Rattle.noted.specs.declared.notes.Noted.TheVariants.{Unfired}
 use Rattle.script_plan.specs.Asked.{asked_script}
+use Rattle.session_promises.specs.Runs.{IsClosure}
 use Rattle.script_promises.specs.Promises.{KeepsPromises}
 use Rattle.script_laws.specs.declared.line_end.LineEnd.{LineEnd}
 use Rattle.answers.specs.declared.answer.Answer.{Answer}
@@ -100,7 +104,8 @@ module _ {N : Type 0} (heard : N → Option Outcome) (number : N → ℕ) (jmax 
   abbrev pub Finds : Answer → List ℕ → Type 0
   Finds answer output = IsFound heard number jmax c.workers c.handed c.source_before.bytes c.source_before.faults c.source_after.faults c.told c.faults_before c.faults_after answer output c.back
 
-  -- A session of the script on the source was run, which keeps its promises to the clients, and says the answer. Out has gained its text,
+  -- A session of the script on the source was run, which keeps its promises to the clients, and in which each instance that is intact
+  -- after an entry has a closure; and it says the answer. Out has gained its text,
   -- and log the end line; and the notifiers have heard how it ended their queries.
   pub record OfSession (answer : Answer) : Type 0 where
     pub script : Script
@@ -111,6 +116,7 @@ module _ {N : Type 0} (heard : N → Option Outcome) (number : N → ℕ) (jmax 
     pub ends : List (List LineEnd)
     pub session : IsSession jmax c.workers c.told script names history stopped ends
     pub promises : KeepsPromises (asked_script session.units script) ends history
+    pub closures : (n i : ℕ) → IsIntact (state (take n history)).rows i → (closure : Map) × IsClosure (state (take n history)) i closure
     pub answers : answer ≡ session_answer history stopped ends
     pub written : Appends c.out_before.bytes c.out_after.bytes (session_text names script history ends)
     pub logged : Appends c.log_before.bytes c.log_after.bytes (end_line_of answer)

@@ -7,5 +7,6 @@ pub mod FoundStanding
 pub mod FoundFew
 pub mod LastCalls
 pub mod Lodged
+pub mod Objects
 pub mod Runs
 pub mod Settled

@@ -23,10 +23,11 @@ use Rattle.session_model.specs.declared.entry.Entry.{Entry}
 use Rattle.session_model.specs.declared.entry.Event.TheVariants as event
 use Rattle.session_model.specs.declared.entry.Reply.TheVariants as reply
 use Rattle.session_laws.specs.Failures.{IsFailure}
+use Rattle.closure_laws.specs.HandedIn.{HandsIn}
 use Rattle.closures.specs.Closures.{AreObjects}
 use Rattle.session_promises.specs.Failures.{roots_of}
 use Rattle.session_promises.specs.Lookups.{AreCallsOf, IsFailedAt, IsFoundAt, StandsReady}
-use Rattle.session_promises.specs.Runs.{IsClosure}
+use Rattle.session_promises.specs.Runs.{IsClosure, IsLinkable}
 
 -- a lookup whose last call was answered that it is found: the call collects a query that an ask for its names lodged, and it was answered
 -- so at exactly the point where that query settles
@@ -73,6 +74,10 @@ NothingElseFails = (h : List (Entry Meaning)) (n : ℕ) (e : Entry Meaning) → 
 -- an intact instance has a closure, where the units are those of objects
 abbrev pub IntactHasClosure : Type 0
 IntactHasClosure = (jmax : ℕ) (h : List (Entry Meaning)) → IsLegal jmax h → (graphs : List LinkGraph) → AreObjects (state h).units graphs → (i : ℕ) → IsIntact (state h).rows i → (closure : Map) × IsClosure (state h) i closure
+
+-- so it has, where each unit that the session was handed is that of an object, or needs no memory
+abbrev pub ObjectsHaveClosures : Type 0
+ObjectsHaveClosures = (jmax : ℕ) (h : List (Entry Meaning)) → IsLegal jmax h → All (λ (e : Entry Meaning). HandsIn IsLinkable e.event) h → (i : ℕ) → IsIntact (state h).rows i → (closure : Map) × IsClosure (state h) i closure
 
 -- a run from an intact symbol is the run of the statically linked program of its closure, where that stays within it
 abbrev pub IntactRunsAsLinked : Type 0

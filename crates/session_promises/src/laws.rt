@@ -1,5 +1,5 @@
 //! The laws.
-ghost use Rattle.session_promises.specs.Laws.{FailedWhereLost, FailureHitsThose, FoundAreFew, FoundIsReady, FoundStaysReady, FoundWhereSettled, IntactHasClosure, IntactRunsAsLinked, NothingElseFails, RowsAreFew};
+ghost use Rattle.session_promises.specs.Laws.{FailedWhereLost, FailureHitsThose, FoundAreFew, FoundIsReady, FoundStaysReady, FoundWhereSettled, IntactHasClosure, IntactRunsAsLinked, NothingElseFails, RowsAreFew, ObjectsHaveClosures};
 
 /// A lookup that is found is answered with addresses at exactly the first entry that leaves all its matches at
 /// its level.
@@ -45,6 +45,11 @@ pub fn nothing_else_fails()
 /// An intact instance has a closure.
 pub fn intact_has_closure()
     ensures { IntactHasClosure }
+{}
+
+/// So it has where each unit that the session was handed is that of an object, or needs no memory.
+pub fn objects_have_closures()
+    ensures { ObjectsHaveClosures }
 {}
 
 /// A run from an intact symbol has the end and the output of the statically linked program of its closure.

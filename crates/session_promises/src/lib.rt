@@ -10,5 +10,5 @@ mod laws;
 pub use laws::{
     failed_where_lost, failure_hits_those, found_are_few, found_is_ready, found_stays_ready,
     found_where_settled, intact_has_closure, intact_runs_as_linked, nothing_else_fails,
-    rows_are_few,
+    objects_have_closures, rows_are_few,
 };

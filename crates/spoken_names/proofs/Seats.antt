@@ -22,6 +22,7 @@ use Rattle.journal_names.proofs.KnownReplies.{answer_known}
 use Rattle.journal_names.proofs.KnownUnits.{IsKnown, after_known, empty_known}
 use Rattle.journal_names.proofs.Knowing.{names_are_known}
 use Rattle.run_laws.proofs.Costs.{each_joined}
+use Rattle.run_laws.proofs.Seats.{each_seat}
 use Rattle.run_laws.proofs.Sums.{each_call}
 use Rattle.spoken_names.specs.Laws.{SpokenNamesAreKnown}
 use Rattle.spoken_names.specs.Speaking.{Speaks}
@@ -36,21 +37,6 @@ SaysKnown names e = KnownEvent names e.event
 
 abbrev Replies : List (List ℕ) → Entry Meaning → Type 0
 Replies names e = KnownReply names e.reply
-
--- a fact of the calls of each seat is one of each entry
-each_seat : (P : Entry Meaning → Type 0) (n : ℕ) (es : List (Entry Meaning)) → ((s : ℕ) → AllByRecursion (λ (c : ℕ × Entry Meaning). P c.1) (numbered_calls s n es)) → AllByRecursion P es
-each_seat P n [] each = tt
-each_seat P n (e ∷ es) each = (
-  (subst Q (call_first e.seat.0 n e es refl) (each e.seat.0)).0,
-  each_seat P (n + 1) es (λ s. others s (each s) (cases_eq e.seat.0 s)),
-)
-  where
-    Q : List (ℕ × Entry Meaning) → Type 0
-    Q cs = AllByRecursion (λ (c : ℕ × Entry Meaning). P c.1) cs
-
-    others : (s : ℕ) → Q (numbered_calls s n (e ∷ es)) → (e.seat.0 ≡ s) ⊎ (e.seat.0 ≡ s → ⊥) → Q (numbered_calls s (n + 1) es)
-    others s a (inl is) = (subst Q (call_first s n e es is) a).1
-    others s a (inr apart) = subst Q (call_skipped s n e es apart) a
 
 -- replies have known names where all that was handed in is known
 replies_from : (names : List (List ℕ)) (jmax : ℕ) (past : List (Entry Meaning)) (m : Plain) (h : List (Entry Meaning)) → LegalFrom jmax past m h → AllByRecursion (Hands names) h → IsKnown names m → AllByRecursion (Replies names) h
