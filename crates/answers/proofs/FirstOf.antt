@@ -5,7 +5,7 @@ use Rattle.std.proofs.Math.ListN.{drop_of_length-le}
 use Rattle.std.proofs.Math.Seq.{drop-cons}
 use Rattle.list_laws.proofs.Each.{any_mapped}
 use Rattle.session_model.specs.Lists.{first_some, or_else}
-use Rattle.model_laws.proofs.Choices.{first_mapped}
+use Rattle.session_model.proofs.Choices.{first_mapped}
 
 from_place : {X : Type 0} (xs : List X) (i : ℕ) (d : X) → i < length xs → drop i xs ≡ get_or xs i d ∷ drop (i + 1) xs
 from_place xs i d below =

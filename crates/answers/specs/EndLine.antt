@@ -11,7 +11,7 @@ use Rattle.link_graph.specs.declared.error.GraphError.{GraphError}
 use Rattle.link_graph.specs.declared.error.GraphError.TheVariants.{UnknownReloc, RelocOutside, TlsOrIfunc, BadPair, NeedsAlign, TooMany, NoMemory as GraphNoMemory}
 use Rattle.exec_run.specs.declared.ran.RunEnd.TheVariants as end
 use Rattle.text_parts.specs.Places.{place_text, edge_text}
-use Rattle.run_text.specs.RunEnds.{run_end_text}
+use Rattle.exec_run.specs.RunEnds.{run_end_text}
 use Rattle.command_line.specs.declared.error.UsageKind.{UsageKind}
 use Rattle.command_line.specs.declared.error.UsageKind.TheVariants.{NoCommand, UnknownCommand, BadWords, BadNumber}
 use Rattle.object_files.specs.declared.error.ObjectWhy.{ObjectWhy}

@@ -1,1 +1,4 @@
+pub mod Causes
+pub mod Determined
+pub mod Kept
 pub mod Stopped

@@ -6,7 +6,7 @@ use Rattle.answers.specs.Reads.{AreReadFor}
 use Rattle.answers.proofs.Reading.{read_in_vain}
 use Rattle.answers.specs.declared.answer.Answer.{Answer}
 use Rattle.answers.specs.declared.answer.Answer.TheVariants.{AsmRefused, FileFault, NoMemory, TooLong}
-use Rattle.as_answers.specs.Found.{IsFound, IsTextOf, in_length, in_reading, in_text, wanting}
+use Rattle.as_command.specs.Found.{IsFound, IsTextOf, in_length, in_reading, in_text, wanting}
 use Rattle.as_command.specs.Stops.{HasStopped, IsUnassembled, IsUnread, unassembled, unread}
 
 unread_found : (told : Told) (before after : ℕ) (file : List ℕ) (answer : Answer) (output : List ℕ) → output ≡ [] → IsUnread told before after file answer → IsFound file told before after answer output

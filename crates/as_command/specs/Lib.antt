@@ -1,1 +1,4 @@
+pub mod Clauses
+pub mod Found
+pub mod Laws
 pub mod Stops

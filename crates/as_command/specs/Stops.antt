@@ -8,7 +8,7 @@ use Rattle.rv_asm.specs.Objects.{Assembles}
 use Rattle.rv_asm.specs.declared.error.AsmError.TheVariants.{BadLine}
 use Rattle.answers.specs.declared.answer.Answer.{Answer}
 use Rattle.answers.specs.declared.answer.Answer.TheVariants.{AsmRefused, FileFault, NoMemory, TooLong}
-use Rattle.as_answers.specs.Found.{IsTextOf}
+use Rattle.as_command.specs.Found.{IsTextOf}
 
 -- the file couldn't be read, or is too long, or memory ran out
 abbrev pub IsUnread : Told → ℕ → ℕ → List ℕ → Answer → Type 0

@@ -3,7 +3,7 @@ ghost use Rattle.std.specs.Prelude.{◌≡◌, ◌≤◌, ◌∷◌, [], IfErr, 
 ghost use Rattle.elf_write.specs.Files.{file_bytes};
 ghost use Rattle.object_files.specs.Reads.{AreReadIn, use_of};
 ghost use Rattle.answers.specs.Reads.{AreReadFor};
-ghost use Rattle.as_answers.specs.Found.{HasObject, IsFileOf, IsFound, IsTextOf};
+ghost use Rattle.as_command.specs.Found.{HasObject, IsFileOf, IsFound, IsTextOf};
 ghost use Rattle.as_command.specs.Stops.{HasStopped, IsUnassembled, IsUnread};
 
 use answers::Answer;

@@ -5,5 +5,7 @@
 #![tactic(auto)]
 
 mod assembly;
+mod laws;
 
 pub use assembly::{AssemblyFound, find_assembly};
+pub use laws::as_answers_are_kept;

@@ -7,7 +7,7 @@ use Rattle.std.proofs.lemmas.List.{take_more, append-nil, map-append}
 use Rattle.std.proofs.lemmas.List.Elements.{All-head, All-tail, Contains-append_left, Contains-push, Contains-push_cases, filter-append}
 use Rattle.std.proofs.lemmas.Option.{same_Some}
 use Rattle.list_laws.proofs.Each.{contains_later, contains_here}
-use Rattle.link_laws.proofs.Symbols.{length_own, numbers_below}
+use Rattle.link_model.proofs.Symbols.{length_own, numbers_below}
 use Rattle.link_model.specs.Graph.{own_symbols, is_referred, external_symbols}
 use Rattle.block_groups.specs.Groups.{block_of, is_own, leads_to}
 use Rattle.link_model.specs.Image.{at_or, is_paired, place_of}

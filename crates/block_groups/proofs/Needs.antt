@@ -5,7 +5,7 @@ use Rattle.std.specs.List.{filter_map}
 use Rattle.std.proofs.lemmas.Bool.{false≢true}
 use Rattle.std.proofs.lemmas.List.{append-nil}
 use Rattle.std.proofs.lemmas.List.Elements.{filter_map-append}
-use Rattle.link_laws.proofs.Symbols.{no_edges}
+use Rattle.link_model.proofs.Symbols.{no_edges}
 use Rattle.list_laws.proofs.Bools.{bool_same}
 use Rattle.graph_walks.specs.Walks.{IsPath, Reaches, IsBounded}
 use Rattle.graph_walks.proofs.Paths.{reaches_self, reaches_next, reach_is_transitive, walks_suffice}

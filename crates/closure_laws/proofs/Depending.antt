@@ -4,7 +4,7 @@ use Rattle.std.specs.Bool.{if◌then◌else◌}
 use Rattle.std.specs.Option.{option_map_or}
 use Rattle.std.proofs.lemmas.Bool.{both_ways, cases_eq, ne_eqb, and_right}
 use Rattle.std.proofs.lemmas.Option.{none-some}
-use Rattle.model_laws.proofs.Units.{own_same}
+use Rattle.session_model.proofs.Units.{own_same}
 use Rattle.orc_ids.specs.declared.groups.Group.{Group}
 use Rattle.orc_ids.specs.declared.ids.InstId.{InstId}
 use Rattle.orc_ids.specs.declared.ids.TrackId.{TrackId}

@@ -3,8 +3,8 @@ use Rattle.std.proofs.Common.{◌≡◌, ℕ, ◌+◌, Bool, true, false, ◌&&�
 use Rattle.std.specs.Option.{option_map_or}
 use Rattle.std.proofs.lemmas.Bool.{and_parts, eqb-true}
 use Rattle.std.proofs.lemmas.Option.{none-some, same_Some}
-use Rattle.model_laws.proofs.FirstRows.{row_passes}
-use Rattle.model_laws.proofs.Choices.{some_of_first}
+use Rattle.session_model.proofs.FirstRows.{row_passes}
+use Rattle.session_model.proofs.Choices.{some_of_first}
 use Rattle.orc_ids.specs.declared.ids.GenId.{GenId}
 use Rattle.orc_ids.specs.declared.ids.InstId.{InstId}
 use Rattle.orc_ids.specs.declared.ids.NameId.{NameId}

@@ -2,7 +2,7 @@
 use Rattle.std.proofs.Common.{◌≡◌, ℕ, true, false, List, ◌++◌, slice_get, ◌⊎◌, inl, inr, subst, sym, refl, ap, ◌∙◌, Some}
 use Rattle.std.specs.Bool.{if◌then◌else◌}
 use Rattle.std.proofs.lemmas.Bool.{both_ways, true_from_ne_false}
-use Rattle.model_laws.proofs.Phases.{defunct_stage}
+use Rattle.session_model.proofs.Phases.{defunct_stage}
 use Rattle.orc_ids.specs.declared.ids.TrackId.{TrackId}
 use Rattle.orc_ids.specs.declared.ids.UnitId.{UnitId}
 use Rattle.session_model.specs.Change.{changed, settled, removed_unit, is_unit_of}

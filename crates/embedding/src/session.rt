@@ -6,11 +6,10 @@ ghost use Rattle.link_worker.specs.Works.{IsFree};
 
 use execution_session::Session;
 use link_worker::{LinkedUnit, Looked, lookup};
-use look_ends::LookEnd;
 use notifiers::FiredList;
 use orc_ids::{DylibId, Level, NameId, OrderItem, Scope, Stop, TrackId, Wanted};
 use orc_io::{Note, OpenGate};
-use session_model::Reply;
+use session_model::{LookEnd, Reply};
 use session_units::ObjectUnit;
 use shared_session::{Define, MakeDylib, MakeTracker, Pass, Shared};
 use std::alloc::Global;

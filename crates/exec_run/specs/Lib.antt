@@ -5,4 +5,5 @@ pub mod Larger
 pub mod Machine
 pub mod Regions
 pub mod Run
+pub mod RunEnds
 pub mod Start

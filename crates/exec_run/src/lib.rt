@@ -30,10 +30,12 @@ mod number;
 mod pieces;
 mod ran;
 mod ranges;
+mod run_end;
 mod runner;
 mod stack;
 
 pub use host::{HOME, OUTPUT_MAX, STACK_END, STACK_START};
 pub use laws::{larger_memory, runs_have_one_end};
 pub use ran::{Ran, RunEnd};
+pub use run_end::put_run_end;
 pub use runner::run;

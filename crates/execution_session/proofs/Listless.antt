@@ -35,7 +35,7 @@ use Rattle.session_model.specs.declared.rows.Verdict.TheVariants.{Kept, Replaces
 use Rattle.session_model.specs.Answer.{AnswersPlace, AnswersCall, AnswersEmit, Answers, called, Called, Gone, Wrong, Right, can_place}
 use Rattle.session_model.specs.declared.entry.Event.{Event}
 use Rattle.session_model.specs.declared.entry.Event.TheVariants as event
-use Rattle.same_replies.specs.Lists.{has_list}
+use Rattle.session_model.specs.SameLists.{has_list}
 use Rattle.session_steps.specs.Steps.{lists}
 
 abbrev Listless : Reply → Type 0

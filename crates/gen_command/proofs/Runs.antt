@@ -8,17 +8,17 @@ use Rattle.orc_ids.specs.declared.lookup.Stop.{Stop}
 use Rattle.orc_ids.specs.declared.lookup.Stop.TheVariants.{JournalFull, NoMemory}
 use Rattle.session_model.specs.Meaning.{Meaning}
 use Rattle.session_model.specs.declared.entry.Entry.{Entry}
-use Rattle.script_calls.specs.Lines.{Script}
-use Rattle.script_calls.specs.Plans.{line_of, script_of}
-use Rattle.script_calls.specs.declared.calls.Plan.{Plan}
-use Rattle.script_laws.specs.Scripts.{InSetUp, IsScriptRun, Went, Whole}
-use Rattle.script_laws.specs.declared.line_end.LineEnd.{LineEnd}
-use Rattle.script_laws.specs.declared.line_end.LineEnd.TheVariants.{Stopped}
+use Rattle.script_model.specs.Asking.{Script}
+use Rattle.script_model.specs.Plans.{line_of, script_of}
+use Rattle.script_model.specs.declared.calls.Plan.{Plan}
+use Rattle.script_model.specs.Scripts.{InSetUp, IsScriptRun, Went, Whole}
+use Rattle.script_model.specs.declared.line_end.LineEnd.{LineEnd}
+use Rattle.script_model.specs.declared.line_end.LineEnd.TheVariants.{Stopped}
 use Rattle.generated_session.specs.Runs.{IsGeneratedRun, is_stopped}
 use Rattle.generated_session.specs.Scripts.{generated_script}
 use Rattle.generated_session.proofs.Short.{is_never_full}
-use Rattle.generated_plan.specs.Plans.{IsGenerated}
-use Rattle.gen_answers.specs.Found.{IsSummary}
+use Rattle.generated_session.specs.Plans.{IsGenerated}
+use Rattle.gen_command.specs.Found.{IsSummary}
 use Rattle.gen_command.specs.Ends.{HasStopped, IsRun, IsTold, first_ends, first_stop, or_else, stop_in, stop_of}
 
 -- ---- its one client

@@ -1,1 +1,4 @@
+pub mod Clauses
 pub mod Ends
+pub mod Found
+pub mod Laws

@@ -1,7 +1,7 @@
 //! The whole command.
 ghost use Rattle.std.specs.Prelude.{◌≡◌, ◌≤◌};
 ghost use Rattle.execution_session.specs.declared.session.TheConstants.{JOURNAL_LIMIT};
-ghost use Rattle.gen_answers.specs.Found.{IsFound};
+ghost use Rattle.gen_command.specs.Found.{IsFound};
 
 use crate::session::summary;
 use answers::Answer;

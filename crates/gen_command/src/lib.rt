@@ -7,9 +7,11 @@
 #![tactic(auto)]
 
 mod finding;
+mod laws;
 mod session;
 mod stops;
 mod telling;
 
 pub use finding::{SummaryFound, find_summary};
+pub use laws::gen_answers_are_kept;
 pub use session::summary;

@@ -3,12 +3,12 @@ ghost use Rattle.std.specs.Prelude.{◌≡◌, ◌<◌, ◌≤◌, ◌+◌, ◌*
 ghost use Rattle.execution_session.specs.declared.session.TheConstants.{JOURNAL_LIMIT};
 ghost use Rattle.session_model.specs.State.{plain_history};
 ghost use Rattle.session_units.specs.Units.{meaning_of};
-ghost use Rattle.gen_answers.specs.Found.{IsSummary};
+ghost use Rattle.gen_command.specs.Found.{IsSummary};
 ghost use Rattle.gen_command.specs.Ends.{IsRun};
 
 use crate::telling::{first_client, told};
 use execution_session::Session;
-use generated_plan::plan_of;
+use generated_session::plan_of;
 use orc_ids::{Bytes, Stop};
 use orc_io::{Note, OpenGate};
 use orc_names::NameHasher;

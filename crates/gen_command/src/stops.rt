@@ -3,7 +3,7 @@ ghost use Rattle.std.specs.Prelude.{◌≡◌};
 ghost use Rattle.gen_command.specs.Ends.{first_stop, stop_in, stop_of};
 
 use orc_ids::Stop;
-use script_laws::LineEnd;
+use script_model::LineEnd;
 
 /// The stop of a line, if it was stopped.
 fn stop_of(end: &LineEnd) -> Option<Stop>

@@ -8,7 +8,7 @@ use crate::stops::stop_in;
 use answers::wanted_memory;
 use generated_session::Counts;
 use orc_ids::{Bytes, Stop};
-use script_laws::LineEnd;
+use script_model::LineEnd;
 use session_model::{Entry, UnitKind};
 use std::alloc::{AllocError, Global};
 

@@ -6,7 +6,7 @@ use Rattle.std.proofs.lemmas.List.Sums.{count_by-le-length, length-filter}
 use Rattle.session_model.specs.Meaning.{Meaning}
 use Rattle.session_model.specs.declared.entry.Event.{Event}
 use Rattle.session_model.specs.declared.entry.Event.TheVariants as event
-use Rattle.script_calls.specs.Lines.{Line, LookUp, One}
+use Rattle.script_model.specs.Asking.{Line, LookUp, One}
 use Rattle.run_laws.proofs.Costs.{each_joined, total_joined}
 use Rattle.run_laws.proofs.Falling.{total}
 use Rattle.generated_session.specs.Scripts.{client_lines, definitions, heads, is_head, is_removed, lookup_of, removals, runs, set_up_events, tracker_of}

@@ -1,7 +1,11 @@
-pub mod Lists
-pub mod Frames
-pub mod Takes
-pub mod Lines
 pub mod Asked
-pub mod Short
+pub mod Clients
+pub mod Definitions
 pub mod Few
+pub mod Frames
+pub mod Lines
+pub mod Lists
+pub mod Plans
+pub mod SetUps
+pub mod Short
+pub mod Takes

@@ -8,13 +8,13 @@ use Rattle.session_model.specs.Meaning.{Meaning}
 use Rattle.session_model.specs.declared.entry.Entry.{Entry}
 use Rattle.session_model.specs.declared.entry.Event.{Event}
 use Rattle.session_model.specs.declared.entry.Reply.{Reply}
-use Rattle.script_calls.specs.Lines.{Line, One, LookUp, Run, PeekAt}
-use Rattle.given_names.specs.Given.{Given, address_of}
-use Rattle.look_ends.proofs.Stopping.{stopped_begins}
+use Rattle.script_model.specs.Asking.{Line, One, LookUp, Run, PeekAt}
+use Rattle.script_model.specs.Given.{Given, address_of}
+use Rattle.session_model.proofs.Stopping.{stopped_begins}
 use Rattle.run_laws.specs.Runs.{IsCopy}
-use Rattle.script_laws.specs.Lines.{AreLines, AtEnd, CallsOf, CopiesAndRuns, Goes, IsLine, OneCall, Stops}
-use Rattle.script_laws.specs.declared.line_end.LineEnd.{LineEnd}
-use Rattle.script_laws.specs.declared.line_end.LineEnd.TheVariants.{Looked, Peeked, Ran, Replied, Unfound}
+use Rattle.script_model.specs.Lines.{AreLines, AtEnd, CallsOf, CopiesAndRuns, Goes, IsLine, OneCall, Stops}
+use Rattle.script_model.specs.declared.line_end.LineEnd.{LineEnd}
+use Rattle.script_model.specs.declared.line_end.LineEnd.TheVariants.{Looked, Peeked, Ran, Replied, Unfound}
 use Rattle.run_laws.proofs.Costs.{Costs, NumberedCall, NumberedUnoffered, each_back, each_front, each_joined, front_length, looks_cost, taken, total_joined}
 use Rattle.run_laws.proofs.Falling.{total}
 use Rattle.generated_session.proofs.Frames.{client_call, is_client}

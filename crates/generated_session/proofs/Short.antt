@@ -23,11 +23,11 @@ use Rattle.run_laws.proofs.Calm.{IsUnoffered}
 use Rattle.run_laws.proofs.Costs.{NumberedUnoffered, taken}
 use Rattle.run_laws.proofs.Falling.{takes, total, two_each}
 use Rattle.run_laws.proofs.Seats.{calls_past}
-use Rattle.script_calls.specs.Lines.{Line}
-use Rattle.script_laws.specs.Lines.{AreLines, AreSkipped}
-use Rattle.script_laws.specs.Scripts.{AreCalled, InSetUp, IsScriptRun, Went, Whole}
-use Rattle.script_laws.specs.declared.line_end.LineEnd.{LineEnd}
-use Rattle.script_laws.specs.declared.line_end.LineEnd.TheVariants.{Skipped, Stopped}
+use Rattle.script_model.specs.Asking.{Line}
+use Rattle.script_model.specs.Lines.{AreLines, AreSkipped}
+use Rattle.script_model.specs.Scripts.{AreCalled, InSetUp, IsScriptRun, Went, Whole}
+use Rattle.script_model.specs.declared.line_end.LineEnd.{LineEnd}
+use Rattle.script_model.specs.declared.line_end.LineEnd.TheVariants.{Skipped, Stopped}
 use Rattle.generated_session.specs.Laws.{IsNeverFull, IsShort}
 use Rattle.generated_session.specs.Runs.{IsGeneratedRun, is_stopped}
 use Rattle.generated_session.specs.Scripts.{client_lines, generated_script, set_up_events}

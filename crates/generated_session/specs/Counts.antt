@@ -3,10 +3,10 @@ use Rattle.std.specs.Prelude.{ℕ, ◌*◌, Bool, true, false, List, [], ◌∷�
 use Rattle.std.specs.Fmt.{decimal}
 use Rattle.std.specs.List.{filter}
 use Rattle.session_model.specs.declared.entry.Reply.TheVariants as reply
-use Rattle.look_ends.specs.declared.look_end.LookEnd.TheVariants as look
+use Rattle.session_model.specs.declared.look_end.LookEnd.TheVariants as look
 use Rattle.exec_run.specs.declared.ran.RunEnd.TheVariants as run
-use Rattle.script_laws.specs.declared.line_end.LineEnd.{LineEnd}
-use Rattle.script_laws.specs.declared.line_end.LineEnd.TheVariants.{Looked, Ran, Replied}
+use Rattle.script_model.specs.declared.line_end.LineEnd.{LineEnd}
+use Rattle.script_model.specs.declared.line_end.LineEnd.TheVariants.{Looked, Ran, Replied}
 use Rattle.generated_session.specs.Scripts.{heads, removals}
 use Rattle.generated_session.specs.declared.counts.Counts.{Counts}
 use Rattle.generated_session.specs.declared.counts.EndKind.{EndKind}

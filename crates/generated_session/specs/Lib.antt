@@ -1,4 +1,5 @@
-pub mod Scripts
 pub mod Counts
-pub mod Runs
 pub mod Laws
+pub mod Plans
+pub mod Runs
+pub mod Scripts

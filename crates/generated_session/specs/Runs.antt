@@ -7,9 +7,9 @@ use Rattle.link_model.specs.declared.graph.LinkGraph.{LinkGraph}
 use Rattle.session_model.specs.Meaning.{Meaning}
 use Rattle.session_model.specs.declared.entry.Entry.{Entry}
 use Rattle.session_units.specs.Meaning.{graph_meaning}
-use Rattle.script_laws.specs.Scripts.{IsScriptRun}
-use Rattle.script_laws.specs.declared.line_end.LineEnd.{LineEnd}
-use Rattle.script_laws.specs.declared.line_end.LineEnd.TheVariants.{Stopped}
+use Rattle.script_model.specs.Scripts.{IsScriptRun}
+use Rattle.script_model.specs.declared.line_end.LineEnd.{LineEnd}
+use Rattle.script_model.specs.declared.line_end.LineEnd.TheVariants.{Stopped}
 use Rattle.generated_objects.specs.Objects.{generated_object, session_names}
 use Rattle.generated_session.specs.Scripts.{generated_script}
 

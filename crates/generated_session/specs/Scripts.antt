@@ -11,7 +11,7 @@ use Rattle.session_model.specs.Calls.{Lookup}
 use Rattle.session_model.specs.Meaning.{Meaning}
 use Rattle.session_model.specs.declared.entry.Event.{Event}
 use Rattle.session_model.specs.declared.entry.Event.TheVariants as event
-use Rattle.script_calls.specs.Lines.{Line, One, LookUp, Run, Script}
+use Rattle.script_model.specs.Asking.{Line, One, LookUp, Run, Script}
 use Rattle.generated_objects.specs.Graphs.{name_of}
 use Rattle.generated_objects.specs.Rings.{RING}
 

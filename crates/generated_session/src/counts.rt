@@ -2,13 +2,12 @@
 ghost use Rattle.std.specs.Prelude.{◌≡◌, ◌<◌, ◌≤◌, ◌*◌, ◌^◌, ℕ, List, drop, length, sum_by, take};
 ghost use Rattle.generated_session.specs.Counts.{counts_of, exit_code, how_many, is_found, is_gone, is_lost, is_missing, is_of};
 ghost use Rattle.generated_session.specs.Scripts.{heads, removals};
-ghost use Rattle.script_laws.specs.declared.line_end.LineEnd.TheVariants.{Looked, Ran, Replied};
+ghost use Rattle.script_model.specs.declared.line_end.LineEnd.TheVariants.{Looked, Ran, Replied};
 
 use crate::functions::{is_head, is_removed};
 use exec_run::RunEnd;
-use look_ends::LookEnd;
-use script_laws::LineEnd;
-use session_model::Reply;
+use script_model::LineEnd;
+use session_model::{LookEnd, Reply};
 
 /// How many lines of the client ended how.
 #[derive(Clone, Copy, Debug)]

@@ -9,11 +9,16 @@
 //! Read `generated_objects` and `script_laws` first; `generated_plan` has the calls, and `gen_command` makes them.
 #![tactic(auto)]
 
+mod client;
 mod counts;
+mod definitions;
 mod functions;
 mod laws;
+mod plan;
+mod set_up;
 mod text;
 
 pub use counts::Counts;
 pub use functions::{is_head, is_removed};
 pub use laws::{generated_run_is_short, journal_is_never_full};
+pub use plan::plan_of;

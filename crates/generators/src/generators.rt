@@ -41,7 +41,7 @@ fn spend_row<U>(row: &mut Generator<U>)
 }
 
 /// The generator of this number is spent, if there is one.
-#[tactic(auto, using(model_laws::proofs::Changes::set_changed, model_laws::proofs::Changes::changed_past))]
+#[tactic(auto, using(session_model::proofs::Changes::set_changed, session_model::proofs::Changes::changed_past))]
 fn spend_at<U>(rows: &mut Vec<Generator<U>>, at: usize)
     ensures { rows.new.items ≡ changed_at at spent_row rows.old.items }
 {

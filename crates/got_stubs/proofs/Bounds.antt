@@ -4,7 +4,7 @@ use Rattle.std.specs.Prelude.{sum_by}
 use Rattle.std.proofs.lemmas.Bool.{cases_lt}
 use Rattle.std.proofs.lemmas.Nat.{pow_below}
 use Rattle.std.proofs.lemmas.List.Sums.{sum_by_more, sum_by_more_le, sum_by-take-le}
-use Rattle.link_laws.proofs.Layouts.{align_positive}
+use Rattle.link_model.proofs.Layouts.{align_positive}
 use Rattle.link_model.specs.Sound.{IsAlignment, IsSized, MAX_BLOCKS, MAX_BYTES}
 use Rattle.link_model.specs.declared.graph.Block.{Block}
 use Rattle.link_model.specs.declared.graph.LinkGraph.{LinkGraph}

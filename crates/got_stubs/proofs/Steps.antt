@@ -2,7 +2,7 @@
 use Rattle.std.proofs.Common.{◌≡◌, ℕ, zero, suc, ◌+◌, ◌*◌, ◌<◌, ◌≤◌, max, Bool, true, false, List, [], ◌∷◌, ◌++◌, length, get_or, take, drop, replicate, refl, sym, ap, subst, ◌∙◌, arith}
 use Rattle.std.specs.List.{All}
 use Rattle.std.proofs.lemmas.List.{append_assoc, length-append, at_drop_more, drop_all}
-use Rattle.link_laws.proofs.Symbols.{length_own}
+use Rattle.link_model.proofs.Symbols.{length_own}
 use Rattle.link_model.specs.Graph.{is_defined, is_offered, first_flag, other_flags, own_symbols, external_symbols}
 use Rattle.link_model.specs.Layout.{aligned, block_offsets, blocks_end, in_turn, layout_of, cell_symbols, stub_symbols, unit_align, CELL_SIZE, STUB_SIZE}
 use Rattle.link_model.specs.Sound.{Sound}

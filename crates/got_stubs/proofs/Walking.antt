@@ -1,7 +1,7 @@
 -- One symbol more of a walk over the symbols that have a part.
 use Rattle.std.proofs.Common.{◌≡◌, ℕ, ◌+◌, ◌*◌, ◌<◌, Bool, true, false, cond, List, ◌∷◌, length, get_or, drop, max, refl, sym, ap, ◌∙◌, arith}
 use Rattle.std.proofs.lemmas.List.{at_drop_more, get_or_default}
-use Rattle.link_laws.proofs.Symbols.{length_own}
+use Rattle.link_model.proofs.Symbols.{length_own}
 use Rattle.link_model.specs.Graph.{is_defined, is_offered, first_flag, other_flags, own_symbols, numbers_where}
 use Rattle.link_model.specs.Layout.{aligned, cell_symbols, stub_symbols, layout_of, CELL_SIZE, STUB_SIZE}
 use Rattle.link_model.specs.declared.graph.GSym.{GSym}

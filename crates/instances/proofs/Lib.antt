@@ -1,6 +1,13 @@
-pub mod Lists
-pub mod Spans
-pub mod Owned
+pub mod Beginnings
+pub mod Emissions
+pub mod Failures
 pub mod Filled
-pub mod Kept
 pub mod Fresh
+pub mod Kept
+pub mod Lists
+pub mod Members
+pub mod Owned
+pub mod Readiness
+pub mod Sets
+pub mod Spans
+pub mod Standings

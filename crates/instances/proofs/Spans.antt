@@ -3,7 +3,7 @@ use Rattle.std.proofs.Common.{◌≡◌, ℕ, ◌+◌, ◌≤◌, ◌==◌, map,
 use Rattle.std.specs.Bool.{if◌then◌else◌}
 use Rattle.std.proofs.lemmas.Bool.{and_left, ne_eqb}
 use Rattle.list_laws.proofs.Bools.{and_kept}
-use Rattle.model_laws.proofs.Units.{not_owned}
+use Rattle.session_model.proofs.Units.{not_owned}
 use Rattle.orc_ids.specs.declared.groups.Group.{Group}
 use Rattle.orc_ids.specs.declared.ids.InstId.{InstId}
 use Rattle.session_model.specs.Lists.{numbered, first_some}

@@ -1,5 +1,9 @@
-pub mod Table
-pub mod Spans
+pub mod Graph
 pub mod Groups
-pub mod Rows
 pub mod Prepared
+pub mod Removal
+pub mod Rows
+pub mod Sets
+pub mod Spans
+pub mod Table
+pub mod Tied

@@ -10,13 +10,22 @@
 //! Read `jit_dylib` for which names of a unit stay, and `dep_groups` for which instances a failure hits.
 #![tactic(auto)]
 
+mod failure;
+mod graph;
 mod groups;
+mod inst_set;
 mod instances;
+mod laws;
+mod removal;
+mod roots;
 mod row;
 mod rows;
 mod span;
+mod standing;
 
+pub use graph::InstanceGraph;
 pub use groups::Prepared;
 pub use instances::Instances;
+pub use laws::tells_on;
 pub use row::address_of;
 pub use span::Span;

@@ -122,7 +122,7 @@ impl Dylibs {
         Ok(())
     }
 
-    #[tactic(auto, using(model_laws::proofs::Changes::set_changed))]
+    #[tactic(auto, using(session_model::proofs::Changes::set_changed))]
     /// Gives the dylib a link order: itself with all its names, and then these.
     pub fn set_order(&mut self, d: DylibId, order: &[OrderItem]) -> Result<(), AllocError>
         requires { d.0 < length self.old.dylibs }

@@ -1,4 +1,6 @@
-pub mod Parts
 pub mod Events
-pub mod Replies
 pub mod Journal
+pub mod Laws
+pub mod Parts
+pub mod Readable
+pub mod Replies

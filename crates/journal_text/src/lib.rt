@@ -12,12 +12,14 @@
 
 mod events;
 mod known;
+mod laws;
 mod lists;
 mod parts;
 mod replies;
 mod text;
 
 pub use known::{are_given, are_known, is_given, knows_reply};
+pub use laws::{entry_is_read, history_is_read, line_is_read, text_is_read};
 pub use parts::put_named;
 pub use replies::put_reply;
 pub use text::text_of;

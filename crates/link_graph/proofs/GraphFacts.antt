@@ -11,7 +11,7 @@ use Rattle.std.proofs.lemmas.List.{length-append, length-map}
 use Rattle.std.proofs.lemmas.List.Elements.{All-nil, All-cons, All-head, All-tail, All-map, All-append, All-weaker}
 use Rattle.std.proofs.lemmas.List.Sums.{sum_by-append, sum_by-cons}
 use Rattle.std.proofs.lemmas.Option.{same_Some}
-use Rattle.link_laws.proofs.Layouts.{align_positive}
+use Rattle.link_model.proofs.Layouts.{align_positive}
 use Rattle.orc_ids.specs.declared.ids.NameId.{NameId}
 use Rattle.elf_read.specs.Symbols.{symbol_zero}
 use Rattle.elf_read.specs.declared.object.ElfObject.{ElfObject}

@@ -1,7 +1,7 @@
 -- A search's refusals are those of a lookup.
 use Rattle.std.proofs.Common.{◌≡◌, Bool, true, false, not, ◌&&◌, map, List, [], ◌∷◌, Option, Some, None, option_map, refl, sym, ap, ap₂, ◌∙◌}
 use Rattle.std.specs.Prelude.{is_none}
-use Rattle.model_laws.proofs.Choices.{first_mapped}
+use Rattle.session_model.proofs.Choices.{first_mapped}
 use Rattle.orc_ids.specs.declared.ids.DylibId.{DylibId}
 use Rattle.orc_ids.specs.declared.ids.GenId.{GenId}
 use Rattle.orc_ids.specs.declared.ids.NameId.{NameId}

@@ -26,9 +26,9 @@ use Rattle.session_steps.specs.Finish.{IsFinish}
 use Rattle.execution_session.specs.Holding.{IsFinished}
 use Rattle.session_steps.specs.Performs.{state_of}
 use Rattle.execution_session.specs.declared.holding.Finished.{Finished}
-use Rattle.holder_laws.specs.Holders.{Holds, WasHeld}
-use Rattle.holder_laws.proofs.Calling.{own_list, owned_same, right_parts}
-use Rattle.holder_laws.proofs.Giving.{others_give_none}
+use Rattle.history_laws.specs.Holders.{Holds, WasHeld}
+use Rattle.history_laws.proofs.Calling.{own_list, owned_same, right_parts}
+use Rattle.history_laws.proofs.Giving.{others_give_none}
 use Rattle.materialization.proofs.Seats.{seated_stays}
 use Rattle.shared_session.specs.Does.{seat}
 use Rattle.turn_lock.specs.declared.view.View.{View}

@@ -38,24 +38,24 @@ use Rattle.session_laws.proofs.Declared.{pushed_last, AllReplies, replies_else, 
 use Rattle.notifiers.specs.Notices.{Told}
 use Rattle.notifiers.specs.declared.notice.Notice.{Notice}
 use Rattle.notifiers.specs.declared.notice.Unheard.{Unheard}
-use Rattle.note_laws.specs.Notes.{AreTold, event_note}
-use Rattle.note_laws.proofs.Unlodged.{Lodges, entry_lodges, unstirred}
+use Rattle.history_laws.specs.Notes.{AreTold, event_note}
+use Rattle.history_laws.proofs.Unlodged.{Lodges, entry_lodges, unstirred}
 use Rattle.turn_lock.specs.declared.view.View.{View}
 use Rattle.session_steps.specs.Fires.{is_lodged}
 use Rattle.session_steps.specs.Lookups.{BacksNotifier}
 use Rattle.session_steps.specs.Performs.{Performs}
 use Rattle.shared_session.specs.Does.{Tells, seat}
-use Rattle.seat_calls.specs.Did.{Did, Nothing, Promise, Single}
-use Rattle.seat_calls.proofs.Doing.{nothing_is_done}
-use Rattle.seat_calls.proofs.Numbers.{taken_start}
+use Rattle.shared_session.specs.Did.{Did, Nothing, Promise, Single}
+use Rattle.shared_session.proofs.Doing.{nothing_is_done}
+use Rattle.shared_session.proofs.Numbers.{taken_start}
 use Rattle.link_worker.specs.Does.{Does}
 use Rattle.link_worker.specs.Jobs.{IsCause, SpareAll}
-use Rattle.look_ends.specs.Ends.{EndsAs, LastIs}
-use Rattle.look_ends.specs.Stopped.{IsCutShort}
+use Rattle.session_model.specs.Ends.{EndsAs, LastIs}
+use Rattle.session_model.specs.Stopped.{IsCutShort}
 use Rattle.link_worker.specs.Looks.{Asking, HasAwaited, HasLooked, HasSettled, IsAsked, IsLodgedBy, end_stopped, has_lodged, is_ask, left_of, lookup_of, offered_in}
 use Rattle.link_worker.specs.Works.{IsFree}
-use Rattle.look_ends.specs.declared.look_end.LookEnd.{LookEnd}
-use Rattle.look_ends.specs.declared.look_end.LookEnd.TheVariants as end
+use Rattle.session_model.specs.declared.look_end.LookEnd.{LookEnd}
+use Rattle.session_model.specs.declared.look_end.LookEnd.TheVariants as end
 use Rattle.link_worker.proofs.Collecting.{one_lacks}
 use Rattle.link_worker.proofs.Freeing.{ask_untaken, free_after, generate_untaken}
 use Rattle.link_worker.proofs.Sparing.{spare_both, spare_none, spare_one}

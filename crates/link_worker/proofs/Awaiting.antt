@@ -15,9 +15,9 @@ use Rattle.session_model.specs.declared.rows.Query.{Query}
 use Rattle.session_laws.proofs.Declared.{same_element, query_stays, state_from_joined}
 use Rattle.turn_lock.specs.declared.view.View.{View}
 use Rattle.link_worker.specs.Jobs.{SpareAll, is_cut_fail}
-use Rattle.look_ends.specs.Ends.{LastIs}
-use Rattle.look_ends.specs.Stopped.{IsCutShort}
-use Rattle.look_ends.proofs.Lasts.{split_end}
+use Rattle.session_model.specs.Ends.{LastIs}
+use Rattle.session_model.specs.Stopped.{IsCutShort}
+use Rattle.session_model.proofs.Lasts.{split_end}
 use Rattle.link_worker.specs.Looks.{Waits}
 use Rattle.link_worker.specs.Works.{OneJobAtMost}
 use Rattle.link_worker.proofs.Knowing.{Between}

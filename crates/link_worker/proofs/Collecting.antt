@@ -21,22 +21,22 @@ use Rattle.session_model.specs.declared.entry.Reply.TheVariants as reply
 use Rattle.session_model.specs.declared.rows.Query.{Query}
 use Rattle.session_laws.proofs.Declared.{element_below, entries_are, query_stays, kept_within, state_from_joined}
 use Rattle.notifiers.specs.declared.notice.Notice.{Notice}
-use Rattle.note_laws.proofs.Unlodged.{unstirred}
+use Rattle.history_laws.proofs.Unlodged.{unstirred}
 use Rattle.turn_lock.specs.declared.view.View.{View}
 use Rattle.turn_lock.specs.Lists.{StartsWith}
 use Rattle.session_steps.specs.Performs.{Collects, state_of}
 use Rattle.shared_session.specs.Does.{seat}
-use Rattle.seat_calls.specs.Did.{Did, Nothing, Single}
-use Rattle.seat_calls.proofs.Doing.{nothing_is_done}
-use Rattle.seat_calls.proofs.Numbers.{plain_starts, taken_start}
+use Rattle.shared_session.specs.Did.{Did, Nothing, Single}
+use Rattle.shared_session.proofs.Doing.{nothing_is_done}
+use Rattle.shared_session.proofs.Numbers.{plain_starts, taken_start}
 use Rattle.link_worker.specs.Does.{Does}
 use Rattle.link_worker.specs.Jobs.{IsCause, LacksPlaces, SpareAll}
-use Rattle.look_ends.specs.Ends.{EndsAs}
-use Rattle.look_ends.specs.Stopped.{IsCutShort}
+use Rattle.session_model.specs.Ends.{EndsAs}
+use Rattle.session_model.specs.Stopped.{IsCutShort}
 use Rattle.link_worker.specs.Looks.{HasAwaited, IsLodgedBy, Waits, end_in, end_stopped}
 use Rattle.link_worker.specs.Works.{IsFree, OneJob, OneJobAtMost}
-use Rattle.look_ends.specs.declared.look_end.LookEnd.{LookEnd}
-use Rattle.look_ends.specs.declared.look_end.LookEnd.TheVariants as end
+use Rattle.session_model.specs.declared.look_end.LookEnd.{LookEnd}
+use Rattle.session_model.specs.declared.look_end.LookEnd.TheVariants as end
 use Rattle.link_worker.proofs.Awaiting.{OpenAt, StillWaits, seen_count, there_on, waits_cut, waits_end, waits_idle, waits_on, waits_still, waits_stopped}
 use Rattle.link_worker.proofs.Freeing.{collect_untaken, free_after}
 use Rattle.link_worker.proofs.Knowing.{Between, does_known}

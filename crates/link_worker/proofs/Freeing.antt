@@ -18,7 +18,7 @@ use Rattle.session_model.specs.declared.entry.Event.TheVariants as event
 use Rattle.session_model.specs.declared.entry.Reply.{Reply}
 use Rattle.session_model.specs.declared.entry.Reply.TheVariants as reply
 use Rattle.closure_laws.proofs.Declared.{one_more}
-use Rattle.holder_laws.proofs.Giving.{NoTake, change_seats_none}
+use Rattle.history_laws.proofs.Giving.{NoTake, change_seats_none}
 use Rattle.turn_lock.specs.declared.view.View.{View}
 use Rattle.shared_session.specs.Does.{seat}
 use Rattle.materialization.specs.Rest.{HoldsNone}

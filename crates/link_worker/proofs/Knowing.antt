@@ -10,8 +10,8 @@ use Rattle.session_model.specs.declared.entry.Entry.{Entry}
 use Rattle.notifiers.specs.declared.notice.Notice.{Notice}
 use Rattle.turn_lock.specs.declared.view.View.{View}
 use Rattle.turn_lock.specs.Lists.{StartsWith}
-use Rattle.seat_calls.specs.Did.{Did, Promise, calls_in}
-use Rattle.seat_calls.proofs.Numbers.{numbered_append}
+use Rattle.shared_session.specs.Did.{Did, Promise, calls_in}
+use Rattle.shared_session.proofs.Numbers.{numbered_append}
 use Rattle.link_worker.specs.Does.{Does, PlacesLowest, ToldAt}
 
 -- the numbers of calls lie after one number, and not after another

@@ -22,9 +22,9 @@ use Rattle.session_model.specs.declared.entry.Why.TheVariants as why
 use Rattle.session_laws.proofs.Declared.{entries_are, kept_within}
 use Rattle.notifiers.specs.Notices.{AreHeard, Told, outcomes}
 use Rattle.notifiers.specs.declared.notice.Notice.{Notice}
-use Rattle.note_laws.specs.Notes.{AreTold}
-use Rattle.note_laws.specs.Laws.{may_settle}
-use Rattle.note_laws.proofs.Unlodged.{unstirred}
+use Rattle.history_laws.specs.Notes.{AreTold}
+use Rattle.history_laws.specs.Laws.{may_settle}
+use Rattle.history_laws.proofs.Unlodged.{unstirred}
 use Rattle.turn_lock.specs.declared.view.View.{View}
 use Rattle.session_steps.specs.Handed.{IsLowest}
 use Rattle.session_steps.specs.Performs.{Performs, IsStopped, state_of}
@@ -39,8 +39,8 @@ use Rattle.materialization.proofs.Leaving.{others_leave_a_job}
 use Rattle.materialization.proofs.Stopping.{may_give_up, refused_edge_fails, stop_cuts_job, stopped_job_fails, full_is_cause, one_place}
 use Rattle.orc_ids.specs.declared.place.Place.{Place}
 use Rattle.orc_ids.specs.declared.place.Shape.{Shape}
-use Rattle.seat_calls.specs.Did.{Single}
-use Rattle.seat_calls.proofs.Doing.{nothing_is_done}
+use Rattle.shared_session.specs.Did.{Single}
+use Rattle.shared_session.proofs.Doing.{nothing_is_done}
 use Rattle.link_worker.specs.Jobs.{IsCause, IsJobAt, Knows, Leads, LacksPlaces, Steps, is_cut, is_cut_fail, next_by}
 use Rattle.link_worker.specs.Units.{Refuses, own_refusal, unfinished}
 use Rattle.link_worker.specs.declared.unit.FinishError.{FinishError}

@@ -27,7 +27,7 @@ use Rattle.session_steps.specs.Performs.{state_of}
 use Rattle.session_steps.specs.Taken.{IsUnitOf}
 use Rattle.session_steps.specs.declared.jobs.TakenUnit.{TakenUnit}
 use Rattle.execution_session.proofs.HeldCalls.{finishes_itself}
-use Rattle.holder_laws.proofs.Calling.{right_parts}
+use Rattle.history_laws.proofs.Calling.{right_parts}
 use Rattle.turn_lock.specs.declared.view.View.{View}
 use Rattle.shared_session.specs.Does.{seat}
 use Rattle.materialization.specs.Laws.{Begins, HasReason, IsJobOf, first_of}
@@ -43,8 +43,8 @@ use Rattle.link_worker.specs.Does.{Does}
 use Rattle.link_worker.specs.Works.{HasFirst, IsFree, Opens}
 use Rattle.link_worker.specs.declared.job.Job.{Job}
 use Rattle.notifiers.specs.declared.notice.Notice.{Notice}
-use Rattle.note_laws.proofs.Unlodged.{unstirred}
-use Rattle.seat_calls.specs.Did.{Single}
+use Rattle.history_laws.proofs.Unlodged.{unstirred}
+use Rattle.shared_session.specs.Did.{Single}
 use Rattle.link_worker.proofs.Based.{low_base}
 use Rattle.link_worker.proofs.Telling.{does_one, places_nothing, told_none}
 use Rattle.link_worker.proofs.Turning.{TurnOf, found, legal_after, number_is, one_call, seen_plain}

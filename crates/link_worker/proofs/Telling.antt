@@ -20,10 +20,10 @@ use Rattle.closure_laws.specs.Quiet.{stirs}
 use Rattle.closure_laws.proofs.Declared.{quiet_settles_none}
 use Rattle.notifiers.specs.Notices.{AreHeard, Told}
 use Rattle.notifiers.specs.declared.notice.Notice.{Notice}
-use Rattle.note_laws.specs.Notes.{AreTold}
+use Rattle.history_laws.specs.Notes.{AreTold}
 use Rattle.turn_lock.specs.declared.view.View.{View}
-use Rattle.seat_calls.specs.Did.{Did, Promise, Nothing, Single, Then}
-use Rattle.seat_calls.proofs.Doing.{less_is_done, parts_are_done}
+use Rattle.shared_session.specs.Did.{Did, Promise, Nothing, Single, Then}
+use Rattle.shared_session.proofs.Doing.{less_is_done, parts_are_done}
 use Rattle.link_worker.specs.Does.{Does, PlacesLowest, ToldAt, Nobody, Call}
 
 -- the notices that were told have the outcomes that they were to be told

@@ -12,8 +12,8 @@ use Rattle.turn_lock.specs.Passes.{Turned}
 use Rattle.turn_lock.proofs.Entries.{none_since}
 use Rattle.shared_session.specs.Carried.{joined, legal_joined, places_joined, all_others}
 use Rattle.shared_session.specs.Home.{IsLawful, IsPosted, seat_of}
-use Rattle.seat_calls.specs.Did.{Did, Nothing, Single}
-use Rattle.seat_calls.proofs.Doing.{turn_is_a_call, turn_is_no_call}
+use Rattle.shared_session.specs.Did.{Did, Nothing, Single}
+use Rattle.shared_session.proofs.Doing.{turn_is_a_call, turn_is_no_call}
 
 -- the history that a seat found when it took the turn: what it had seen, and entries of others since
 pub record Found {U : Type 0} (means : U → Meaning) (jmax : ℕ) (v : View (Entry U)) (old : List (Entry U)) : Type 0 where

@@ -35,9 +35,9 @@ use Rattle.materialization.specs.Stages.{stopped}
 use Rattle.materialization.specs.declared.stage.Stage.{Stage}
 use Rattle.materialization.specs.declared.stage.Stage.TheVariants as stage
 use Rattle.materialization.proofs.Leaving.{others_leave_has}
-use Rattle.seat_calls.specs.Did.{Nothing, Promise}
-use Rattle.seat_calls.proofs.Doing.{nothing_is_done}
-use Rattle.seat_calls.proofs.Numbers.{starts_again}
+use Rattle.shared_session.specs.Did.{Nothing, Promise}
+use Rattle.shared_session.proofs.Doing.{nothing_is_done}
+use Rattle.shared_session.proofs.Numbers.{starts_again}
 use Rattle.link_worker.specs.Does.{Does}
 use Rattle.link_worker.specs.Jobs.{IsCause, LacksPlaces, Leads, SpareAll, Steps, is_cut, is_cut_fail, unit_in}
 use Rattle.link_worker.specs.Units.{own_refusal}

@@ -10,9 +10,9 @@ use Rattle.session_model.specs.declared.entry.Event.TheVariants as event
 use Rattle.session_steps.specs.Handed.{IsLowest}
 use Rattle.notifiers.specs.Notices.{AreHeard}
 use Rattle.notifiers.specs.declared.notice.Notice.{Notice}
-pub use Rattle.note_laws.specs.Notes.{ToldAt, Nobody, Call}
+pub use Rattle.history_laws.specs.Notes.{ToldAt, Nobody, Call}
 use Rattle.turn_lock.specs.declared.view.View.{View}
-use Rattle.seat_calls.specs.Did.{Did, Promise}
+use Rattle.shared_session.specs.Did.{Did, Promise}
 
 -- a unit that a call placed is placed at the lowest base that was free
 abbrev pub PlacesLowest : List (Entry Meaning) → List (ℕ × Entry Meaning) → Type 0

@@ -1,6 +1,9 @@
+pub mod Assists
+pub mod Copies
 pub mod Does
-pub mod Units
+pub mod First
 pub mod Jobs
-pub mod Works
-pub mod Looks
 pub mod Laws
+pub mod Looks
+pub mod Units
+pub mod Works

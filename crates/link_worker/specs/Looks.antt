@@ -22,13 +22,13 @@ use Rattle.session_steps.specs.Fires.{is_lodged}
 use Rattle.notifiers.specs.declared.notice.Notice.{Notice}
 use Rattle.notifiers.specs.declared.notice.Unheard.{Unheard}
 use Rattle.turn_lock.specs.declared.view.View.{View}
-use Rattle.look_ends.specs.Ends.{EndsAs}
-use Rattle.look_ends.specs.Stopped.{IsCutShort}
+use Rattle.session_model.specs.Ends.{EndsAs}
+use Rattle.session_model.specs.Stopped.{IsCutShort}
 use Rattle.link_worker.specs.Does.{Does}
 use Rattle.link_worker.specs.Jobs.{SpareAll}
 use Rattle.link_worker.specs.Works.{WasStopped}
-use Rattle.look_ends.specs.declared.look_end.LookEnd.{LookEnd}
-use Rattle.look_ends.specs.declared.look_end.LookEnd.TheVariants.{Found, Failed, InError, Missing, NoDylib, JournalFull, NoMemory}
+use Rattle.session_model.specs.declared.look_end.LookEnd.{LookEnd}
+use Rattle.session_model.specs.declared.look_end.LookEnd.TheVariants.{Found, Failed, InError, Missing, NoDylib, JournalFull, NoMemory}
 
 -- what is looked up, with the note of the notifier
 abbrev pub lookup_of : {N : Type 0} → List OrderItem → List Wanted → Level → Option (Unheard N) → Lookup

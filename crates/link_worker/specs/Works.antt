@@ -16,7 +16,7 @@ use Rattle.session_steps.specs.declared.jobs.TakenUnit.{TakenUnit}
 use Rattle.materialization.specs.Rest.{HoldsNone, Rest}
 use Rattle.materialization.specs.declared.stage.Stage.{Stage}
 use Rattle.materialization.specs.declared.stage.Stage.TheVariants as stage
-use Rattle.seat_calls.specs.Did.{Nothing, Promise}
+use Rattle.shared_session.specs.Did.{Nothing, Promise}
 use Rattle.link_worker.specs.Does.{Does}
 use Rattle.link_worker.specs.Jobs.{IsCause, IsHandedOut, IsJobAt, SpareAll, is_cut, unit_in}
 use Rattle.link_worker.specs.Units.{own_refusal}

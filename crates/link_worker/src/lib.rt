@@ -8,7 +8,9 @@
 #![tactic(auto)]
 
 mod assisting;
+mod copying;
 mod job;
+mod jobs;
 mod laws;
 mod looking;
 mod objects;
@@ -16,7 +18,9 @@ mod unit;
 mod work;
 
 pub use assisting::assist;
+pub use copying::copy_memory;
 pub use job::Job;
+pub use jobs::do_jobs;
 pub use laws::{free_looks, free_reads, free_stays};
 pub use looking::{Looked, lookup};
 pub use unit::{FinishError, LinkedUnit};

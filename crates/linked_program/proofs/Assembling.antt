@@ -20,36 +20,36 @@ use Rattle.materialization.specs.Rest.{HoldsNone}
 use Rattle.turn_lock.specs.declared.view.View.{View}
 use Rattle.turn_lock.specs.Told.{Shows}
 use Rattle.shared_session.specs.Home.{IsLawful, IsPosted, seat_of}
-use Rattle.seat_calls.specs.Did.{Did, Promise}
-use Rattle.seat_calls.proofs.Numbers.{starts_again}
+use Rattle.shared_session.specs.Did.{Did, Promise}
+use Rattle.shared_session.proofs.Numbers.{starts_again}
 use Rattle.link_worker.specs.Does.{PlacesLowest}
 use Rattle.link_worker.specs.Jobs.{SpareAll, is_cut_fail}
-use Rattle.look_ends.specs.Ends.{LastIs}
-use Rattle.look_ends.specs.Stopped.{IsCutShort}
-use Rattle.look_ends.specs.declared.look_end.LookEnd.{LookEnd}
-use Rattle.look_ends.specs.declared.look_end.LookEnd.TheVariants as look
-use Rattle.program_names.specs.Programs.{setup_events}
+use Rattle.session_model.specs.Ends.{LastIs}
+use Rattle.session_model.specs.Stopped.{IsCutShort}
+use Rattle.session_model.specs.declared.look_end.LookEnd.{LookEnd}
+use Rattle.session_model.specs.declared.look_end.LookEnd.TheVariants as look
+use Rattle.memory_laws.specs.Objects.{setup_events}
 use Rattle.run_laws.specs.Ended.{Ended, InDefinition, InSetUp, InLookup, NotThere, NotReady, IsReady, IsRefusedAt, IsRun, NoneIsCut, is_cut, is_whole}
 use Rattle.run_laws.specs.Laws.{EndsLookup}
 use Rattle.run_laws.specs.Runs.{AreJobs, IsRunBy, IsSetUp, LooksAndCopies, NoJob, lookup_of}
 use Rattle.run_laws.specs.declared.linked.Linked.{Linked}
 use Rattle.run_laws.specs.declared.linked.Linked.TheVariants as linked
 use Rattle.run_laws.proofs.Ends.{lookup_ends_so}
-use Rattle.seat_work.specs.Assists.{Works}
+use Rattle.link_worker.specs.Assists.{Works}
 use Rattle.linked_program.specs.Clients.{Begins, Copies, Ends, IsClient}
 use Rattle.linked_program.specs.Ends.{ConcludesEnd, IsPossibleEnd}
 use Rattle.crew.specs.Crew.{Says}
-use Rattle.seat_work.specs.First.{IsFirst}
+use Rattle.link_worker.specs.First.{IsFirst}
 use Rattle.linked_program.specs.SetUps.{HasSetUp}
 use Rattle.linked_program.specs.Worked.{IsMember, IsRunOf, MembersWorked}
 use Rattle.linked_program.specs.Members.{HasServed}
 use Rattle.linked_program.specs.declared.concluding.Outcome.TheVariants as outcome
 use Rattle.linked_program.specs.declared.client.ClientEnd.{ClientEnd}
 use Rattle.linked_program.specs.declared.setting_up.SetUp.TheVariants as set_up
-use Rattle.seat_work.proofs.Calls.{Made, member_made}
-use Rattle.seat_work.proofs.FirstSeat.{saw_all}
-use Rattle.seat_work.proofs.Held.{AreStill, is_working, let_go}
-use Rattle.seat_work.proofs.Whole.{IsWhole, alone, are_jobs, cause_in, none_of_rest, whole}
+use Rattle.link_worker.proofs.Calls.{Made, member_made}
+use Rattle.link_worker.proofs.FirstSeat.{saw_all}
+use Rattle.link_worker.proofs.Held.{AreStill, is_working, let_go}
+use Rattle.link_worker.proofs.Whole.{IsWhole, alone, are_jobs, cause_in, none_of_rest, whole}
 use Rattle.std.proofs.lemmas.Option.{none-some, same_Some}
 
 -- what cuts no job of a seat cuts none of the run

@@ -17,22 +17,22 @@ use Rattle.shared_session.specs.Does.{seat}
 use Rattle.notifiers.specs.declared.notice.Notice.{Notice}
 use Rattle.notifiers.specs.declared.notice.Unheard.{Unheard}
 use Rattle.turn_lock.specs.declared.view.View.{View}
-use Rattle.seat_calls.specs.Did.{Did, Nothing, Then}
-use Rattle.seat_calls.proofs.Doing.{less_is_done, parts_are_done}
-use Rattle.look_ends.specs.Stopped.{IsCutShort}
-use Rattle.look_ends.proofs.Lasts.{split_end}
+use Rattle.shared_session.specs.Did.{Did, Nothing, Then}
+use Rattle.shared_session.proofs.Doing.{less_is_done, parts_are_done}
+use Rattle.session_model.specs.Stopped.{IsCutShort}
+use Rattle.session_model.proofs.Lasts.{split_end}
 use Rattle.link_worker.specs.Does.{Does, PlacesLowest, ToldAt}
-use Rattle.look_ends.specs.Ends.{EndsAs}
+use Rattle.session_model.specs.Ends.{EndsAs}
 use Rattle.link_worker.specs.Looks.{HasLooked, end_stopped, left_of}
-use Rattle.look_ends.specs.declared.look_end.LookEnd.{LookEnd}
-use Rattle.look_ends.specs.declared.look_end.LookEnd.TheVariants as end
+use Rattle.session_model.specs.declared.look_end.LookEnd.{LookEnd}
+use Rattle.session_model.specs.declared.look_end.LookEnd.TheVariants as end
 use Rattle.link_worker.specs.Jobs.{SpareAll, is_cut_fail}
 use Rattle.link_worker.proofs.Sparing.{spare_both, spare_one}
 use Rattle.link_worker.proofs.Telling.{is_placing, places_nothing, IsCalledLowest}
 use Rattle.link_worker.proofs.Working.{stopped_since}
 use Rattle.run_laws.specs.Runs.{IsCopy, LooksAndCopies, has_found, lookup_of}
 use Rattle.linked_program.specs.Clients.{Begins, Copies, Ends, IsClient, LookedUp, found_in}
-use Rattle.seat_work.specs.Copies.{CopiesAt, IsStoppedAt, OneCopy}
+use Rattle.link_worker.specs.Copies.{CopiesAt, IsStoppedAt, OneCopy}
 
 -- What was still to come
 

@@ -11,8 +11,8 @@ use Rattle.session_model.specs.Meaning.{Meaning}
 use Rattle.session_model.specs.declared.entry.Entry.{Entry}
 use Rattle.turn_lock.specs.declared.view.View.{View}
 use Rattle.shared_session.specs.Home.{seat_of}
-use Rattle.look_ends.specs.declared.look_end.LookEnd.{LookEnd}
-use Rattle.look_ends.specs.declared.look_end.LookEnd.TheVariants as look
+use Rattle.session_model.specs.declared.look_end.LookEnd.{LookEnd}
+use Rattle.session_model.specs.declared.look_end.LookEnd.TheVariants as look
 use Rattle.crew.specs.Crew.{HaveWorked, IsKept, Says, WasDone}
 use Rattle.crew.proofs.Worked.{all_at, some_there}
 use Rattle.linked_program.specs.Clients.{IsClient}
@@ -20,7 +20,7 @@ use Rattle.linked_program.specs.Members.{AreMembers, HasServed, Serves, is_clien
 use Rattle.linked_program.specs.Worked.{IsMember, MembersWorked}
 use Rattle.linked_program.specs.declared.client.ClientEnd.{ClientEnd}
 use Rattle.linked_program.specs.declared.members.Member.{Member}
-use Rattle.seat_work.proofs.Calls.{some_is}
+use Rattle.link_worker.proofs.Calls.{some_is}
 
 none_some : {X : Type 0} (x : X) → ◌≡◌ {A = Option X} None (Some x) → ⊥
 none_some x e = cc

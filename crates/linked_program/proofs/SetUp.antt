@@ -28,9 +28,9 @@ use Rattle.session_steps.specs.Performs.{Performs, PerformsWith, state_of}
 use Rattle.turn_lock.specs.declared.view.View.{View}
 use Rattle.shared_session.specs.Does.{seat}
 use Rattle.link_worker.proofs.Turning.{TurnOf}
-use Rattle.program_names.specs.Programs.{first_dylib, first_tracker, is_done}
+use Rattle.memory_laws.specs.Objects.{first_dylib, first_tracker, is_done}
 use Rattle.linked_program.specs.SetUps.{AreDone, HasDefined, IsAt, IsRefusedIn, IsStoppedIn, define_of, is_defined}
-use Rattle.seat_work.proofs.FirstSeat.{HasAdded, one_place}
+use Rattle.link_worker.proofs.FirstSeat.{HasAdded, one_place}
 
 -- Where nothing was done, there is no entry.
 pub none_done : (h : List (Entry Meaning)) → AreDone [] h → h ≡ []

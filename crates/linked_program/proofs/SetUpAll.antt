@@ -11,7 +11,7 @@ use Rattle.session_model.specs.declared.entry.Entry.{Entry}
 use Rattle.session_model.specs.declared.entry.Event.{Event}
 use Rattle.session_model.specs.declared.entry.Event.TheVariants as event
 use Rattle.turn_lock.specs.declared.view.View.{View}
-use Rattle.program_names.specs.Programs.{setup_events}
+use Rattle.memory_laws.specs.Objects.{setup_events}
 use Rattle.run_laws.specs.Ended.{IsSetUpTo}
 use Rattle.linked_program.specs.SetUps.{AreDone, HasDefined, HasSetUp, HaveDefined, IsAt, IsRefusedIn, IsStoppedIn, beginning, define_of}
 use Rattle.linked_program.specs.declared.setting_up.SetUp.{SetUp}

@@ -10,14 +10,14 @@ use Rattle.session_model.specs.declared.entry.Entry.{Entry}
 use Rattle.session_model.specs.declared.entry.Event.TheVariants as event
 use Rattle.session_steps.specs.Handed.{IsMemory}
 use Rattle.turn_lock.specs.declared.view.View.{View}
-use Rattle.seat_calls.specs.Did.{Did, Promise}
+use Rattle.shared_session.specs.Did.{Did, Promise}
 use Rattle.link_worker.specs.Does.{PlacesLowest}
 use Rattle.link_worker.specs.Jobs.{SpareAll}
-use Rattle.look_ends.specs.Ends.{EndsAs}
-use Rattle.look_ends.specs.Stopped.{IsCutShort}
+use Rattle.session_model.specs.Ends.{EndsAs}
+use Rattle.session_model.specs.Stopped.{IsCutShort}
 use Rattle.link_worker.specs.Works.{WasStopped}
-use Rattle.look_ends.specs.declared.look_end.LookEnd.{LookEnd}
-use Rattle.look_ends.specs.declared.look_end.LookEnd.TheVariants.{Found, JournalFull, NoMemory}
+use Rattle.session_model.specs.declared.look_end.LookEnd.{LookEnd}
+use Rattle.session_model.specs.declared.look_end.LookEnd.TheVariants.{Found, JournalFull, NoMemory}
 use Rattle.run_laws.specs.Runs.{LooksAndCopies, lookup_of}
 use Rattle.linked_program.specs.declared.client.ClientEnd.{ClientEnd}
 

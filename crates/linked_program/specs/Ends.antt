@@ -4,13 +4,13 @@ use Rattle.orc_ids.specs.declared.ids.InstId.{InstId}
 use Rattle.orc_ids.specs.declared.lookup.Stop.TheVariants as stop
 use Rattle.code_memory.specs.declared.image.Segment.{Segment}
 use Rattle.session_model.specs.Meaning.{Bindings}
-use Rattle.look_ends.specs.declared.look_end.LookEnd.TheVariants as look
+use Rattle.session_model.specs.declared.look_end.LookEnd.TheVariants as look
 use Rattle.linked_program.specs.declared.client.ClientEnd.{ClientEnd}
 use Rattle.linked_program.specs.declared.concluding.Outcome.{Outcome}
 use Rattle.linked_program.specs.declared.concluding.Outcome.TheVariants as outcome
 use Rattle.run_laws.specs.declared.linked.Linked.{Linked}
 use Rattle.run_laws.specs.declared.linked.Linked.TheVariants as linked
-use Rattle.look_ends.specs.declared.look_end.LookEnd.{LookEnd}
+use Rattle.session_model.specs.declared.look_end.LookEnd.{LookEnd}
 
 -- one instance was found, and the memory is there
 abbrev pub IsFoundOne : Bindings → Option (List Segment) → Type 0

@@ -5,7 +5,7 @@ use Rattle.session_model.specs.Meaning.{Meaning}
 use Rattle.session_model.specs.declared.entry.Entry.{Entry}
 use Rattle.turn_lock.specs.declared.view.View.{View}
 use Rattle.link_worker.specs.Works.{IsFree}
-use Rattle.seat_work.specs.Assists.{HasDoneJobs}
+use Rattle.link_worker.specs.Assists.{HasDoneJobs}
 use Rattle.linked_program.specs.Clients.{IsClientOf}
 use Rattle.linked_program.specs.declared.client.ClientEnd.{ClientEnd}
 use Rattle.linked_program.specs.declared.members.Member.{Member}

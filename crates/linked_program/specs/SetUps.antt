@@ -11,8 +11,8 @@ use Rattle.session_model.specs.declared.entry.Reply.{Reply}
 use Rattle.session_model.specs.declared.entry.Reply.TheVariants as reply
 use Rattle.turn_lock.specs.declared.view.View.{View}
 use Rattle.link_worker.specs.Jobs.{IsCause}
-use Rattle.seat_work.specs.First.{IsFirst}
-use Rattle.program_names.specs.Programs.{first_dylib, first_tracker, is_done}
+use Rattle.link_worker.specs.First.{IsFirst}
+use Rattle.memory_laws.specs.Objects.{first_dylib, first_tracker, is_done}
 use Rattle.run_laws.specs.Runs.{IsSetUp}
 use Rattle.run_laws.specs.Ended.{IsRefusedAt, IsSetUpTo}
 use Rattle.linked_program.specs.declared.setting_up.SetUp.{SetUp}

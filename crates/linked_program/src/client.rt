@@ -6,13 +6,11 @@ ghost use Rattle.link_worker.specs.Works.{IsFree};
 ghost use Rattle.linked_program.specs.Clients.{IsClientOf, LookedUp, found_in};
 
 use code_memory::Image;
-use link_worker::{LinkedUnit, Looked, lookup};
-use look_ends::LookEnd;
+use link_worker::{LinkedUnit, Looked, copy_memory, lookup};
 use notifiers::FiredList;
 use orc_ids::{DylibId, Level, NameId, OrderItem, Scope, Stop, Wanted};
 use orc_io::{Gate, Note};
-use seat_work::copy_memory;
-use session_model::Matches;
+use session_model::{LookEnd, Matches};
 use shared_session::{Pass, Shared};
 use std::alloc::Global;
 use std::sync::Wait;

@@ -3,10 +3,9 @@ ghost use Rattle.linked_program.specs.Ends.{Concludes, ConcludesClient, IsFoundA
 
 use crate::client::ClientEnd;
 use code_memory::Image;
-use look_ends::LookEnd;
 use orc_ids::Stop;
 use run_laws::Linked;
-use session_model::Matches;
+use session_model::{LookEnd, Matches};
 
 /// What was done with a program: the set-up went no further, or the client worked.
 #[derive(Drop)]

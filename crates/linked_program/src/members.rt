@@ -6,10 +6,9 @@ ghost use Rattle.linked_program.specs.Members.{AreMembers, Serves, is_client, la
 
 use crate::client::{ClientEnd, run_client};
 use crew::Duty;
-use link_worker::LinkedUnit;
+use link_worker::{LinkedUnit, do_jobs};
 use orc_ids::NameId;
 use orc_io::{Gate, Note};
-use seat_work::do_jobs;
 use shared_session::{Home, Pass, Shared};
 use std::alloc::{AllocError, Global};
 use std::sync::Wait;

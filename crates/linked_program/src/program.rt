@@ -6,7 +6,7 @@ ghost use Rattle.turn_lock.specs.Handles.{view, turn_id, IsReady};
 ghost use Rattle.turn_lock.specs.Told.{Shows};
 ghost use Rattle.crew.specs.Crew.{Says};
 ghost use Rattle.linked_program.specs.Members.{AreMembers};
-ghost use Rattle.seat_work.specs.First.{IsFirst};
+ghost use Rattle.link_worker.specs.First.{IsFirst};
 ghost use Rattle.linked_program.specs.SetUps.{IsAt};
 ghost use Rattle.linked_program.specs.Worked.{IsRunOf, MembersWorked};
 ghost use Rattle.session_model.specs.State.{plain_history};

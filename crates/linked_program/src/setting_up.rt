@@ -3,7 +3,7 @@ ghost use Rattle.std.specs.Prelude.{◌≡◌, ◌<◌, ℕ, List, [], ◌∷◌
 ghost use Rattle.session_model.specs.Meaning.{Meaning};
 ghost use Rattle.session_model.specs.declared.entry.Event.{Event};
 ghost use Rattle.session_model.specs.declared.entry.Event.TheVariants as event;
-ghost use Rattle.program_names.specs.Programs.{first_dylib};
+ghost use Rattle.memory_laws.specs.Objects.{first_dylib};
 ghost use Rattle.turn_lock.specs.Handles.{view, turn_id, IsReady};
 ghost use Rattle.linked_program.specs.SetUps.{HasDefined, HasSetUp, HaveDefined, IsAt, IsStoppedIn, beginning, is_defined};
 

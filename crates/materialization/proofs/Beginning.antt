@@ -28,7 +28,7 @@ use Rattle.session_model.specs.declared.rows.Ending.TheVariants.{Lost}
 use Rattle.session_model.specs.declared.rows.UnitPhase.TheVariants as phase
 use Rattle.session_laws.proofs.Declared.{state_from_push, changed_cases, changed_some, same_element, end_stays, sound_changed, Guard, start_listed, finish_linked}
 use Rattle.closure_laws.proofs.Declared.{OneMore, one_more, is_unbound}
-use Rattle.holder_laws.proofs.Calling.{right_parts}
+use Rattle.history_laws.proofs.Calling.{right_parts}
 use Rattle.materialization.specs.Rest.{HoldsNone, HoldsOnly, IsAt, fits}
 use Rattle.materialization.specs.Stages.{first}
 use Rattle.materialization.specs.Laws.{Begins, IsJobOf, JobBegins, first_of}

@@ -14,7 +14,7 @@ use Rattle.session_model.specs.declared.entry.Entry.{Entry}
 use Rattle.session_model.specs.declared.entry.Why.TheVariants as why
 use Rattle.session_laws.specs.Holding.{AllOthers}
 use Rattle.session_laws.proofs.Declared.{prefixes_legal, call_first, call_skipped}
-use Rattle.holder_laws.proofs.Others.{one_other}
+use Rattle.history_laws.proofs.Others.{one_other}
 use Rattle.materialization.specs.Rest.{Has, HoldsNone, Rest}
 use Rattle.materialization.specs.Stages.{next, stopped}
 use Rattle.materialization.specs.Laws.{Begins, GoesOn, first_of, may_stop}

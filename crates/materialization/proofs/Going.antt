@@ -29,7 +29,7 @@ use Rattle.session_model.specs.declared.rows.UnitPhase.TheVariants as phase
 use Rattle.session_model.specs.declared.rows.Verdict.{Verdict}
 use Rattle.session_laws.proofs.Declared.{changed_some, front_some, numbered_some, generate_plain, is_defunct_reply}
 use Rattle.closure_laws.proofs.Declared.{OneMore, one_more, shapeless}
-use Rattle.holder_laws.proofs.Giving.{change_seats_none}
+use Rattle.history_laws.proofs.Giving.{change_seats_none}
 use Rattle.materialization.specs.Rest.{Generates, Has, HoldsOnly, IsAt, Rest, fits}
 use Rattle.materialization.specs.Stages.{next}
 use Rattle.materialization.specs.Laws.{GoesOn, HasReason, JobGoesOn}

@@ -1,7 +1,7 @@
 -- Entries of other seats leave a job where it is.
 use Rattle.std.proofs.Common.{◌≡◌, ℕ, true, false, List, ◌++◌, ◌⊎◌, inl, inr, refl, ap, ◌∙◌}
 use Rattle.std.proofs.lemmas.Bool.{cases_Bool}
-use Rattle.model_laws.proofs.Phases.{defunct_stage}
+use Rattle.session_model.proofs.Phases.{defunct_stage}
 use Rattle.orc_ids.specs.declared.ids.UnitId.{UnitId}
 use Rattle.session_model.specs.Meaning.{Meaning}
 use Rattle.session_model.specs.Plain.{UnitRow, is_defunct}
@@ -11,8 +11,8 @@ use Rattle.session_model.specs.declared.entry.Entry.{Entry}
 use Rattle.session_model.specs.declared.rows.UnitPhase.TheVariants as phase
 use Rattle.session_laws.specs.Holding.{AllOthers, IsKept, OwnSame}
 use Rattle.session_laws.proofs.Declared.{held_stays, gone_stays_held}
-use Rattle.holder_laws.proofs.Calling.{fail_stays}
-use Rattle.holder_laws.proofs.Giving.{GivesNone, others_seat_none}
+use Rattle.history_laws.proofs.Calling.{fail_stays}
+use Rattle.history_laws.proofs.Giving.{GivesNone, others_seat_none}
 use Rattle.materialization.specs.Rest.{IsAt, Has, fits}
 use Rattle.materialization.specs.Laws.{HasReason, OthersLeaveAJob}
 use Rattle.materialization.specs.declared.stage.Stage.{Stage}

@@ -18,7 +18,7 @@ use Rattle.session_model.specs.declared.rows.UnitPhase.TheVariants as phase
 use Rattle.session_laws.specs.Sound.{IsSound, is_held_phase}
 use Rattle.session_laws.proofs.Declared.{state_from_push, waiting_parts, changed_elsewhere, changed_there, map_parts, same_element, sound_changed, chosen, settling_keeps}
 use Rattle.closure_laws.proofs.Declared.{OneMore}
-use Rattle.holder_laws.proofs.Giving.{GivesNone, change_seats_none, none_settled}
+use Rattle.history_laws.proofs.Giving.{GivesNone, change_seats_none, none_settled}
 use Rattle.materialization.specs.Rest.{IsAt, Has, HoldsNone, HoldsOnly}
 use Rattle.materialization.specs.declared.stage.Stage.{Stage}
 use Rattle.materialization.specs.declared.stage.Stage.TheVariants as stage

@@ -1,2 +1,3 @@
-pub mod Telling
+pub mod Back
 pub mod Crossing
+pub mod Telling

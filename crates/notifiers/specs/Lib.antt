@@ -1,2 +1,4 @@
 pub mod Chains
+pub mod Heard
+pub mod Kept
 pub mod Notices

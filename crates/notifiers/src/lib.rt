@@ -13,8 +13,12 @@
 mod armed;
 mod chain;
 mod fires;
+mod notes;
 mod notice;
+mod places;
 
 pub use armed::{Armed, Fired};
 pub use fires::{FiredList, Fires};
+pub use notes::{Noted, Notes};
 pub use notice::{Heard, Notice, Unheard};
+pub use places::NotePlaces;

@@ -7,7 +7,7 @@ use Rattle.std.proofs.lemmas.Slice.Eq.{bytes_eq-Decides}
 use Rattle.elf_read.specs.declared.object.Symbol.{Symbol}
 use Rattle.elf_write.specs.Canonical.{others}
 use Rattle.elf_write.specs.Tables.{is_local}
-use Rattle.object_places.proofs.Tables.{sym_at}
+use Rattle.object_reading.proofs.Tables.{sym_at}
 
 abbrev pub names_of : List Symbol → List (List ℕ)
 names_of ss = map (λ (s : Symbol). s.name) ss

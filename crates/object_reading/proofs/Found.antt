@@ -12,10 +12,10 @@ use Rattle.elf_read.specs.Symbols.{kept_below}
 use Rattle.elf_read.proofs.Tables.{kept_below-next}
 use Rattle.elf_write.specs.Parts.{Part}
 use Rattle.elf_write.specs.Files.{symtab_number, is_filled, rela_count}
-use Rattle.object_places.specs.Places.{part}
-use Rattle.object_places.proofs.Relas.{sec, rank, rank_in}
-use Rattle.object_places.proofs.Parts.{Row, placed, rela, symbols, strings, last, IsPart}
-use Rattle.object_places.proofs.Limits.{not_placed}
+use Rattle.object_reading.specs.Places.{part}
+use Rattle.object_reading.proofs.Relas.{sec, rank, rank_in}
+use Rattle.object_reading.proofs.Parts.{Row, placed, rela, symbols, strings, last, IsPart}
+use Rattle.object_reading.proofs.Limits.{not_placed}
 use Rattle.object_reading.proofs.Tests.{only_one, no_one}
 use Rattle.object_reading.proofs.InFile.{InFile, section_zero, kind_test, section_held, part_at, row_of, rela_at, symbols_at, count_is, kept_placed, kept_zero, kept_other}
 

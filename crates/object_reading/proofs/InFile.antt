@@ -10,11 +10,11 @@ use Rattle.elf_write.specs.Parts.{Part, section_part, rela_part, symtab_part, st
 use Rattle.elf_write.specs.Tables.{symtab_of, is_local}
 use Rattle.elf_write.specs.Files.{rela_count, symtab_number, is_filled}
 use Rattle.elf_write.specs.Canonical.{Canonical, HoldsSection}
-use Rattle.object_places.specs.Places.{Holds, part}
-use Rattle.object_places.proofs.Standing.{stands_taken}
-use Rattle.object_places.proofs.Relas.{sec, no_sec, rank, rank_in, part_of_section}
-use Rattle.object_places.proofs.Row.{PartsOf}
-use Rattle.object_places.proofs.Parts.{Row, placed, rela, symbols, strings, last, row, IsPart, is_part}
+use Rattle.object_reading.specs.Places.{Holds, part}
+use Rattle.object_reading.proofs.Standing.{stands_taken}
+use Rattle.object_reading.proofs.Relas.{sec, no_sec, rank, rank_in, part_of_section}
+use Rattle.object_reading.proofs.Row.{PartsOf}
+use Rattle.object_reading.proofs.Parts.{Row, placed, rela, symbols, strings, last, row, IsPart, is_part}
 
 -- the object's parts are those that the file holds
 pub record InFile (o : ElfObject) (f : File) : Type 0 where

@@ -7,7 +7,7 @@ use Rattle.elf_read.specs.Choice.{any_below}
 use Rattle.elf_read.specs.File.{File, section}
 use Rattle.elf_read.specs.Sections.{meets, is_used, takes_bytes, sections_meet, overlap_refusal}
 use Rattle.elf_read.proofs.Ranges.{any_below-none, overlap-empty}
-use Rattle.object_places.specs.Places.{part}
+use Rattle.object_reading.specs.Places.{part}
 use Rattle.elf_read.proofs.Tables.{when-false}
 use Rattle.object_reading.proofs.InFile.{InFile, section_zero}
 use Rattle.object_reading.proofs.SectionChecks.{sized}

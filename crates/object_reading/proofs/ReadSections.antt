@@ -13,12 +13,12 @@ use Rattle.elf_read.specs.Symbols.{reloc, numbers, reloc_count, entries_in, relo
 use Rattle.elf_read.specs.Object.{section_in}
 use Rattle.elf_write.specs.Files.{is_filled}
 use Rattle.elf_write.specs.Canonical.{HoldsReloc}
-use Rattle.object_places.proofs.Standing.{stands_within, stands_moved}
-use Rattle.object_places.proofs.Entries.{RelocFits, reloc_entry-written}
-use Rattle.object_places.proofs.Texts.{ended_text}
-use Rattle.object_places.proofs.Tables.{no_reloc, length-relocs_bytes, reloc_there}
-use Rattle.object_places.proofs.Relas.{sec, no_sec, rank}
-use Rattle.object_places.proofs.Limits.{small_power-positive}
+use Rattle.object_reading.proofs.Standing.{stands_within, stands_moved}
+use Rattle.object_reading.proofs.Entries.{RelocFits, reloc_entry-written}
+use Rattle.object_reading.proofs.Texts.{ended_text}
+use Rattle.object_reading.proofs.Tables.{no_reloc, length-relocs_bytes, reloc_there}
+use Rattle.object_reading.proofs.Relas.{sec, no_sec, rank}
+use Rattle.object_reading.proofs.Limits.{small_power-positive}
 use Rattle.object_reading.proofs.InFile.{InFile, section_held, kind_test, contents_are, placed_at, rela_at, names_at}
 use Rattle.object_reading.proofs.Found.{rela_is, rela_none, kept_all}
 use Rattle.object_reading.proofs.SymbolTable.{few_symbols}

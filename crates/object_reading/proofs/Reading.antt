@@ -11,10 +11,10 @@ use Rattle.elf_write.specs.Bytes.{filled}
 use Rattle.elf_write.specs.Files.{file_bytes}
 use Rattle.elf_write.specs.Canonical.{Canonical}
 use Rattle.object_reading.specs.Reading.{WrittenIsRead}
-use Rattle.object_places.proofs.Head.{HeadIs}
-use Rattle.object_places.proofs.Written.{all_written}
-use Rattle.object_places.specs.Places.{all_parts, section_names}
-use Rattle.object_places.proofs.Fits.{head_is, parts_of_file, parts_are_held}
+use Rattle.object_reading.proofs.Head.{HeadIs}
+use Rattle.object_reading.proofs.Written.{all_written}
+use Rattle.object_reading.specs.Places.{all_parts, section_names}
+use Rattle.object_reading.proofs.Fits.{head_is, parts_of_file, parts_are_held}
 use Rattle.object_reading.proofs.Tests.{none_below, neither}
 use Rattle.object_reading.proofs.InFile.{InFile, kind_test, names_at}
 use Rattle.object_reading.proofs.SymbolTable.{symbols_read}

@@ -7,12 +7,12 @@ use Rattle.elf_read.specs.File.{File, section, lies_in}
 use Rattle.elf_read.specs.Sections.{is_kept, is_placed_kind, is_small_power, kind_refusal, symtab_refusal, rela_refusal, kept_rela_refusal, section_refusal, name_refusal, is_used, symtab}
 use Rattle.elf_write.specs.Parts.{Part}
 use Rattle.elf_write.specs.Files.{symtab_number, is_filled}
-use Rattle.object_places.specs.Places.{part}
-use Rattle.object_places.proofs.Standing.{stands_in}
-use Rattle.object_places.proofs.Relas.{sec, rank}
-use Rattle.object_places.proofs.Tables.{length-relocs_bytes}
-use Rattle.object_places.proofs.Parts.{Row, placed, rela, symbols, strings, last, IsPart}
-use Rattle.object_places.proofs.Limits.{not_placed}
+use Rattle.object_reading.specs.Places.{part}
+use Rattle.object_reading.proofs.Standing.{stands_in}
+use Rattle.object_reading.proofs.Relas.{sec, rank}
+use Rattle.object_reading.proofs.Tables.{length-relocs_bytes}
+use Rattle.object_reading.proofs.Parts.{Row, placed, rela, symbols, strings, last, IsPart}
+use Rattle.object_reading.proofs.Limits.{not_placed}
 use Rattle.object_reading.proofs.InFile.{InFile, section_zero, section_held, kind_test, part_at, row_of, placed_at, symbols_at, strings_at, rela_at, kept_placed, kept_zero, kept_other}
 use Rattle.object_reading.proofs.Found.{symtab_is, rela_is}
 use Rattle.object_reading.proofs.SymbolTable.{count_symbols, length-symtab}

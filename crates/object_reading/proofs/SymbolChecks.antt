@@ -14,8 +14,8 @@ use Rattle.elf_read.proofs.Ranges.{any_below-none}
 use Rattle.elf_write.specs.Tables.{section_number, is_local}
 use Rattle.elf_write.specs.Files.{is_filled}
 use Rattle.elf_write.specs.Canonical.{Lies, HoldsReloc}
-use Rattle.object_places.proofs.Relas.{sec, rank}
-use Rattle.object_places.proofs.Tables.{sym_at, no_reloc}
+use Rattle.object_reading.proofs.Relas.{sec, rank}
+use Rattle.object_reading.proofs.Tables.{sym_at, no_reloc}
 use Rattle.elf_read.proofs.Tables.{when-false}
 use Rattle.object_reading.proofs.InFile.{InFile, section_held, placed_at, kept_placed, kept_zero, kept_other}
 use Rattle.object_reading.proofs.Found.{rela_is, rela_none}

@@ -13,10 +13,10 @@ use Rattle.elf_read.specs.Symbols.{symbol_count, entry, name_of, symbol_name, pl
 use Rattle.elf_write.specs.Tables.{symtab_of, section_number}
 use Rattle.elf_write.specs.Files.{symtab_number}
 use Rattle.elf_write.specs.Canonical.{Lies, HoldsSymbol}
-use Rattle.object_places.proofs.Standing.{stands_in, stands_moved, stands_within}
-use Rattle.object_places.proofs.Entries.{SymbolFits, EntryIs, symbol_entry-written}
-use Rattle.object_places.proofs.Texts.{ended_short}
-use Rattle.object_places.proofs.Tables.{sym_at, not_empty, first_is, length-table, there_in}
+use Rattle.object_reading.proofs.Standing.{stands_in, stands_moved, stands_within}
+use Rattle.object_reading.proofs.Entries.{SymbolFits, EntryIs, symbol_entry-written}
+use Rattle.object_reading.proofs.Texts.{ended_short}
+use Rattle.object_reading.proofs.Tables.{sym_at, not_empty, first_is, length-table, there_in}
 use Rattle.object_reading.proofs.InFile.{InFile, contents_are, symbols_at, strings_at, kept_placed}
 use Rattle.object_reading.proofs.Found.{symtab_section, kept_some}
 

@@ -11,5 +11,7 @@
 #![tactic(auto)]
 
 mod laws;
+mod places;
 
 pub use laws::written_is_read;
+pub use places::parts_are_held;

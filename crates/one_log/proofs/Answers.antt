@@ -10,7 +10,7 @@ use Rattle.command_line.specs.Words.{Request}
 use Rattle.run_laws.specs.Ended.{is_whole}
 use Rattle.run_laws.specs.declared.linked.Linked.{Linked}
 use Rattle.run_laws.specs.declared.linked.Linked.TheVariants as linked
-use Rattle.one_history.specs.Beginnings.{EndAlike}
+use Rattle.one_log.specs.Beginnings.{EndAlike}
 use Rattle.answers.specs.declared.answer.Answer.{Answer}
 use Rattle.answers.specs.declared.answer.Answer.TheVariants.{JournalFull, Missing, DefineRefused}
 use Rattle.run_answers.specs.Lost.{lost_answer}

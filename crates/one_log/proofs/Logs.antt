@@ -8,8 +8,8 @@ use Rattle.command_line.specs.Words.{Request}
 use Rattle.object_files.specs.Files.{Told, distinct}
 use Rattle.run_laws.specs.Ended.{IsRun, is_whole}
 use Rattle.run_laws.specs.declared.linked.Linked.{Linked}
-use Rattle.one_history.specs.Beginnings.{EndAlike}
-use Rattle.one_history.proofs.One.{whole_runs_are_one}
+use Rattle.one_log.specs.Beginnings.{EndAlike}
+use Rattle.one_log.proofs.One.{whole_runs_are_one}
 use Rattle.answers.specs.EndLine.{end_line_of}
 use Rattle.run_answers.specs.Sessions.{AreOfWords, IsAnswerOf, IsSession}
 use Rattle.one_log.specs.Laws.{OneLog}

@@ -1,2 +1,4 @@
 pub mod Alike
+pub mod Beginnings
+pub mod HistoryLaws
 pub mod Laws

@@ -7,6 +7,8 @@
 //! Read `run_answers` and `one_history` first.
 #![tactic(auto)]
 
+mod histories;
 mod laws;
 
+pub use histories::{one_history, one_history_with_places, whole_runs_are_one};
 pub use laws::one_log;

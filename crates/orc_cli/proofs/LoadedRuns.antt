@@ -13,7 +13,7 @@ use Rattle.session_units.specs.Units.{meaning_of}
 use Rattle.session_units.specs.declared.unit.ObjectUnit.{ObjectUnit}
 use Rattle.closure_laws.proofs.Declared.{row_below}
 use Rattle.journal_text.specs.Journal.{AreKnown, text_of_history}
-use Rattle.journal_names.specs.Laws.{HasKnownNames}
+use Rattle.known_names.specs.Laws.{HasKnownNames}
 use Rattle.command_line.specs.Words.{Request}
 use Rattle.object_files.specs.Files.{AreNumbered, Told, distinct}
 use Rattle.run_laws.specs.Ended.{Ended, IsRun}
@@ -22,7 +22,7 @@ use Rattle.run_answers.specs.Answered.{HasSession}
 use Rattle.run_answers.specs.Sessions.{AreOfWords, IsAnswerOf, IsFileOf, IsWordOf}
 use Rattle.answers.specs.declared.answer.Answer.{Answer}
 use Rattle.run_answers.proofs.Words.{of_all_words, plain_units}
-use Rattle.spoken_names.proofs.LoadedUnits.{loaded_known}
+use Rattle.known_names.proofs.LoadedUnits.{loaded_known}
 use Rattle.orc_cli.specs.Loading.{AreShared, IsLoaded}
 use Rattle.orc_cli.specs.declared.loading.Loaded.{Loaded}
 use Rattle.orc_cli.specs.declared.running.Found.{Found}

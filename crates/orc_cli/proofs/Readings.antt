@@ -9,7 +9,7 @@ use Rattle.object_files.proofs.Readings.{memory_stops_reading, none_read}
 use Rattle.answers.specs.Reads.{AreReadFor}
 use Rattle.answers.specs.declared.answer.Answer.{Answer}
 use Rattle.answers.specs.declared.answer.Answer.TheVariants.{NoMemory, Usage}
-use Rattle.session_answers.specs.Reads.{AreScriptRead, IsUnscripted, no_script}
+use Rattle.session_command.specs.Reads.{AreScriptRead, IsUnscripted, no_script}
 
 -- the files by another account of them
 pub read_as : (files others : List (List ℕ)) (old new : Use) → files ≡ others → AreReadIn files old new → AreReadIn others old new

@@ -12,18 +12,18 @@ use Rattle.session_model.specs.declared.entry.Event.TheVariants as event
 use Rattle.session_laws.specs.Entries.{entries}
 use Rattle.journal_text.specs.Journal.{AreKnown}
 use Rattle.journal_text.specs.Parts.{IsGiven}
-use Rattle.journal_names.specs.Laws.{HasKnownNames}
-use Rattle.program_links.proofs.Members.{one_of_all}
-use Rattle.program_names.specs.Programs.{first_dylib, first_tracker, setup_events}
+use Rattle.known_names.specs.Laws.{HasKnownNames}
+use Rattle.memory_laws.proofs.ProgramMembers.{one_of_all}
+use Rattle.memory_laws.specs.Objects.{first_dylib, first_tracker, setup_events}
 use Rattle.run_laws.specs.Ended.{Ended, IsRefusedAt, IsRun, IsSetUpTo, client_calls}
 use Rattle.run_laws.specs.Runs.{IsSetUp, lookup_of}
 use Rattle.run_laws.specs.declared.linked.Linked.{Linked}
 use Rattle.run_laws.proofs.Costs.{each_joined}
 use Rattle.run_laws.proofs.Cutting.{cut_client}
 use Rattle.run_laws.proofs.Seats.{calls_past}
-use Rattle.spoken_names.specs.Speaking.{Speaks}
-use Rattle.spoken_names.proofs.Seats.{IsNamed, IsNamedEntry, each_taken, of_events, setup_speaks, spoken_known}
-use Rattle.spoken_names.proofs.Speaking.{front, jobs_speak, looks_speak, then_copies}
+use Rattle.known_names.specs.Speaking.{Speaks}
+use Rattle.known_names.proofs.Seats.{IsNamed, IsNamedEntry, each_taken, of_events, setup_speaks, spoken_known}
+use Rattle.known_names.proofs.Speaking.{front, jobs_speak, looks_speak, then_copies}
 
 -- The set-up
 

@@ -6,8 +6,8 @@ use Rattle.object_files.specs.Files.{distinct}
 use Rattle.object_files.specs.Reads.{Use}
 use Rattle.answers.specs.Reads.{AreReadFor, HoldsOfFound}
 use Rattle.answers.specs.declared.answer.Answer.{Answer}
-use Rattle.session_answers.specs.Reads.{AreScriptRead}
-use Rattle.session_answers.specs.Texts.{counted}
+use Rattle.session_command.specs.Reads.{AreScriptRead}
+use Rattle.session_command.specs.Texts.{counted}
 
 -- the words ask for this run, or for nothing, for this reason
 abbrev pub AsksRun : Result Asked UsageKind → Result Request UsageKind → Type 0

@@ -1,16 +1,16 @@
 //! What the words of a call ask for, and what is found.
 ghost use Rattle.std.specs.Prelude.{◌≡◌, ◌≤◌, ◌∷◌, [], length, map, All, None, Ok};
 ghost use Rattle.command_line.specs.Words.{Assembly, Generation, Session, asked_by};
-ghost use Rattle.as_answers.specs.Found.{IsFound as IsAssemblyFound};
-ghost use Rattle.gen_answers.specs.Found.{IsFound as IsSummaryFound};
-ghost use Rattle.noted.specs.Heard.{AllHaveHeard};
+ghost use Rattle.as_command.specs.Found.{IsFound as IsAssemblyFound};
+ghost use Rattle.gen_command.specs.Found.{IsFound as IsSummaryFound};
+ghost use Rattle.notifiers.specs.Heard.{AllHaveHeard};
 ghost use Rattle.orc_io.specs.Numbers.{AreNumberedFrom};
 ghost use Rattle.run_answers.specs.Answered.{IsFound};
-ghost use Rattle.session_answers.specs.Found.{IsFound as IsSessionFound};
+ghost use Rattle.session_command.specs.Found.{IsFound as IsSessionFound};
 ghost use Rattle.object_files.specs.Reads.{AreReadIn, use_of};
 ghost use Rattle.answers.specs.Reads.{AreReadFor};
-ghost use Rattle.session_answers.specs.Reads.{AreScriptRead, IsSourceEndFor, IsSourceReadFor};
-ghost use Rattle.session_answers.specs.Texts.{counted};
+ghost use Rattle.session_command.specs.Reads.{AreScriptRead, IsSourceEndFor, IsSourceReadFor};
+ghost use Rattle.session_command.specs.Texts.{counted};
 ghost use Rattle.orc_cli.specs.Asking.{ButForSession, ForAssembly, ForGeneration, ForRun, ForSession, files_of};
 
 use crate::finding::{find_run, silent};
@@ -23,7 +23,7 @@ use command_line::{
 };
 use execution_session::JOURNAL_LIMIT;
 use gen_command::find_summary;
-use noted::{Noted, Notes};
+use notifiers::{Noted, Notes};
 use orc_ids::Bytes;
 use orc_io::{Files, Gate, Notify, Source};
 use orc_names::NameHasher;

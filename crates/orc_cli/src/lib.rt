@@ -21,5 +21,5 @@ mod top;
 mod writing;
 
 pub use execution_session::JOURNAL_LIMIT;
-pub use noted::{Noted, Notes};
+pub use notifiers::{Noted, Notes};
 pub use top::{Ended, orc, orc_sized};

@@ -2,20 +2,20 @@ ghost use Rattle.std.specs.Prelude.{◌≡◌, ◌≢◌, ◌≤◌, ◌∷◌, 
 ghost use Rattle.command_line.specs.Words.{asked_by};
 ghost use Rattle.answers.specs.Answers.{status_of};
 ghost use Rattle.answers.specs.Written.{held_by};
-ghost use Rattle.as_answers.specs.Clauses.{AsAnswers, as_call};
-ghost use Rattle.gen_answers.specs.Clauses.{GenAnswers, gen_call};
+ghost use Rattle.as_command.specs.Clauses.{AsAnswers, as_call};
+ghost use Rattle.gen_command.specs.Clauses.{GenAnswers, gen_call};
 ghost use Rattle.object_files.specs.Reads.{AreReadIn, use_of};
-ghost use Rattle.noted.specs.Heard.{AllHaveHeard};
+ghost use Rattle.notifiers.specs.Heard.{AllHaveHeard};
 ghost use Rattle.orc_io.specs.Numbers.{AreNumberedFrom};
 ghost use Rattle.run_answers.specs.Clauses.{Answers, call_of};
-ghost use Rattle.session_answers.specs.Clauses.{SessionAnswers, session_call};
+ghost use Rattle.session_command.specs.Clauses.{SessionAnswers, session_call};
 ghost use Rattle.orc_cli.specs.Asking.{ButForSession, ForAssembly, ForGeneration, ForRun, ForSession, ReadsFiles, ReadsScript, files_of};
 
 use crate::asking::{Asked, ask};
 use crate::writing::write_found;
 use answers::Answer;
 use execution_session::JOURNAL_LIMIT;
-use noted::{Noted, Notes};
+use notifiers::{Noted, Notes};
 use orc_io::{Files, Gate, Notify, Sink, Source};
 use orc_names::NameHasher;
 use std::alloc::Global;

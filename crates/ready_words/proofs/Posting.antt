@@ -16,13 +16,13 @@ use Rattle.session_model.specs.declared.entry.Entry.{Entry}
 use Rattle.session_model.specs.declared.rows.InstRow.{InstRow}
 use Rattle.turn_lock.specs.Lists.{StartsWith}
 use Rattle.turn_lock.specs.declared.view.View.{View}
-use Rattle.look_ends.specs.Ends.{EndsAs}
-use Rattle.look_ends.specs.declared.look_end.LookEnd.TheVariants.{Found}
+use Rattle.session_model.specs.Ends.{EndsAs}
+use Rattle.session_model.specs.declared.look_end.LookEnd.TheVariants.{Found}
 use Rattle.shared_session.specs.Carried.{lawful_before}
 use Rattle.shared_session.specs.Home.{IsLawful}
 use Rattle.shared_session.specs.declared.posts.TheConstants.{POSTS}
 use Rattle.shared_session.proofs.Words.{ready_words_stand}
-use Rattle.seat_calls.specs.Did.{Did, Promise, calls_in}
+use Rattle.shared_session.specs.Did.{Did, Promise, calls_in}
 use Rattle.session_promises.specs.Lookups.{AreCallsOf, IsFoundAt, StandsReady}
 use Rattle.session_promises.proofs.Entries.{calls_of}
 use Rattle.session_promises.proofs.Few.{rows_are_few}

@@ -8,11 +8,11 @@ use Rattle.session_model.specs.declared.entry.Entry.{Entry}
 use Rattle.turn_lock.specs.declared.view.View.{View}
 use Rattle.turn_lock.specs.Lists.{StartsWith}
 use Rattle.turn_lock.specs.Views.{notes}
-use Rattle.look_ends.specs.Ends.{EndsAs}
-use Rattle.look_ends.specs.declared.look_end.LookEnd.TheVariants.{Found}
+use Rattle.session_model.specs.Ends.{EndsAs}
+use Rattle.session_model.specs.declared.look_end.LookEnd.TheVariants.{Found}
 use Rattle.shared_session.specs.Home.{IsLawful, IsPosted}
 use Rattle.shared_session.specs.declared.posts.TheConstants.{POSTS}
-use Rattle.seat_calls.specs.Did.{Did}
+use Rattle.shared_session.specs.Did.{Did}
 
 module _ {U : Type 0} (means : U → Meaning) (posts : ℕ) (seen : List (Entry U)) where
   -- a match with an address that isn't 0 is that of an instance which has a post, and is ready there in what was seen

@@ -6,8 +6,8 @@ use Rattle.session_model.specs.Meaning.{Meaning}
 use Rattle.session_model.specs.declared.entry.Entry.{Entry}
 use Rattle.turn_lock.specs.declared.view.View.{View}
 use Rattle.shared_session.specs.ReadyWords.{IsWord}
-use Rattle.look_ends.specs.declared.peeked.Peek.{Peek}
-use Rattle.look_ends.specs.declared.peeked.Peek.TheVariants.{NotYet, Ready, Unfound}
+use Rattle.session_model.specs.declared.peeked.Peek.{Peek}
+use Rattle.session_model.specs.declared.peeked.Peek.TheVariants.{NotYet, Ready, Unfound}
 
 -- what names were found to be, the latest first: an instance, or none
 abbrev pub Learnt : Type 0

@@ -4,11 +4,10 @@ ghost use Rattle.ready_words.specs.Peeks.{IsPeek, instance_of};
 ghost use Rattle.turn_lock.specs.Handles.{view, turn_id, post_count, IsReady};
 
 use indexmap::IndexMap;
-use look_ends::Peek;
 use orc_ids::{InstId, NameId};
 use orc_io::Notify;
 use orc_names::NameHasher;
-use session_model::UnitKind;
+use session_model::{Peek, UnitKind};
 use shared_session::{Pass, Shared, ready_word};
 use std::alloc::{AllocError, Global};
 use std::marker::Model;

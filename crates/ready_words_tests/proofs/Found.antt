@@ -9,11 +9,11 @@ use Rattle.notifiers.specs.declared.notice.Notice.{Notice}
 use Rattle.notifiers.specs.declared.notice.Unheard.{Unheard}
 use Rattle.turn_lock.specs.declared.view.View.{View}
 use Rattle.turn_lock.specs.Lists.{StartsWith}
-use Rattle.look_ends.specs.declared.look_end.LookEnd.{LookEnd}
-use Rattle.look_ends.specs.declared.look_end.LookEnd.TheVariants as look
+use Rattle.session_model.specs.declared.look_end.LookEnd.{LookEnd}
+use Rattle.session_model.specs.declared.look_end.LookEnd.TheVariants as look
 use Rattle.shared_session.specs.Home.{IsLawful}
 use Rattle.shared_session.specs.declared.posts.TheConstants.{POSTS}
-use Rattle.seat_calls.proofs.Doing.{less_is_done}
+use Rattle.shared_session.proofs.Doing.{less_is_done}
 use Rattle.link_worker.specs.Looks.{HasLooked}
 use Rattle.ready_words.specs.Found.{MayBePosted}
 use Rattle.ready_words.proofs.Posting.{found_may_be_posted}

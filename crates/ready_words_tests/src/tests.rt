@@ -11,7 +11,6 @@ ghost use Rattle.link_worker.specs.Works.{IsFree};
 
 use elf_read::read_object;
 use link_graph::graph_of;
-use look_ends::{LookEnd, Peek};
 use orc_ids::{InstId, Level, NameId, UnitName};
 use orc_io::Note;
 use orc_names::{NameHasher, Names};
@@ -20,6 +19,7 @@ use sample_objects::HELLO;
 use session::{
     PLACES, define, end_session, look_up, look_up_and_post, make_dylib, make_tracker, remove,
 };
+use session_model::{LookEnd, Peek};
 use session_units::ObjectUnit;
 use shared_session::{Pass, Shared, close, open_posts};
 use std::alloc::Global;

@@ -1,10 +1,10 @@
 -- That each name which is written is one of the table.
 use Rattle.std.specs.Prelude.{ℕ, List, All}
 use Rattle.orc_ids.specs.declared.lookup.Wanted.{Wanted}
-use Rattle.look_ends.specs.declared.look_end.LookEnd.{LookEnd}
-use Rattle.look_ends.specs.declared.look_end.LookEnd.TheVariants as look
-use Rattle.script_laws.specs.declared.line_end.LineEnd.{LineEnd}
-use Rattle.script_laws.specs.declared.line_end.LineEnd.TheVariants.{Looked, Replied}
+use Rattle.session_model.specs.declared.look_end.LookEnd.{LookEnd}
+use Rattle.session_model.specs.declared.look_end.LookEnd.TheVariants as look
+use Rattle.script_model.specs.declared.line_end.LineEnd.{LineEnd}
+use Rattle.script_model.specs.declared.line_end.LineEnd.TheVariants.{Looked, Replied}
 use Rattle.journal_text.specs.Parts.{IsGiven}
 use Rattle.journal_text.specs.Replies.{KnownReply}
 

@@ -7,14 +7,14 @@ use Rattle.orc_ids.specs.declared.lookup.Stop.TheVariants as stop
 use Rattle.orc_ids.specs.declared.lookup.Wanted.{Wanted}
 use Rattle.exec_run.specs.declared.ran.RunEnd.{RunEnd}
 use Rattle.session_model.specs.Meaning.{Bindings}
-use Rattle.look_ends.specs.declared.look_end.LookEnd.{LookEnd}
-use Rattle.look_ends.specs.declared.look_end.LookEnd.TheVariants as look
-use Rattle.look_ends.specs.declared.peeked.Peek.{Peek}
-use Rattle.look_ends.specs.declared.peeked.Peek.TheVariants as peek
-use Rattle.script_laws.specs.declared.line_end.LineEnd.{LineEnd}
-use Rattle.script_laws.specs.declared.line_end.LineEnd.TheVariants.{Looked, Peeked, Ran, Replied, Skipped, Stopped, Unfound}
+use Rattle.session_model.specs.declared.look_end.LookEnd.{LookEnd}
+use Rattle.session_model.specs.declared.look_end.LookEnd.TheVariants as look
+use Rattle.session_model.specs.declared.peeked.Peek.{Peek}
+use Rattle.session_model.specs.declared.peeked.Peek.TheVariants as peek
+use Rattle.script_model.specs.declared.line_end.LineEnd.{LineEnd}
+use Rattle.script_model.specs.declared.line_end.LineEnd.TheVariants.{Looked, Peeked, Ran, Replied, Skipped, Stopped, Unfound}
 use Rattle.text_parts.specs.Hexadecimal.{hex, hex_bytes}
-use Rattle.run_text.specs.RunEnds.{run_end_text}
+use Rattle.exec_run.specs.RunEnds.{run_end_text}
 use Rattle.journal_text.specs.Parts.{name_text}
 use Rattle.journal_text.specs.Replies.{reply_text}
 

@@ -6,7 +6,7 @@ use crate::lists::list_at;
 use crate::results::put_result;
 use orc_ids::{Bytes, Items, Wanted};
 use orc_names::Names;
-use script_laws::LineEnd;
+use script_model::LineEnd;
 use std::alloc::{AllocError, Global};
 use text_parts::{put, put_pair};
 

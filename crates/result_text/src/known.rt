@@ -2,10 +2,10 @@ ghost use Rattle.std.specs.Prelude.{◌↔◌, All, IsTrue, map};
 ghost use Rattle.result_text.specs.Known.{AreAsked, AreKnownEnds, KnownEnd};
 
 use journal_text::{are_given, is_given, knows_reply};
-use look_ends::LookEnd;
 use orc_ids::{Items, Wanted};
 use orc_names::Names;
-use script_laws::LineEnd;
+use script_model::LineEnd;
+use session_model::LookEnd;
 
 /// Whether each name that is looked up, and each that a line's end speaks of, is one of the table.
 pub fn are_known_ends(names: &Names, wanted: &[Items<Items<Wanted>>], ends: &[Vec<LineEnd>]) -> bool

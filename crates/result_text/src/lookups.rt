@@ -4,9 +4,9 @@ ghost use Rattle.result_text.specs.Results.{address_text, given_text, look_text}
 
 use crate::stops::put_stop;
 use journal_text::put_named;
-use look_ends::LookEnd;
 use orc_ids::{InstId, Stop, Wanted};
 use orc_names::Names;
+use session_model::LookEnd;
 use std::alloc::{AllocError, Global};
 use text_parts::{put, put_at, put_numbered};
 

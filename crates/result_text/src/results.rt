@@ -4,13 +4,12 @@ ghost use Rattle.result_text.specs.Results.{output_text, peek_text, ran_text, re
 
 use crate::lookups::put_looked;
 use crate::stops::put_stop;
-use exec_run::RunEnd;
+use exec_run::{RunEnd, put_run_end};
 use journal_text::put_reply;
-use look_ends::Peek;
 use orc_ids::Wanted;
 use orc_names::Names;
-use run_text::put_run_end;
-use script_laws::LineEnd;
+use script_model::LineEnd;
+use session_model::Peek;
 use std::alloc::{AllocError, Global};
 use text_parts::{put, put_at, put_hex_bytes};
 

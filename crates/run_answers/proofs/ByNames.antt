@@ -36,12 +36,12 @@ use Rattle.session_model.specs.declared.rows.Row.{Row}
 use Rattle.session_laws.proofs.Declared.{state_from_push, front_and_rest, front_legal, ready_stays_ready, settled_rows}
 use Rattle.session_laws.specs.Readiness.{phase_at}
 use Rattle.closure_laws.proofs.Declared.{OneMore, kept_along, SameRow, change_rows, run_same}
-use Rattle.program_names.proofs.Objects.{names_are_defined}
-use Rattle.program_names.specs.Programs.{IsProgram, keeps_names}
-use Rattle.program_links.proofs.Linked.{linked_by_names}
-use Rattle.program_links.proofs.Quieting.{front_parts, still_there}
-use Rattle.program_links.specs.Laws.{IsLinkedByNames, MemoryHoldsProgram}
-use Rattle.program_links.specs.Programs.{HasAddresses, name_spot, spots_by_name}
+use Rattle.memory_laws.proofs.Objects.{names_are_defined}
+use Rattle.memory_laws.specs.Objects.{IsProgram, keeps_names}
+use Rattle.memory_laws.proofs.Linked.{linked_by_names}
+use Rattle.memory_laws.proofs.Quieting.{front_parts, still_there}
+use Rattle.memory_laws.specs.LinkLaws.{IsLinkedByNames, MemoryHoldsProgram}
+use Rattle.memory_laws.specs.Programs.{HasAddresses, name_spot, spots_by_name}
 use Rattle.static_links.specs.Links.{IsLinkedProgram, Spot}
 use Rattle.run_laws.specs.Ended.{AreMemory}
 use Rattle.run_answers.specs.ByNames.{members_at}

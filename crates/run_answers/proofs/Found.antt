@@ -32,7 +32,7 @@ use Rattle.session_model.specs.declared.rows.Query.{Query}
 use Rattle.session_model.specs.declared.rows.Row.{Row}
 use Rattle.session_laws.proofs.Declared.{same_element, entries_are, ready_emitted, test_parts, ready_tested, call_first, call_skipped}
 use Rattle.closure_laws.proofs.Declared.{FoundAt, found_parts}
-use Rattle.program_links.proofs.Binding.{matched_by}
+use Rattle.memory_laws.proofs.Binding.{matched_by}
 use Rattle.run_laws.specs.Runs.{IsRunBy, lookup_of}
 use Rattle.run_laws.proofs.Asking.{AnswersLookup, Nowhere, Somewhere, lookup_answers}
 use Rattle.run_laws.proofs.Ends.{Asked, ClientBegins, EndsCollected, asks, calls_later, client_begins, set_up_of, still_asked, works_end}

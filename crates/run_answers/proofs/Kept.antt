@@ -17,12 +17,12 @@ use Rattle.session_model.specs.declared.entry.Entry.{Entry}
 use Rattle.session_model.specs.declared.entry.Event.TheVariants as event
 use Rattle.session_model.specs.declared.entry.Reply.TheVariants as reply
 use Rattle.static_links.proofs.Linked.{image_is_linked}
-use Rattle.closures.proofs.Holding.{intact_holds}
-use Rattle.program_names.proofs.Objects.{names_are_defined}
-use Rattle.program_names.specs.Programs.{IsProgram}
-use Rattle.program_links.proofs.Linked.{holds_program, linked_by_names}
-use Rattle.program_links.specs.Laws.{MemoryHoldsProgram}
-use Rattle.program_links.specs.Programs.{HasAddresses}
+use Rattle.memory_laws.proofs.Holding.{intact_holds}
+use Rattle.memory_laws.proofs.Objects.{names_are_defined}
+use Rattle.memory_laws.specs.Objects.{IsProgram}
+use Rattle.memory_laws.proofs.Linked.{holds_program, linked_by_names}
+use Rattle.memory_laws.specs.LinkLaws.{MemoryHoldsProgram}
+use Rattle.memory_laws.specs.Programs.{HasAddresses}
 use Rattle.command_line.specs.Words.{Request}
 use Rattle.command_line.specs.declared.error.UsageKind.{UsageKind}
 use Rattle.object_files.specs.Files.{Told}

@@ -26,7 +26,7 @@ use Rattle.session_model.specs.declared.entry.Why.{Why}
 use Rattle.session_model.specs.declared.entry.Why.TheVariants as why
 use Rattle.session_laws.proofs.Declared.{legal_rest}
 use Rattle.session_laws.specs.Entries.{entries}
-use Rattle.program_names.specs.Programs.{keeps_names}
+use Rattle.memory_laws.specs.Objects.{keeps_names}
 use Rattle.run_laws.specs.Runs.{AreJobs, IsRunBy, NoJob, OneMore as AnotherJob, lookup_of}
 use Rattle.run_laws.proofs.Calm.{IsCall, IsUnoffered, Unoffered, is_call, is_offer, never_offered}
 use Rattle.run_laws.proofs.Costs.{NumberedCall, each_back, each_front, each_joined, either_way, from_entries, jobs_cost, looks_cost, to_entries}

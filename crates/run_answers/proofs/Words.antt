@@ -17,9 +17,9 @@ use Rattle.link_model.specs.declared.graph.LinkGraph.{LinkGraph}
 use Rattle.session_model.specs.Meaning.{Meaning}
 use Rattle.session_units.specs.Meaning.{graph_meaning}
 use Rattle.closure_laws.proofs.Declared.{row_below}
-use Rattle.program_names.specs.Programs.{AreUnits}
-use Rattle.program_links.specs.Programs as links
-use Rattle.program_links.proofs.Members.{one_of_all}
+use Rattle.memory_laws.specs.Objects.{AreUnits}
+use Rattle.memory_laws.specs.Programs as links
+use Rattle.memory_laws.proofs.ProgramMembers.{one_of_all}
 use Rattle.object_files.specs.Files as files
 use Rattle.object_files.specs.Files.{AreLoaded, Told, distinct, distinct_after, is_among}
 use Rattle.run_answers.specs.Sessions.{AreOfWords, IsFileOf}

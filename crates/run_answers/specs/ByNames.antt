@@ -9,7 +9,7 @@ use Rattle.session_model.specs.Meaning.{Meaning}
 use Rattle.session_model.specs.State.{state}
 use Rattle.session_model.specs.declared.entry.Entry.{Entry}
 use Rattle.static_links.specs.Links.{IsLinkedProgram, Member}
-use Rattle.program_links.specs.Programs.{bases_of, name_spot, program_members, spots_by_name}
+use Rattle.memory_laws.specs.Programs.{bases_of, name_spot, program_members, spots_by_name}
 use Rattle.run_answers.specs.Sessions.{AreOfWords}
 
 -- the members of the program where a history placed them

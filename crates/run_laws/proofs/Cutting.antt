@@ -4,8 +4,8 @@ use Rattle.orc_ids.specs.declared.ids.NameId.{NameId}
 use Rattle.session_model.specs.Calls.{IsStopped, Looks}
 use Rattle.session_model.specs.Meaning.{Meaning}
 use Rattle.session_model.specs.declared.entry.Entry.{Entry}
-use Rattle.look_ends.specs.Stopped.{IsCutShort}
-use Rattle.look_ends.proofs.Lasts.{split_end}
+use Rattle.session_model.specs.Stopped.{IsCutShort}
+use Rattle.session_model.proofs.Lasts.{split_end}
 use Rattle.run_laws.proofs.Seats.{same_front}
 use Rattle.run_laws.specs.Runs.{IsCopy, LooksAndCopies, has_found, lookup_of}
 

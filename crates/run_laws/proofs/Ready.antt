@@ -21,10 +21,10 @@ use Rattle.session_model.specs.declared.entry.Reply.TheVariants as reply
 use Rattle.std.proofs.lemmas.List.{length-append, length-map}
 use Rattle.session_laws.proofs.Declared.{numbered_length, only_failures_fail}
 use Rattle.session_laws.specs.Failures.{IsFailure}
-use Rattle.program_names.specs.Programs.{first_dylib, first_tracker, is_done}
+use Rattle.memory_laws.specs.Objects.{first_dylib, first_tracker, is_done}
 use Rattle.run_laws.specs.Runs.{IsSetUp}
 use Rattle.run_laws.proofs.Seats.{not_empty, same_head, same_tail}
-use Rattle.program_names.proofs.SettingUp.{settled_none}
+use Rattle.memory_laws.proofs.SettingUp.{settled_none}
 
 -- The dylib is there, and nothing was asked for or failed; there are so many units at most.
 pub record IsReady (count : ℕ) (m : Plain) : Type 0 where

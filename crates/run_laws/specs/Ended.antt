@@ -21,8 +21,8 @@ use Rattle.session_model.specs.declared.entry.Event.{Event}
 use Rattle.session_model.specs.declared.entry.Event.TheVariants as event
 use Rattle.session_model.specs.declared.entry.Reply.TheVariants as reply
 use Rattle.session_model.specs.declared.entry.Why.TheVariants as why
-use Rattle.program_names.specs.Programs.{first_dylib, first_tracker, is_done, setup_events}
-use Rattle.look_ends.specs.Stopped.{IsCutShort}
+use Rattle.memory_laws.specs.Objects.{first_dylib, first_tracker, is_done, setup_events}
+use Rattle.session_model.specs.Stopped.{IsCutShort}
 use Rattle.run_laws.specs.Runs.{AreJobs, IsSetUp, LooksAndCopies, lookup_of}
 use Rattle.run_laws.specs.declared.linked.Linked.{Linked}
 use Rattle.run_laws.specs.declared.linked.Linked.TheVariants as linked

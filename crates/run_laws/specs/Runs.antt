@@ -10,7 +10,7 @@ use Rattle.session_model.specs.declared.entry.Entry.{Entry}
 use Rattle.session_model.specs.declared.entry.Event.TheVariants as event
 use Rattle.session_model.specs.declared.entry.Reply.{Reply}
 use Rattle.session_model.specs.declared.entry.Reply.TheVariants as reply
-use Rattle.program_names.specs.Programs.{first_dylib, is_done, setup_events}
+use Rattle.memory_laws.specs.Objects.{first_dylib, is_done, setup_events}
 
 -- the lookup of a required name at Ready, among all names of the dylib
 abbrev pub lookup_of : NameId → Lookup

@@ -8,11 +8,11 @@ use Rattle.std.proofs.lemmas.List.FromFn.{length-range_with_len, get_or-range_wi
 use Rattle.std.proofs.lemmas.Option.{same_Some}
 use Rattle.orc_ids.specs.declared.ids.NameId.{NameId}
 use Rattle.orc_ids.specs.declared.limits.TheConstants.{DYLIB_LIMIT}
-use Rattle.script_calls.specs.Dylibs.{DifferentNames, dylib_names}
-use Rattle.script_calls.specs.Plans.{CanSetUp, CanSetUpAll, event_of}
-use Rattle.script_calls.specs.declared.calls.SetUpCall.{SetUpCall}
-use Rattle.script_calls.specs.declared.calls.SetUpCall.TheVariants as set_up
-use Rattle.script_calls.proofs.Made.{names_append}
+use Rattle.script_model.specs.Dylibs.{DifferentNames, dylib_names}
+use Rattle.script_model.specs.Plans.{CanSetUp, CanSetUpAll, event_of}
+use Rattle.script_model.specs.declared.calls.SetUpCall.{SetUpCall}
+use Rattle.script_model.specs.declared.calls.SetUpCall.TheVariants as set_up
+use Rattle.script_model.proofs.Made.{names_append}
 use Rattle.script_lab.specs.SettingUp.{CanAdd, IsSetUp, names_of}
 use Rattle.script_lab.specs.Units.{lab_meaning}
 use Rattle.script_lab.specs.declared.unit.LabUnit.{LabUnit}

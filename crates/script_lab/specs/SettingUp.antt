@@ -2,9 +2,9 @@
 use Rattle.std.specs.Prelude.{◌≡◌, ◌≤◌, ℕ, List, [], ◌∷◌, length, map, take, slice_get, Some}
 use Rattle.std.specs.List.{range_with_len}
 use Rattle.orc_ids.specs.declared.limits.TheConstants.{DYLIB_LIMIT}
-use Rattle.script_calls.specs.Dylibs.{dylib_names}
-use Rattle.script_calls.specs.Plans.{CanSetUp, event_of}
-use Rattle.script_calls.specs.declared.calls.SetUpCall.{SetUpCall}
+use Rattle.script_model.specs.Dylibs.{dylib_names}
+use Rattle.script_model.specs.Plans.{CanSetUp, event_of}
+use Rattle.script_model.specs.declared.calls.SetUpCall.{SetUpCall}
 use Rattle.script_lab.specs.declared.set_up.SetUp.{SetUp}
 use Rattle.script_lab.specs.Units.{lab_meaning}
 use Rattle.script_lab.specs.declared.unit.LabUnit.{LabUnit}

@@ -2,7 +2,7 @@
 
 use crate::clients::Line;
 use orc_ids::{DylibId, Level, NameId, OrderItem, TrackId, Wanted};
-use script_calls::{ClientCall, Lookup};
+use script_model::{ClientCall, Lookup};
 use std::alloc::{AllocError, Global};
 
 /// What is looked up, with the number of the note.

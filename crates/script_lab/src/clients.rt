@@ -1,6 +1,6 @@
 //! Random lines of clients.
 ghost use Rattle.std.specs.Prelude.{◌≡◌, ◌≤◌, All, length, IfOk};
-ghost use Rattle.script_calls.specs.Plans.{IsUnheard};
+ghost use Rattle.script_model.specs.Plans.{IsUnheard};
 ghost use Rattle.script_lab.specs.Plans.{IsCallable};
 ghost use Rattle.script_lab.specs.SettingUp.{IsMade};
 
@@ -10,7 +10,7 @@ use crate::set_up::{SetUp, order};
 use crate::unit::LabUnit;
 use crate::units::{name, object};
 use orc_ids::{Items, Level, NameId, TrackId, Wanted};
-use script_calls::{ClientCall, Lookup};
+use script_model::{ClientCall, Lookup};
 use std::alloc::{AllocError, Global};
 
 /// A line of a client.

@@ -3,9 +3,8 @@ ghost use Rattle.std.specs.Prelude.{◌<◌};
 
 use crate::replay::LabEntry;
 use exec_run::RunEnd;
-use look_ends::{LookEnd, Peek};
-use script_laws::LineEnd;
-use session_model::{Event, Reply, Why};
+use script_model::LineEnd;
+use session_model::{Event, LookEnd, Peek, Reply, Why};
 use std::io::{self, Print};
 
 /// What was found of one script.

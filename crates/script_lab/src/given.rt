@@ -1,7 +1,7 @@
 //! What lookups gave to names.
 
-use look_ends::Peek;
 use orc_ids::{InstId, Level, NameId, Wanted};
+use session_model::Peek;
 use std::alloc::{AllocError, Global};
 
 /// A name's match.

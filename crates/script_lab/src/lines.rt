@@ -8,11 +8,9 @@ use crate::replay::LabEntry;
 use crate::runs::runs_so;
 use crate::unit::LabUnit;
 use exec_run::RunEnd;
-use look_ends::LookEnd;
 use orc_ids::{NameId, Stop};
-use same_replies::same_reply;
-use script_laws::LineEnd;
-use session_model::{Event, Reply};
+use script_model::LineEnd;
+use session_model::{Event, LookEnd, Reply, same_reply};
 use std::alloc::{AllocError, Global};
 
 /// A client that is judged: its calls, and what its lookups have given so far.

@@ -4,9 +4,8 @@ use crate::asked::Sought;
 use crate::call_list::{SeatCalls, is_of_job};
 use crate::replay::LabEntry;
 use crate::unit::LabUnit;
-use look_ends::LookEnd;
 use orc_ids::{GenId, InstId, QueryId};
-use session_model::{Event, Reply};
+use session_model::{Event, LookEnd, Reply};
 
 /// The event asks for the names.
 pub fn asks_for(event: &Event<LabUnit>, sought: &Sought) -> bool {

@@ -7,7 +7,7 @@ use crate::note::LabNote;
 use crate::random::Random;
 use crate::set_up::make_set_up;
 use crate::unit::LabUnit;
-use script_calls::Plan;
+use script_model::Plan;
 use std::alloc::{AllocError, Global};
 
 /// A plan, and how many notes its lines have.

@@ -16,7 +16,7 @@ use crate::replay::{LabEntry, Played, play_journal};
 use crate::unit::LabUnit;
 use orc_ids::Stop;
 use orc_names::NameHasher;
-use script_laws::{LineEnd, ScriptEnd};
+use script_model::{LineEnd, ScriptEnd};
 use script_session::{ScriptSession, run_script};
 use std::alloc::{AllocError, Global};
 use std::sync::Wait;

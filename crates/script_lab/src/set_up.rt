@@ -8,7 +8,7 @@ use crate::random::Random;
 use crate::unit::LabUnit;
 use crate::units::{alias, name, object};
 use orc_ids::{DYLIB_LIMIT, DylibId, Items, NameId, OrderItem, Scope, TrackId};
-use script_calls::SetUpCall;
+use script_model::SetUpCall;
 use session_model::UnitKind;
 use std::alloc::{AllocError, Global};
 

@@ -4,7 +4,7 @@ use Rattle.std.specs.Prelude.{All, IfSome, slice_get}
 use Rattle.std.proofs.lemmas.List.Elements.{All-nil, All-cons, All-head, All-tail, All-get_or}
 use Rattle.std.proofs.lemmas.Option.{get_or_from_slice_get, slice_get_within}
 use Rattle.orc_ids.specs.declared.ids.UnitName.TheVariants as unit_name
-use Rattle.script_calls.specs.Dylibs.{dylib_names}
+use Rattle.script_model.specs.Dylibs.{dylib_names}
 use Rattle.script_plan.specs.Asked.{unit_of_file, asked_event, asked_events, asked_line}
 use Rattle.script_plan.specs.Counts.{no_units}
 use Rattle.session_script.specs.WellFormed.{IsSetupLine, IsClientLine, dylibs_of}

@@ -7,13 +7,13 @@ use Rattle.std.proofs.lemmas.List.Elements.{All-nil, All-cons, All-head, All-tai
 use Rattle.list_laws.proofs.Each.{all_front, all_back}
 use Rattle.orc_ids.specs.declared.limits.TheConstants.{ORDER_LIMIT, WANTED_LIMIT}
 use Rattle.orc_ids.specs.declared.lookup.Outcome.{Outcome}
-use Rattle.script_calls.specs.Dylibs.{dylib_names}
-use Rattle.script_calls.specs.Lines.{Line, One, LookUp, Run, PeekAt}
-use Rattle.script_calls.specs.Plans.{CanSetUp, CanCall, event_of, line_of}
-use Rattle.script_calls.specs.declared.calls.ClientCall.{ClientCall}
-use Rattle.script_calls.specs.declared.calls.ClientCall.TheVariants as client
-use Rattle.script_calls.specs.declared.calls.SetUpCall.{SetUpCall}
-use Rattle.script_calls.specs.declared.calls.SetUpCall.TheVariants as set_up
+use Rattle.script_model.specs.Dylibs.{dylib_names}
+use Rattle.script_model.specs.Asking.{Line, One, LookUp, Run, PeekAt}
+use Rattle.script_model.specs.Plans.{CanSetUp, CanCall, event_of, line_of}
+use Rattle.script_model.specs.declared.calls.ClientCall.{ClientCall}
+use Rattle.script_model.specs.declared.calls.ClientCall.TheVariants as client
+use Rattle.script_model.specs.declared.calls.SetUpCall.{SetUpCall}
+use Rattle.script_model.specs.declared.calls.SetUpCall.TheVariants as set_up
 use Rattle.session_model.specs.Meaning.{Meaning}
 use Rattle.session_model.specs.declared.entry.Event.{Event}
 use Rattle.session_model.specs.declared.entry.Event.TheVariants as event

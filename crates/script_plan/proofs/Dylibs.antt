@@ -2,7 +2,7 @@
 use Rattle.std.proofs.Common.{◌≡◌, ◌≢◌, ℕ, zero, suc, List, [], ◌∷◌, ◌++◌, take, AllPairs, Some, refl, ◌∙◌, ap, arith}
 use Rattle.std.specs.Prelude.{slice_get}
 use Rattle.std.proofs.lemmas.Option.{same_Some}
-use Rattle.script_calls.specs.Dylibs.{DifferentNames, dylib_names}
+use Rattle.script_model.specs.Dylibs.{DifferentNames, dylib_names}
 use Rattle.script_plan.specs.Asked.{asked_event, events_from}
 use Rattle.script_plan.specs.Counts.{with_line}
 use Rattle.script_plan.specs.declared.unit_counts.UnitCounts.{UnitCounts}

@@ -3,10 +3,10 @@ use Rattle.std.proofs.Common.{◌≡◌, ℕ, List, [], ◌∷◌, map, Some, No
 use Rattle.std.specs.Prelude.{flat_map}
 use Rattle.std.specs.Option.{option_to_list}
 use Rattle.std.proofs.lemmas.List.{map-append}
-use Rattle.script_calls.specs.Lines.{Line, LookUp}
-use Rattle.script_calls.specs.Plans.{line_of}
-use Rattle.script_calls.specs.declared.calls.ClientCall.{ClientCall}
-use Rattle.script_calls.specs.declared.calls.ClientCall.TheVariants as call
+use Rattle.script_model.specs.Asking.{Line, LookUp}
+use Rattle.script_model.specs.Plans.{line_of}
+use Rattle.script_model.specs.declared.calls.ClientCall.{ClientCall}
+use Rattle.script_model.specs.declared.calls.ClientCall.TheVariants as call
 use Rattle.script_plan.specs.Asked.{asked_line}
 use Rattle.script_plan.specs.Notes.{watch_of, watches_of}
 use Rattle.session_script.specs.WellFormed.{note_of, notes_of}

@@ -7,9 +7,9 @@ use Rattle.std.proofs.lemmas.List.Elements.{All-same}
 use Rattle.list_laws.proofs.Each.{all_front, all_back, all_unmapped}
 use Rattle.orc_ids.specs.declared.lookup.Outcome.{Outcome}
 use Rattle.orc_io.specs.Numbers.{AreNumberedFrom}
-use Rattle.script_calls.specs.Dylibs.{DifferentNames, dylib_names}
-use Rattle.script_calls.specs.Plans.{CanRun, event_of, line_of}
-use Rattle.script_calls.specs.declared.calls.Plan.{Plan}
+use Rattle.script_model.specs.Dylibs.{DifferentNames, dylib_names}
+use Rattle.script_model.specs.Plans.{CanRun, event_of, line_of}
+use Rattle.script_model.specs.declared.calls.Plan.{Plan}
 use Rattle.script_plan.specs.Asked.{asked_events, asked_line}
 use Rattle.script_plan.specs.Counts.{no_units}
 use Rattle.script_plan.specs.Notes.{AreHandedOut, AreTaken, watches}

@@ -7,7 +7,7 @@ use Rattle.std.proofs.lemmas.List.Concat.{flat_map-append}
 use Rattle.std.proofs.lemmas.List.Elements.{All-cons, All-nil}
 use Rattle.list_laws.proofs.Lists.{appended_at}
 use Rattle.orc_io.specs.Numbers.{AreNumberedFrom}
-use Rattle.script_calls.specs.declared.calls.ClientCall.{ClientCall}
+use Rattle.script_model.specs.declared.calls.ClientCall.{ClientCall}
 use Rattle.script_plan.specs.Notes.{AreTaken, watch_of, watches_of}
 use Rattle.session_script.specs.WellFormed.{note_of, notes_of}
 use Rattle.session_script.specs.declared.script.ClientLine.{ClientLine}

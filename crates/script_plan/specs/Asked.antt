@@ -1,7 +1,7 @@
 -- What a script asks for, by its lines and by what the unit of each file is.
 use Rattle.std.specs.Prelude.{ℕ, List, [], ◌∷◌, map, Option, Some, None, slice_index_or}
 use Rattle.orc_ids.specs.declared.ids.UnitName.TheVariants as unit_name
-use Rattle.script_calls.specs.Lines.{Line, One, LookUp, Run, PeekAt, Script as Asked}
+use Rattle.script_model.specs.Asking.{Line, One, LookUp, Run, PeekAt, Script as Asked}
 use Rattle.script_plan.specs.Counts.{no_units, with_line}
 use Rattle.script_plan.specs.declared.unit_counts.UnitCounts.{UnitCounts}
 use Rattle.session_model.specs.Calls.{Lookup}

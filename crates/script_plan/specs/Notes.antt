@@ -2,9 +2,9 @@
 use Rattle.std.specs.Prelude.{◌≡◌, ℕ, List, [], ◌++◌, length, map, flat_map}
 use Rattle.std.specs.List.{enumerate_from}
 use Rattle.std.specs.Option.{option_to_list}
-use Rattle.script_calls.specs.declared.calls.ClientCall.{ClientCall}
-use Rattle.script_calls.specs.declared.calls.ClientCall.TheVariants as client
-use Rattle.script_calls.specs.declared.calls.Plan.{Plan}
+use Rattle.script_model.specs.declared.calls.ClientCall.{ClientCall}
+use Rattle.script_model.specs.declared.calls.ClientCall.TheVariants as client
+use Rattle.script_model.specs.declared.calls.Plan.{Plan}
 
 module _ {U N : Type 0} where
   -- the note of a call that has one, with its number

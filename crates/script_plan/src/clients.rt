@@ -1,7 +1,7 @@
 //! The calls of clients.
 ghost use Rattle.std.specs.Prelude.{◌≡◌, ◌≤◌, All, length, map, flat_map, IfOk};
 ghost use Rattle.std.specs.Vec.Iter.{into_iter_items};
-ghost use Rattle.script_calls.specs.Plans.{line_of};
+ghost use Rattle.script_model.specs.Plans.{line_of};
 ghost use Rattle.session_units.specs.Units.{meaning_of};
 ghost use Rattle.script_plan.specs.Asked.{asked_line};
 ghost use Rattle.script_plan.specs.Notes.{AreTaken, watch_of, watches_of};
@@ -10,7 +10,7 @@ ghost use Rattle.session_script.specs.WellFormed.{IsClientLine, note_of, notes_o
 use crate::parts::{copy_of, unit_of_file};
 use orc_ids::Items;
 use orc_io::Notify;
-use script_calls::{ClientCall, Lookup};
+use script_model::{ClientCall, Lookup};
 use session_script::{ClientLine, LookupLine};
 use session_units::ObjectUnit;
 use std::alloc::{AllocError, Global};

@@ -1,6 +1,6 @@
 ghost use Rattle.std.specs.Prelude.{◌≡◌, ◌-◌, None, All, length, map, IfOk};
 ghost use Rattle.orc_io.specs.Numbers.{AreNumberedFrom};
-ghost use Rattle.script_calls.specs.Plans.{CanRun, script_of};
+ghost use Rattle.script_model.specs.Plans.{CanRun, script_of};
 ghost use Rattle.session_units.specs.Units.{meaning_of};
 ghost use Rattle.script_plan.specs.Asked.{asked_script};
 ghost use Rattle.script_plan.specs.Notes.{AreHandedOut};
@@ -9,7 +9,7 @@ ghost use Rattle.session_script.specs.WellFormed.{IsWellFormed};
 use crate::clients::plan_clients;
 use crate::set_up::plan_set_up;
 use orc_io::Notify;
-use script_calls::Plan;
+use script_model::Plan;
 use session_script::Script;
 use session_units::ObjectUnit;
 use std::alloc::{AllocError, Global};

@@ -1,6 +1,6 @@
 //! The calls of the set-up.
 ghost use Rattle.std.specs.Prelude.{◌≡◌, All, length, map, OnOk, IfOk};
-ghost use Rattle.script_calls.specs.Plans.{event_of};
+ghost use Rattle.script_model.specs.Plans.{event_of};
 ghost use Rattle.session_units.specs.Units.{meaning_of};
 ghost use Rattle.script_plan.specs.Asked.{asked_event, asked_events};
 ghost use Rattle.script_plan.specs.Counts.{with_line};
@@ -8,7 +8,7 @@ ghost use Rattle.session_script.specs.WellFormed.{IsSetupLine};
 
 use crate::parts::{copy_of, unit_of_file, unit_of_symbols};
 use crate::unit_counts::UnitCounts;
-use script_calls::SetUpCall;
+use script_model::SetUpCall;
 use session_script::SetupLine;
 use session_units::ObjectUnit;
 use std::alloc::{AllocError, Global};

@@ -10,8 +10,8 @@ use Rattle.notifiers.specs.contracts.fires.FiredList as FiredList
 use Rattle.notifiers.specs.contracts.fires.FiredList.TheInside as FiredInside
 use Rattle.orc_io.specs.declared.notify.Notify.{Ghosts}
 use Rattle.notifiers.proofs.Crossing.{link_send}
-use Rattle.script_calls.proofs.calls.ClientCall.TheSendSync as call
-use Rattle.script_laws.proofs.line_end.LineEnd.TheSendSync as line_end
+use Rattle.script_model.proofs.calls.ClientCall.TheSendSync as call
+use Rattle.script_model.proofs.line_end.LineEnd.TheSendSync as line_end
 use Rattle.orc_names.proofs.hasher.NameHasher.TheSendSync as hasher
 use Rattle.script_session.specs.contracts.client.ClientEnd as ClientEnd
 use Rattle.script_session.specs.contracts.members.Common as Common

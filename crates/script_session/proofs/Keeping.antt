@@ -18,18 +18,18 @@ use Rattle.turn_lock.specs.Told.{Shows}
 use Rattle.turn_lock.specs.Views.{sees}
 use Rattle.shared_session.specs.Home.{IsLawful, IsPosted, seat_of}
 use Rattle.shared_session.specs.declared.posts.TheConstants.{POSTS}
-use Rattle.look_ends.specs.Ends.{EndsAs}
-use Rattle.look_ends.specs.declared.look_end.LookEnd.{LookEnd}
-use Rattle.look_ends.specs.declared.look_end.LookEnd.TheVariants as look
-use Rattle.seat_calls.specs.Did.{Did, Nothing}
-use Rattle.seat_calls.proofs.Doing.{less_is_done, looks_again, nothing_twice}
+use Rattle.session_model.specs.Ends.{EndsAs}
+use Rattle.session_model.specs.declared.look_end.LookEnd.{LookEnd}
+use Rattle.session_model.specs.declared.look_end.LookEnd.TheVariants as look
+use Rattle.shared_session.specs.Did.{Did, Nothing}
+use Rattle.shared_session.proofs.Doing.{less_is_done, looks_again, nothing_twice}
 use Rattle.link_worker.specs.Looks.{HasLooked}
 use Rattle.link_worker.specs.Works.{IsFree}
 use Rattle.link_worker.proofs.Seeing.{free_looks}
 use Rattle.ready_words.specs.Found.{HasPost, MayBePosted, posts_all}
 use Rattle.ready_words.proofs.Posting.{found_have_posts, found_may_be_posted}
-use Rattle.given_names.specs.Given.{Given, given_match, given_names, match_of}
-use Rattle.given_names.specs.declared.names.GivenMatch.{GivenMatch}
+use Rattle.script_model.specs.Given.{Given, given_match, given_names, match_of}
+use Rattle.script_model.specs.declared.names.GivenMatch.{GivenMatch}
 use Rattle.script_session.specs.Posts.{KnowsGiven, KnowsMatch, MayBeKept}
 use Rattle.script_session.proofs.Posting.{IsNoted, given_all, posts_free, posts_no_call, posts_noted, still_given}
 

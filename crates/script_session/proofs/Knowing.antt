@@ -5,9 +5,9 @@ use Rattle.session_model.specs.Meaning.{Meaning}
 use Rattle.session_model.specs.declared.entry.Entry.{Entry}
 use Rattle.notifiers.specs.declared.notice.Notice.{Notice}
 use Rattle.turn_lock.specs.declared.view.View.{View}
-use Rattle.given_names.specs.Given.{Given}
-use Rattle.script_calls.specs.Lines.{Line}
-use Rattle.script_laws.specs.declared.line_end.LineEnd.{LineEnd}
+use Rattle.script_model.specs.Given.{Given}
+use Rattle.script_model.specs.Asking.{Line}
+use Rattle.script_model.specs.declared.line_end.LineEnd.{LineEnd}
 use Rattle.script_session.specs.Clients.{HasDone}
 use Rattle.script_session.specs.Lines.{is_stopped}
 use Rattle.script_session.specs.Posts.{KnowsGiven}

@@ -12,17 +12,17 @@ use Rattle.session_laws.proofs.Declared.{pushed_cases}
 use Rattle.notifiers.specs.declared.notice.Notice.{Notice}
 use Rattle.turn_lock.specs.declared.view.View.{View}
 use Rattle.turn_lock.specs.Lists.{StartsWith}
-use Rattle.seat_calls.specs.Did.{Did, Nothing, Promise}
-use Rattle.seat_calls.proofs.Doing.{nothing_is_done}
+use Rattle.shared_session.specs.Did.{Did, Nothing, Promise}
+use Rattle.shared_session.proofs.Doing.{nothing_is_done}
 use Rattle.link_worker.specs.Does.{Does}
 use Rattle.link_worker.specs.Works.{WasStopped}
 use Rattle.link_worker.proofs.Telling.{does_both, does_less, does_none}
 use Rattle.link_worker.proofs.Working.{stopped_since, stopped_until}
-use Rattle.given_names.specs.Given.{Given}
-use Rattle.script_calls.specs.Lines.{Line}
-use Rattle.script_laws.specs.Lines.{AreLines, AreSkipped, AtEnd, Goes, Stops, given_by}
-use Rattle.script_laws.specs.declared.line_end.LineEnd.{LineEnd}
-use Rattle.script_laws.specs.declared.line_end.LineEnd.TheVariants as end
+use Rattle.script_model.specs.Given.{Given}
+use Rattle.script_model.specs.Asking.{Line}
+use Rattle.script_model.specs.Lines.{AreLines, AreSkipped, AtEnd, Goes, Stops, given_by}
+use Rattle.script_model.specs.declared.line_end.LineEnd.{LineEnd}
+use Rattle.script_model.specs.declared.line_end.LineEnd.TheVariants as end
 use Rattle.script_session.specs.Clients.{Begins, Going, Halted, HasDone, HasDoneAll, HasDoneSome, Makes, MakesAll}
 use Rattle.script_session.specs.Lines.{AreSame, is_stopped}
 

@@ -13,21 +13,21 @@ use Rattle.session_laws.proofs.Declared.{appended_cases}
 use Rattle.notifiers.specs.declared.notice.Notice.{Notice}
 use Rattle.turn_lock.specs.declared.view.View.{View}
 use Rattle.shared_session.specs.Home.{seat_of}
-use Rattle.seat_calls.specs.Did.{Promise}
+use Rattle.shared_session.specs.Did.{Promise}
 use Rattle.link_worker.specs.Does.{Does}
 use Rattle.link_worker.specs.Works.{IsFree, Jobs, WasStopped}
 use Rattle.shared_session.specs.declared.posts.TheConstants.{POSTS}
-use Rattle.seat_work.specs.First.{IsFirst}
-use Rattle.seat_work.proofs.NewSeats.{may_begin}
+use Rattle.link_worker.specs.First.{IsFirst}
+use Rattle.link_worker.proofs.NewSeats.{may_begin}
 use Rattle.link_worker.proofs.Telling.{does_less}
 use Rattle.crew.specs.Crew.{HaveWorked, IsKept, IsNew, MayBegin}
 use Rattle.crew.proofs.Worked.{all_at, all_from, some_there}
-use Rattle.script_laws.specs.declared.line_end.LineEnd.{LineEnd}
-use Rattle.script_laws.specs.declared.line_end.LineEnd.TheVariants.{Stopped}
+use Rattle.script_model.specs.declared.line_end.LineEnd.{LineEnd}
+use Rattle.script_model.specs.declared.line_end.LineEnd.TheVariants.{Stopped}
 use Rattle.script_session.specs.Clients.{AreUnheard, HasDoneAll, IsEmpty, MakesAll}
 use Rattle.script_session.specs.Members.{AreMembers, CanBegin, CanServe, HasServed, IsClientOf, Serves, ends_in, ends_of, unlodged_in}
-use Rattle.script_calls.specs.Plans.{CanCall, line_of}
-use Rattle.script_calls.specs.declared.calls.ClientCall.{ClientCall}
+use Rattle.script_model.specs.Plans.{CanCall, line_of}
+use Rattle.script_model.specs.declared.calls.ClientCall.{ClientCall}
 use Rattle.script_session.specs.declared.members.Member.{Member}
 use Rattle.script_session.specs.declared.members.Role.{Role}
 use Rattle.script_session.specs.declared.members.Role.TheVariants.{Client, Worker}

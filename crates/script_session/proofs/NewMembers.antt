@@ -8,7 +8,7 @@ use Rattle.session_model.specs.Meaning.{Meaning}
 use Rattle.session_laws.proofs.Declared.{appended_cases, pushed_cases}
 use Rattle.crew.proofs.Worked.{all_from}
 use Rattle.script_session.specs.Members.{AllSkipped, AreAdded, AreMembers, IsClientOf, WasSkipped}
-use Rattle.script_calls.specs.declared.calls.ClientCall.{ClientCall}
+use Rattle.script_model.specs.declared.calls.ClientCall.{ClientCall}
 use Rattle.script_session.specs.declared.members.Member.{Member}
 use Rattle.script_session.specs.declared.members.Role.TheVariants.{Worker}
 

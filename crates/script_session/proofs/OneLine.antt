@@ -30,35 +30,35 @@ use Rattle.session_steps.specs.Performs.{Performs, PerformsWith, state_of}
 use Rattle.notifiers.specs.Notices.{AreHeard, Told}
 use Rattle.notifiers.specs.declared.notice.Notice.{Notice}
 use Rattle.notifiers.specs.declared.notice.Unheard.{Unheard}
-use Rattle.note_laws.specs.Laws.{may_settle}
-use Rattle.note_laws.specs.Notes.{AreTold}
-use Rattle.note_laws.proofs.Unlodged.{unstirred}
+use Rattle.history_laws.specs.Laws.{may_settle}
+use Rattle.history_laws.specs.Notes.{AreTold}
+use Rattle.history_laws.proofs.Unlodged.{unstirred}
 use Rattle.shared_session.specs.Does.{Tells, seat}
 use Rattle.turn_lock.specs.declared.view.View.{View}
-use Rattle.seat_calls.specs.Did.{Did, Nothing, Promise}
-use Rattle.seat_calls.proofs.Doing.{less_is_done, nothing_is_done}
-use Rattle.look_ends.specs.Stopped.{IsCutShort}
-use Rattle.look_ends.proofs.Stopping.{cut_by}
+use Rattle.shared_session.specs.Did.{Did, Nothing, Promise}
+use Rattle.shared_session.proofs.Doing.{less_is_done, nothing_is_done}
+use Rattle.session_model.specs.Stopped.{IsCutShort}
+use Rattle.session_model.proofs.Stopping.{cut_by}
 use Rattle.link_worker.specs.Does.{Call, Does, Nobody, PlacesLowest, ToldAt}
 use Rattle.link_worker.specs.Jobs.{IsCause, SpareAll}
-use Rattle.look_ends.specs.Ends.{EndsAs}
+use Rattle.session_model.specs.Ends.{EndsAs}
 use Rattle.link_worker.specs.Looks.{HasLooked, left_of}
 use Rattle.link_worker.specs.Works.{IsFree, WasStopped}
-use Rattle.look_ends.specs.declared.look_end.LookEnd.{LookEnd}
-use Rattle.look_ends.specs.declared.look_end.LookEnd.TheVariants as look
+use Rattle.session_model.specs.declared.look_end.LookEnd.{LookEnd}
+use Rattle.session_model.specs.declared.look_end.LookEnd.TheVariants as look
 use Rattle.link_worker.proofs.Collecting.{one_lacks}
 use Rattle.link_worker.proofs.Freeing.{free_stays}
 use Rattle.link_worker.proofs.Stepping.{no_notices}
 use Rattle.link_worker.proofs.Telling.{does_less, does_none, does_one, is_placing, places_nothing, told_by, told_none, IsCalledLowest}
 use Rattle.link_worker.proofs.Turning.{TurnOf, legal_after, no_call, one_call, seen_is}
 use Rattle.link_worker.proofs.Working.{stopped_now}
-use Rattle.seat_work.specs.Copies.{CopiesAt, IsStoppedAt, OneCopy}
-use Rattle.given_names.specs.Given.{Given, address_of, given_names, match_of}
-use Rattle.given_names.proofs.Callers.{same_after}
-use Rattle.script_calls.specs.Lines.{Line, LookUp, One, Run}
-use Rattle.script_laws.specs.Lines.{CallsOf, CopiesAndRuns, given_by}
-use Rattle.script_laws.specs.declared.line_end.LineEnd.{LineEnd}
-use Rattle.script_laws.specs.declared.line_end.LineEnd.TheVariants.{Looked, Ran, Replied, Stopped, Unfound}
+use Rattle.link_worker.specs.Copies.{CopiesAt, IsStoppedAt, OneCopy}
+use Rattle.script_model.specs.Given.{Given, address_of, given_names, match_of}
+use Rattle.script_model.proofs.Callers.{same_after}
+use Rattle.script_model.specs.Asking.{Line, LookUp, One, Run}
+use Rattle.script_model.specs.Lines.{CallsOf, CopiesAndRuns, given_by}
+use Rattle.script_model.specs.declared.line_end.LineEnd.{LineEnd}
+use Rattle.script_model.specs.declared.line_end.LineEnd.TheVariants.{Looked, Ran, Replied, Stopped, Unfound}
 use Rattle.script_session.specs.Clients.{Begins, HasDone, Makes}
 use Rattle.script_session.specs.Lines.{AreSame, line_end, lookup_end}
 

@@ -12,22 +12,22 @@ use Rattle.notifiers.specs.declared.notice.Notice.{Notice}
 use Rattle.turn_lock.specs.declared.view.View.{View}
 use Rattle.turn_lock.specs.Lists.{StartsWith}
 use Rattle.shared_session.specs.ReadyWords.{IsWord}
-use Rattle.seat_calls.specs.Did.{Did, Nothing, Promise}
-use Rattle.seat_calls.proofs.Doing.{nothing_is_done, word_is_no_call}
-use Rattle.seat_calls.proofs.Numbers.{taken_start}
+use Rattle.shared_session.specs.Did.{Did, Nothing, Promise}
+use Rattle.shared_session.proofs.Doing.{nothing_is_done, word_is_no_call}
+use Rattle.shared_session.proofs.Numbers.{taken_start}
 use Rattle.session_promises.proofs.FoundStanding.{address_is}
-use Rattle.look_ends.specs.declared.peeked.Peek.{Peek}
-use Rattle.look_ends.specs.declared.peeked.Peek.TheVariants as peek
+use Rattle.session_model.specs.declared.peeked.Peek.{Peek}
+use Rattle.session_model.specs.declared.peeked.Peek.TheVariants as peek
 use Rattle.ready_words.specs.Peeks.{IsPeek}
 use Rattle.link_worker.specs.Does.{Does}
 use Rattle.link_worker.specs.Works.{IsFree}
 use Rattle.link_worker.proofs.Seeing.{free_reads}
 use Rattle.link_worker.proofs.Telling.{does_none}
-use Rattle.given_names.specs.Given.{Given, match_of}
-use Rattle.given_names.specs.declared.names.GivenMatch.{GivenMatch}
-use Rattle.script_calls.specs.Lines.{PeekAt}
-use Rattle.script_laws.specs.Lines.{IsPeekOf, WasReady}
-use Rattle.script_laws.specs.declared.line_end.LineEnd.TheVariants.{Peeked}
+use Rattle.script_model.specs.Given.{Given, match_of}
+use Rattle.script_model.specs.declared.names.GivenMatch.{GivenMatch}
+use Rattle.script_model.specs.Asking.{PeekAt}
+use Rattle.script_model.specs.Lines.{IsPeekOf, WasReady}
+use Rattle.script_model.specs.declared.line_end.LineEnd.TheVariants.{Peeked}
 use Rattle.script_session.specs.Clients.{HasDone, Makes}
 use Rattle.script_session.specs.Posts.{KnowsMatch}
 

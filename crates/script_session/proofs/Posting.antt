@@ -10,13 +10,13 @@ use Rattle.orc_ids.specs.declared.lookup.Wanted.{Wanted}
 use Rattle.session_model.specs.Meaning.{Bindings, Meaning}
 use Rattle.session_model.specs.declared.entry.Entry.{Entry}
 use Rattle.turn_lock.specs.declared.view.View.{View}
-use Rattle.seat_calls.specs.Did.{Did, Nothing}
-use Rattle.seat_calls.proofs.Doing.{nothing_is_done, nothing_twice, post_is_no_call}
+use Rattle.shared_session.specs.Did.{Did, Nothing}
+use Rattle.shared_session.proofs.Doing.{nothing_is_done, nothing_twice, post_is_no_call}
 use Rattle.link_worker.specs.Works.{IsFree}
 use Rattle.ready_words.specs.Found.{HasPost, posts_all, posts_at, posts_one}
-use Rattle.given_names.specs.Given.{Given, given_match, given_names, match_of}
-use Rattle.given_names.specs.declared.names.GivenMatch.{GivenMatch}
-use Rattle.script_laws.specs.Lines.{WasReady}
+use Rattle.script_model.specs.Given.{Given, given_match, given_names, match_of}
+use Rattle.script_model.specs.declared.names.GivenMatch.{GivenMatch}
+use Rattle.script_model.specs.Lines.{WasReady}
 use Rattle.script_session.specs.Posts.{KnowsGiven, KnowsMatch}
 
 -- What was posted is noted

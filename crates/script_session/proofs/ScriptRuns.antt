@@ -17,8 +17,8 @@ use Rattle.notifiers.specs.declared.notice.Notice.{Notice}
 use Rattle.turn_lock.specs.declared.view.View.{View}
 use Rattle.turn_lock.specs.Told.{Shows}
 use Rattle.shared_session.specs.Home.{IsLawful, IsPosted, seat_of}
-use Rattle.seat_calls.specs.Did.{Did, Promise, calls_in}
-use Rattle.seat_calls.proofs.Numbers.{starts_again}
+use Rattle.shared_session.specs.Did.{Did, Promise, calls_in}
+use Rattle.shared_session.proofs.Numbers.{starts_again}
 use Rattle.link_worker.specs.Does.{Nobody, PlacesLowest, ToldAt}
 use Rattle.link_worker.specs.Works.{Jobs}
 use Rattle.materialization.specs.Rest.{HoldsNone}
@@ -26,19 +26,19 @@ use Rattle.crew.specs.Crew.{HaveWorked, IsKept}
 use Rattle.crew.proofs.Taking.{says}
 use Rattle.crew.proofs.Worked.{all_at, some_there}
 use Rattle.run_laws.specs.Runs.{AreJobs, NoJob}
-use Rattle.seat_work.specs.First.{IsFirst}
-use Rattle.seat_work.proofs.Calls.{Made, member_made}
-use Rattle.seat_work.proofs.Held.{AreStill, is_working, let_go}
-use Rattle.seat_work.proofs.Whole.{IsWhole, alone, are_jobs, cause_in, none_of_rest, whole}
-use Rattle.script_laws.specs.Lines.{AreLines, AreSkipped}
-use Rattle.script_calls.specs.Lines.{Script}
-use Rattle.script_laws.specs.Scripts.{AreCalled, ClientsRan, InSetUp, IsScriptRun, NoClientRan, Went, Whole}
-use Rattle.script_laws.specs.declared.line_end.LineEnd.{LineEnd}
+use Rattle.link_worker.specs.First.{IsFirst}
+use Rattle.link_worker.proofs.Calls.{Made, member_made}
+use Rattle.link_worker.proofs.Held.{AreStill, is_working, let_go}
+use Rattle.link_worker.proofs.Whole.{IsWhole, alone, are_jobs, cause_in, none_of_rest, whole}
+use Rattle.script_model.specs.Lines.{AreLines, AreSkipped}
+use Rattle.script_model.specs.Asking.{Script}
+use Rattle.script_model.specs.Scripts.{AreCalled, ClientsRan, InSetUp, IsScriptRun, NoClientRan, Went, Whole}
+use Rattle.script_model.specs.declared.line_end.LineEnd.{LineEnd}
 use Rattle.script_session.specs.Clients.{AreUnheard, MakesAll}
 use Rattle.script_session.specs.Members.{AllSkipped, AreMembers, IsClientOf, IsSkipped, Serves, ends_in, ends_of, told_of, unlodged_in, unlodged_of}
-use Rattle.script_calls.specs.Plans.{line_of}
+use Rattle.script_model.specs.Plans.{line_of}
 use Rattle.script_session.specs.SetUps.{HasSetUp, IsAt}
-use Rattle.script_calls.specs.declared.calls.ClientCall.{ClientCall}
+use Rattle.script_model.specs.declared.calls.ClientCall.{ClientCall}
 use Rattle.script_session.specs.declared.members.Member.{Member}
 use Rattle.script_session.specs.declared.members.Role.{Role}
 use Rattle.script_session.specs.declared.members.Role.TheVariants.{Client, Worker}
@@ -148,7 +148,7 @@ module _ {U N : Type 0} (means : U → Meaning) (heard : N → Option Outcome) (
   stopped_run v log st old new (n, few, ((first, called), cause)) are skipped s =
       run_of log (plain_history means v.seen) [] (Some st) (ends_of new) (alone means jmax seats v log (omega arith) first s (still_entries (plain_history means v.seen) (take n events) called (still_taken n events still)))
       (λ k more. subst (AreJobs (plain_history means log)) (sym (none_of_rest means jmax v log k (omega (arith, more)) first s)) NoJob)
-      (InSetUp n st few called refl (cause_in means jmax st log v.seen ([], Rattle.seat_work.proofs.FirstSeat.saw_all means jmax v log first s ∙ sym (Rattle.std.proofs.Common.append-nil v.seen)) cause) (none_ran old new are skipped))
+      (InSetUp n st few called refl (cause_in means jmax st log v.seen ([], Rattle.link_worker.proofs.FirstSeat.saw_all means jmax v log first s ∙ sym (Rattle.std.proofs.Common.append-nil v.seen)) cause) (none_ran old new are skipped))
 
   -- The set-up was done, and all worked.
   module _ {G : Type 0} (v z : View (Entry U)) (log : List (Entry U)) (old new : List (Member U N G)) (at : IsAt means jmax events v) (count : v.seats ≡ seats) (are : AreMembers clients workers old) (worked : HaveWorked seat_of (Serves means heard numbers jmax) v z old new) (s : Shows seat_of (IsLawful means jmax) (IsPosted means) log z) where

@@ -18,15 +18,15 @@ use Rattle.session_steps.specs.Performs.{Performs, PerformsWith, state_of}
 use Rattle.session_laws.proofs.Declared.{appended_at}
 use Rattle.turn_lock.specs.declared.view.View.{View}
 use Rattle.shared_session.specs.Does.{seat}
-use Rattle.seat_work.proofs.Held.{is_working}
+use Rattle.link_worker.proofs.Held.{is_working}
 use Rattle.link_worker.proofs.Turning.{TurnOf}
-use Rattle.seat_work.proofs.FirstSeat.{one_place}
-use Rattle.script_calls.specs.Dylibs.{dylib_names}
-use Rattle.script_calls.specs.Plans.{CanSetUp, CanSetUpAll, event_of}
-use Rattle.script_calls.specs.declared.calls.SetUpCall.{SetUpCall}
-use Rattle.script_calls.specs.declared.calls.SetUpCall.TheVariants as set_up
-use Rattle.script_calls.proofs.Made.{made_before}
-use Rattle.script_laws.specs.Scripts.{AreCalled}
+use Rattle.link_worker.proofs.FirstSeat.{one_place}
+use Rattle.script_model.specs.Dylibs.{dylib_names}
+use Rattle.script_model.specs.Plans.{CanSetUp, CanSetUpAll, event_of}
+use Rattle.script_model.specs.declared.calls.SetUpCall.{SetUpCall}
+use Rattle.script_model.specs.declared.calls.SetUpCall.TheVariants as set_up
+use Rattle.script_model.proofs.Made.{made_before}
+use Rattle.script_model.specs.Scripts.{AreCalled}
 use Rattle.script_session.specs.SetUps.{HasSetUp, IsAllowed, IsAt, IsStoppedIn}
 
 module _ {U : Type 0} (means : U → Meaning) (jmax : ℕ) (v w : View (Entry U)) where

@@ -15,11 +15,11 @@ use Rattle.turn_lock.specs.Views.{first_view}
 use Rattle.turn_lock.specs.declared.view.View.{View}
 use Rattle.shared_session.specs.Home.{IsLawful, IsPosted, seat_of}
 use Rattle.link_worker.specs.Does.{ToldAt}
-use Rattle.seat_work.specs.First.{IsFirst}
-use Rattle.script_calls.specs.Plans.{event_of, line_of}
-use Rattle.script_calls.specs.declared.calls.ClientCall.{ClientCall}
-use Rattle.script_calls.specs.declared.calls.SetUpCall.{SetUpCall}
-use Rattle.script_laws.specs.Scripts.{IsScriptRun}
+use Rattle.link_worker.specs.First.{IsFirst}
+use Rattle.script_model.specs.Plans.{event_of, line_of}
+use Rattle.script_model.specs.declared.calls.ClientCall.{ClientCall}
+use Rattle.script_model.specs.declared.calls.SetUpCall.{SetUpCall}
+use Rattle.script_model.specs.Scripts.{IsScriptRun}
 use Rattle.script_session.specs.Clients.{AreUnheard}
 use Rattle.script_session.specs.Leaving.{WorkedBy}
 use Rattle.script_session.specs.Members.{AreMembers, ends_of, told_of, unlodged_of}

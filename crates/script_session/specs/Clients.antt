@@ -6,15 +6,15 @@ use Rattle.session_model.specs.Meaning.{Meaning}
 use Rattle.session_model.specs.declared.entry.Entry.{Entry}
 use Rattle.notifiers.specs.declared.notice.Notice.{Notice}
 use Rattle.turn_lock.specs.declared.view.View.{View}
-use Rattle.seat_calls.specs.Did.{Promise}
-use Rattle.look_ends.specs.Stopped.{IsStoppedBy}
+use Rattle.shared_session.specs.Did.{Promise}
+use Rattle.session_model.specs.Stopped.{IsStoppedBy}
 use Rattle.link_worker.specs.Does.{Does}
 use Rattle.link_worker.specs.Works.{WasStopped}
-use Rattle.given_names.specs.Given.{Given}
-use Rattle.script_calls.specs.Lines.{Line}
-use Rattle.script_laws.specs.Lines.{AreLines, AreSkipped, CallsOf, IsLine}
-use Rattle.script_laws.specs.declared.line_end.LineEnd.{LineEnd}
-use Rattle.script_laws.specs.declared.line_end.LineEnd.TheVariants.{Stopped}
+use Rattle.script_model.specs.Given.{Given}
+use Rattle.script_model.specs.Asking.{Line}
+use Rattle.script_model.specs.Lines.{AreLines, AreSkipped, CallsOf, IsLine}
+use Rattle.script_model.specs.declared.line_end.LineEnd.{LineEnd}
+use Rattle.script_model.specs.declared.line_end.LineEnd.TheVariants.{Stopped}
 use Rattle.script_session.specs.Lines.{AreSame}
 use Rattle.script_session.specs.declared.client.ClientEnd.{ClientEnd}
 

@@ -7,11 +7,11 @@ use Rattle.turn_lock.specs.declared.view.View.{View}
 use Rattle.notifiers.specs.declared.notice.Notice.{Notice}
 use Rattle.link_worker.specs.Does.{Does}
 use Rattle.link_worker.specs.Works.{IsFree, Jobs}
-use Rattle.script_laws.specs.Lines.{AreSkipped}
-use Rattle.script_laws.specs.declared.line_end.LineEnd.{LineEnd}
+use Rattle.script_model.specs.Lines.{AreSkipped}
+use Rattle.script_model.specs.declared.line_end.LineEnd.{LineEnd}
 use Rattle.script_session.specs.Clients.{AreUnheard, HasDoneAll, IsEmpty}
-use Rattle.script_calls.specs.Plans.{CanCall, line_of}
-use Rattle.script_calls.specs.declared.calls.ClientCall.{ClientCall}
+use Rattle.script_model.specs.Plans.{CanCall, line_of}
+use Rattle.script_model.specs.declared.calls.ClientCall.{ClientCall}
 use Rattle.script_session.specs.declared.members.Member.{Member}
 use Rattle.script_session.specs.declared.members.Role.{Role}
 use Rattle.script_session.specs.declared.members.Role.TheVariants.{Client, Worker}

@@ -10,9 +10,9 @@ use Rattle.turn_lock.specs.Lists.{StartsWith}
 use Rattle.shared_session.specs.Home.{IsLawful}
 use Rattle.shared_session.specs.declared.posts.TheConstants.{POSTS}
 use Rattle.ready_words.specs.Found.{HasPost, MayBePosted}
-use Rattle.given_names.specs.Given.{Given, match_of}
-use Rattle.given_names.specs.declared.names.GivenMatch.{GivenMatch}
-use Rattle.script_laws.specs.Lines.{WasReady}
+use Rattle.script_model.specs.Given.{Given, match_of}
+use Rattle.script_model.specs.declared.names.GivenMatch.{GivenMatch}
+use Rattle.script_model.specs.Lines.{WasReady}
 
 module _ {U : Type 0} where
   -- the match has a post; and if the client itself found it ready, the seat knows the post to be filled with its address

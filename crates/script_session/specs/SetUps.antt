@@ -10,10 +10,10 @@ use Rattle.session_model.specs.declared.entry.Entry.{Entry}
 use Rattle.session_model.specs.declared.entry.Event.{Event}
 use Rattle.turn_lock.specs.declared.view.View.{View}
 use Rattle.link_worker.specs.Jobs.{IsCause}
-use Rattle.seat_work.specs.First.{IsFirst}
-use Rattle.script_calls.specs.declared.calls.SetUpCall.{SetUpCall}
-use Rattle.script_calls.specs.declared.calls.SetUpCall.TheVariants as set_up
-use Rattle.script_laws.specs.Scripts.{AreCalled}
+use Rattle.link_worker.specs.First.{IsFirst}
+use Rattle.script_model.specs.declared.calls.SetUpCall.{SetUpCall}
+use Rattle.script_model.specs.declared.calls.SetUpCall.TheVariants as set_up
+use Rattle.script_model.specs.Scripts.{AreCalled}
 
 module _ {U : Type 0} (means : U → Meaning) where
   -- the call can be made in a session: its order isn't too long, and the source of its alias is there

@@ -5,13 +5,13 @@ ghost use Rattle.session_model.specs.declared.entry.Event.{Event};
 ghost use Rattle.session_model.specs.declared.entry.Reply.{Reply};
 ghost use Rattle.session_steps.specs.Performs.{state_of};
 ghost use Rattle.turn_lock.specs.Handles.{view, turn_id, IsReady};
-ghost use Rattle.script_calls.specs.Plans.{CanSetUpAll, event_of};
+ghost use Rattle.script_model.specs.Plans.{CanSetUpAll, event_of};
 ghost use Rattle.script_session.specs.SetUps.{HasSetUp, IsAllowed, IsAt, IsStoppedIn};
 
 use link_worker::LinkedUnit;
 use orc_ids::Stop;
 use orc_io::Notify;
-use script_calls::SetUpCall;
+use script_model::SetUpCall;
 use session_model::Reply;
 use shared_session::{Attach, Define, MakeDylib, MakeTracker, Pass, SetOrder, Shared};
 use std::sync::Wait;

@@ -9,8 +9,7 @@ use crate::sample::Sample;
 use orc_ids::{
     DylibId, GenId, Level, ORDER_LIMIT, OrderItem, QueryId, TrackId, WANTED_LIMIT, Wanted,
 };
-use same_replies::same_reply;
-use session_model::{Entry, Event, Reply, UnitKind};
+use session_model::{Entry, Event, Reply, UnitKind, same_reply};
 use session_past::{Settled, reply_collect, reply_of_job};
 use session_plain::{
     PlainSession, reply_ask, reply_attach, reply_define, reply_dylib, reply_generate, reply_move,

@@ -8,8 +8,7 @@ ghost use Rattle.session_plain.specs.Meant.{meant, unit_row, IsSmall, LiveFit};
 
 use crate::sample::Sample;
 use orc_ids::{Group, InstId, Place, SeatNo, Shape, UnitId};
-use same_replies::same_reply;
-use session_model::{Entry, InstRow, Reply, UnitKind, Why};
+use session_model::{Entry, InstRow, Reply, UnitKind, Why, same_reply};
 use session_past::{Settled, has_cause};
 use session_plain::{
     PlainSession, PlainUnit, bindings, emit_is_next, may_be_placed, owned, place_is_next,

@@ -12,16 +12,16 @@ use Rattle.session_model.specs.declared.entry.Entry.{Entry}
 use Rattle.session_model.specs.declared.entry.Event.{Event}
 use Rattle.session_laws.proofs.Declared.{appended_cases, mapped_length, mapped_parts, mapped_some}
 use Rattle.notifiers.specs.declared.notice.Notice.{Notice}
-use Rattle.note_laws.specs.Laws.{may_settle}
+use Rattle.history_laws.specs.Laws.{may_settle}
 use Rattle.link_worker.specs.Does.{ToldAt}
-use Rattle.notice_laws.specs.Laws.{IsAmong, TellsNote}
-use Rattle.notice_laws.proofs.Told.{ended_are_told, told_have_ended}
-use Rattle.script_calls.specs.Plans.{event_of, line_of, script_of}
-use Rattle.script_calls.specs.declared.calls.Plan.{Plan}
-use Rattle.script_calls.specs.declared.calls.SetUpCall.{SetUpCall}
-use Rattle.script_calls.specs.declared.calls.SetUpCall.TheVariants as set_up
-use Rattle.script_laws.specs.Scripts.{AreCalled, IsScriptRun, Went, Whole, InSetUp}
-use Rattle.script_laws.specs.declared.line_end.LineEnd.{LineEnd}
+use Rattle.history_laws.specs.NoticeLaws.{IsAmong, TellsNote}
+use Rattle.history_laws.proofs.Told.{ended_are_told, told_have_ended}
+use Rattle.script_model.specs.Plans.{event_of, line_of, script_of}
+use Rattle.script_model.specs.declared.calls.Plan.{Plan}
+use Rattle.script_model.specs.declared.calls.SetUpCall.{SetUpCall}
+use Rattle.script_model.specs.declared.calls.SetUpCall.TheVariants as set_up
+use Rattle.script_model.specs.Scripts.{AreCalled, IsScriptRun, Went, Whole, InSetUp}
+use Rattle.script_model.specs.declared.line_end.LineEnd.{LineEnd}
 use Rattle.script_session.specs.Leaving.{AreNotified}
 use Rattle.script_session.specs.declared.session.Notified.{Notified}
 use Rattle.session_command.proofs.Placing.{AllWereTold, WereTold}

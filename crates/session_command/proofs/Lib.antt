@@ -1,9 +1,17 @@
-mod Lists
-mod Placing
 mod AllTold
+mod Lists
+mod Loads
+mod Placing
 mod ScriptSize
+mod Sessions
+mod Stopped
 mod Stops
 mod TextsRead
-mod Stopped
-mod Loads
-mod Sessions
+pub mod Asked
+pub mod Causes
+pub mod Determined
+pub mod Kept
+pub mod Lines
+pub mod NamedSessions
+pub mod Objects
+pub mod Reading

@@ -13,11 +13,11 @@ use Rattle.session_script.specs.WellFormed.{IsWellFormed}
 use Rattle.session_script.specs.declared.limits.TheConstants.{CLIENT_LIMIT}
 use Rattle.session_units.specs.Units.{meaning_of}
 use Rattle.session_units.specs.declared.unit.ObjectUnit.{ObjectUnit}
-use Rattle.script_calls.specs.Plans.{line_of, script_of}
-use Rattle.script_calls.specs.declared.calls.Plan.{Plan}
+use Rattle.script_model.specs.Plans.{line_of, script_of}
+use Rattle.script_model.specs.declared.calls.Plan.{Plan}
 use Rattle.script_plan.specs.Asked.{asked_line, asked_script}
 use Rattle.script_plan.specs.Notes.{AreHandedOut, watches}
-use Rattle.session_answers.specs.Texts.{counted}
+use Rattle.session_command.specs.Texts.{counted}
 use Rattle.session_command.specs.Loading.{IsLoaded}
 use Rattle.session_command.specs.declared.command.Loaded.{Loaded}
 

@@ -13,13 +13,13 @@ use Rattle.session_model.specs.declared.entry.Entry.{Entry}
 use Rattle.notifiers.specs.Notices.{AreHeard}
 use Rattle.notifiers.specs.declared.notice.Notice.{Notice}
 use Rattle.orc_io.specs.Numbers.{AreNumberedFrom}
-use Rattle.noted.proofs.Back.{all_taken, set_cases}
-use Rattle.noted.specs.Heard.{AreInOrder}
-use Rattle.noted.specs.declared.notes.Noted.{Noted}
-use Rattle.noted.specs.declared.notes.Noted.TheVariants.{Fired, Unfired}
-use Rattle.notice_laws.specs.Laws.{IsAmong}
-use Rattle.notice_laws.specs.Notes.{NoteEnded}
-use Rattle.session_answers.specs.Notes.{AreBack, HasHeardBy}
+use Rattle.notifiers.proofs.Back.{all_taken, set_cases}
+use Rattle.notifiers.specs.Heard.{AreInOrder}
+use Rattle.notifiers.specs.declared.notes.Noted.{Noted}
+use Rattle.notifiers.specs.declared.notes.Noted.TheVariants.{Fired, Unfired}
+use Rattle.history_laws.specs.NoticeLaws.{IsAmong}
+use Rattle.history_laws.specs.Notices.{NoteEnded}
+use Rattle.session_command.specs.Notes.{AreBack, HasHeardBy}
 use Rattle.session_command.specs.Places.{ArePut, HasHeardNothing, NoneHasHeard, Places, put_told, put_all_told}
 
 -- notifiers that are numbered on: the first, and the others

@@ -9,26 +9,26 @@ use Rattle.journal_text.specs.Journal.{AreKnown, text_of_history}
 use Rattle.result_text.specs.Known.{AreKnownEnds}
 use Rattle.result_text.specs.Results.{text_of_ends}
 use Rattle.object_files.specs.Files.{Told}
-use Rattle.noted.specs.Heard.{AllHaveHeard, AreInOrder}
-use Rattle.noted.specs.declared.notes.Noted.{Noted}
+use Rattle.notifiers.specs.Heard.{AllHaveHeard, AreInOrder}
+use Rattle.notifiers.specs.declared.notes.Noted.{Noted}
 use Rattle.session_script.specs.declared.script.ClientLine.{ClientLine}
 use Rattle.session_script.specs.declared.script.Script.{Script}
 use Rattle.session_units.specs.Units.{meaning_of}
 use Rattle.session_units.specs.declared.unit.ObjectUnit.{ObjectUnit}
-use Rattle.script_calls.specs.Plans.{script_of}
-use Rattle.script_calls.specs.declared.calls.Plan.{Plan}
-use Rattle.script_laws.specs.Scripts.{IsScriptRun}
-use Rattle.script_laws.specs.declared.line_end.LineEnd.{LineEnd}
-use Rattle.script_laws.specs.declared.line_end.ScriptEnd.{ScriptEnd}
+use Rattle.script_model.specs.Plans.{script_of}
+use Rattle.script_model.specs.declared.calls.Plan.{Plan}
+use Rattle.script_model.specs.Scripts.{IsScriptRun}
+use Rattle.script_model.specs.declared.line_end.LineEnd.{LineEnd}
+use Rattle.script_model.specs.declared.line_end.ScriptEnd.{ScriptEnd}
 use Rattle.script_plan.specs.Asked.{asked_script}
 use Rattle.script_session.specs.Leaving.{AreNotified}
 use Rattle.script_session.specs.declared.session.Notified.{Notified}
 use Rattle.answers.specs.declared.answer.Answer.{Answer}
 use Rattle.answers.specs.declared.answer.Answer.TheVariants.{NoMemory}
-use Rattle.session_answers.specs.Ends.{session_answer}
-use Rattle.session_answers.specs.Found.{HasSession}
-use Rattle.session_answers.specs.Texts.{IsSession, counted, wanted_by, wanted_by_all}
-use Rattle.session_names.proofs.Sessions.{session_names_known}
+use Rattle.session_command.specs.Ends.{session_answer}
+use Rattle.session_command.specs.Found.{HasSession}
+use Rattle.session_command.specs.Texts.{IsSession, counted, wanted_by, wanted_by_all}
+use Rattle.session_command.proofs.NamedSessions.{session_names_known}
 use Rattle.session_command.specs.Loading.{IsLoaded}
 use Rattle.session_command.specs.Places.{ArePut}
 use Rattle.session_command.specs.declared.command.Loaded.{Loaded}

@@ -1,16 +1,16 @@
 -- What is found where a script isn't loaded.
 use Rattle.std.proofs.Common.{ℕ, ◌≡◌, inl, inr, List, [], length, map, Option, Result, Ok, Err, IfErr, ◌∙◌}
 use Rattle.orc_ids.specs.declared.lookup.Outcome.{Outcome}
-use Rattle.noted.specs.declared.notes.Noted.{Noted}
-use Rattle.noted.specs.declared.notes.Noted.TheVariants.{Unfired}
+use Rattle.notifiers.specs.declared.notes.Noted.{Noted}
+use Rattle.notifiers.specs.declared.notes.Noted.TheVariants.{Unfired}
 use Rattle.object_files.specs.Files.{Told}
 use Rattle.session_script.specs.declared.script.Script.{Script}
 use Rattle.answers.specs.declared.answer.Answer.{Answer}
-use Rattle.session_answers.specs.Found as found
-use Rattle.session_answers.specs.Found.{IsFound, refused, unread, in_source, in_script, wanting}
-use Rattle.session_answers.specs.Reads.{IsSourceEndFor, IsSourceReadFor}
-use Rattle.session_answers.specs.Texts.{IsScriptOn, counted}
-use Rattle.session_answers.proofs.Reading.{end_of_file, end_of_unasked, source_of_file}
+use Rattle.session_command.specs.Found as found
+use Rattle.session_command.specs.Found.{IsFound, refused, unread, in_source, in_script, wanting}
+use Rattle.session_command.specs.Reads.{IsSourceEndFor, IsSourceReadFor}
+use Rattle.session_command.specs.Texts.{IsScriptOn, counted}
+use Rattle.session_command.proofs.Reading.{end_of_file, end_of_unasked, source_of_file}
 use Rattle.session_command.specs.Loading.{HasStoppedAt, HasStoppedIn, in_files, unasked}
 use Rattle.session_command.specs.declared.command.Loaded.{Loaded}
 

@@ -4,7 +4,7 @@ use Rattle.std.proofs.lemmas.Grind.{flat_map-append}
 use Rattle.std.proofs.lemmas.List.{append-nil}
 use Rattle.orc_ids.specs.declared.lookup.Stop.{Stop}
 use Rattle.answers.specs.declared.answer.Answer.{Answer}
-use Rattle.session_answers.specs.Ends.{stop_answer, stops_answer, worse}
+use Rattle.session_command.specs.Ends.{stop_answer, stops_answer, worse}
 
 stops_append : (before : Answer) (xs ys : List Stop) → stops_answer before (xs ++ ys) ≡ stops_answer (stops_answer before xs) ys
 stops_append before [] ys = refl

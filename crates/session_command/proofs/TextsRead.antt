@@ -4,7 +4,7 @@ use Rattle.std.specs.Io.KnownBytes.{Consumes}
 use Rattle.std.proofs.Math.Seq.{take-append_seam}
 use Rattle.std.proofs.lemmas.List.{take_all}
 use Rattle.session_script.specs.declared.limits.TheConstants.{SIZE_LIMIT}
-use Rattle.session_answers.specs.Texts.{AreRead}
+use Rattle.session_command.specs.Texts.{AreRead}
 
 pub read_whole : (left : Option (List ℕ)) (text : List ℕ) → IfSome left (λ all. text ≡ all) → length text ≤ SIZE_LIMIT → AreRead left text
 read_whole None text whole few = tt

@@ -1,2 +1,10 @@
+pub mod Clauses
+pub mod Ends
+pub mod Found
+pub mod Laws
 pub mod Loading
+pub mod NameLaws
+pub mod Notes
 pub mod Places
+pub mod Reads
+pub mod Texts

@@ -8,8 +8,8 @@ use Rattle.session_script.specs.declared.script.Script.{Script}
 use Rattle.session_units.specs.Units.{meaning_of}
 use Rattle.answers.specs.Files.{file_answer}
 use Rattle.answers.specs.declared.answer.Answer.{Answer}
-use Rattle.session_answers.specs.Found.{IsUnasked}
-use Rattle.session_answers.specs.Texts.{IsScriptOn}
+use Rattle.session_command.specs.Found.{IsUnasked}
+use Rattle.session_command.specs.Texts.{IsScriptOn}
 use Rattle.session_command.specs.declared.command.Loaded.{Loaded}
 
 -- The script with the names of its files' symbols behind its own, and a unit for each file.

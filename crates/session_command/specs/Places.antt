@@ -3,8 +3,8 @@ use Rattle.std.specs.Prelude.{◌≡◌, ℕ, List, [], ◌∷◌, length, slice
 use Rattle.std.specs.Option.{option_to_list}
 use Rattle.orc_ids.specs.declared.lookup.Outcome.{Outcome}
 use Rattle.notifiers.specs.declared.notice.Notice.{Notice}
-use Rattle.noted.specs.declared.notes.Noted.{Noted}
-use Rattle.noted.specs.declared.notes.Noted.TheVariants.{Fired, Unfired}
+use Rattle.notifiers.specs.declared.notes.Noted.{Noted}
+use Rattle.notifiers.specs.declared.notes.Noted.TheVariants.{Fired, Unfired}
 
 -- a place for each
 abbrev pub Places : Type 0 → Type 0

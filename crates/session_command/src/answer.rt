@@ -2,11 +2,11 @@
 ghost use Rattle.std.specs.Prelude.{◌≡◌, flat_map, map};
 ghost use Rattle.answers.specs.Memory.{wanted_memory};
 ghost use Rattle.session_model.specs.State.{plain_history};
-ghost use Rattle.session_answers.specs.Ends.{session_answer, stop_answer, stop_in, stops_answer, stops_of, worse};
+ghost use Rattle.session_command.specs.Ends.{session_answer, stop_answer, stop_in, stops_answer, stops_of, worse};
 
 use answers::{Answer, wanted_memory};
 use orc_ids::Stop;
-use script_laws::{LineEnd, ScriptEnd};
+use script_model::{LineEnd, ScriptEnd};
 use session_model::{Entry, UnitKind};
 
 /// Of two answers the one that counts: want of memory, or else the earlier stop for want of a place.

@@ -2,14 +2,14 @@
 ghost use Rattle.std.specs.Prelude.{◌≡◌, ◌≢◌, ◌≤◌, ℕ, List, [], All, Option, None, length, map, IfErr, IfOk, OnOk, IsTrue};
 ghost use Rattle.std.specs.Io.KnownBytes.{IsAtEnd};
 ghost use Rattle.execution_session.specs.declared.session.TheConstants.{JOURNAL_LIMIT};
-ghost use Rattle.noted.specs.Heard.{AllHaveHeard};
+ghost use Rattle.notifiers.specs.Heard.{AllHaveHeard};
 ghost use Rattle.orc_io.specs.Numbers.{AreNumberedFrom};
 ghost use Rattle.object_files.specs.Files.{Told};
 ghost use Rattle.object_files.specs.Reads.{AreReadIn, use_of};
 ghost use Rattle.answers.specs.Reads.{AreReadFor};
-ghost use Rattle.session_answers.specs.Found.{HasSession, IsFound};
-ghost use Rattle.session_answers.specs.Reads.{AreScriptRead, IsReadWhole, IsSourceEndFor, IsSourceReadFor};
-ghost use Rattle.session_answers.specs.Texts.{counted};
+ghost use Rattle.session_command.specs.Found.{HasSession, IsFound};
+ghost use Rattle.session_command.specs.Reads.{AreScriptRead, IsReadWhole, IsSourceEndFor, IsSourceReadFor};
+ghost use Rattle.session_command.specs.Texts.{counted};
 ghost use Rattle.session_command.specs.Loading.{HasStoppedAt, HasStoppedIn, HasUnits, IsLoaded};
 
 use crate::answer::session_answer;
@@ -19,7 +19,7 @@ use crate::reading::read_asked;
 use crate::texts::{session_text, wanted_by_all};
 use answers::Answer;
 use execution_session::JOURNAL_LIMIT;
-use noted::{NotePlaces, Noted, Notes};
+use notifiers::{NotePlaces, Noted, Notes};
 use orc_ids::Bytes;
 use orc_io::{Files, Gate, Notify, Source};
 use orc_names::NameHasher;

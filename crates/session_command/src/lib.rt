@@ -8,9 +8,13 @@
 
 mod answer;
 mod command;
+mod laws;
 mod loading;
+mod names;
 mod notes;
 mod reading;
 mod texts;
 
 pub use command::{SessionFound, find_session};
+pub use laws::session_answers_are_kept;
+pub use names::session_says_its_names;

@@ -1,15 +1,14 @@
 //! The notifiers of a script, as they come back.
 ghost use Rattle.std.specs.Prelude.{◌≡◌, ◌≤◌, ◌<◌, ◌+◌, ◌^◌, All, None, IfOk, length, flat_map};
 ghost use Rattle.std.specs.Option.{option_to_list};
-ghost use Rattle.noted.specs.Heard.{AllHaveHeard, AreInOrder};
+ghost use Rattle.notifiers.specs.Heard.{AllHaveHeard, AreInOrder};
 ghost use Rattle.orc_io.specs.Numbers.{AreNumberedFrom};
 ghost use Rattle.query_book.specs.Rows.{first_armed};
 ghost use Rattle.script_session.specs.Clients.{AreUnheard};
 ghost use Rattle.session_command.specs.Places.{ArePut, NoneHasHeard, put_told, put_all_told};
 
 use execution_session::Session;
-use noted::{NotePlaces, Noted, Notes};
-use notifiers::FiredList;
+use notifiers::{FiredList, NotePlaces, Noted, Notes};
 use orc_io::Notify;
 use script_session::Notified;
 use session_model::UnitKind;

@@ -3,9 +3,9 @@ ghost use Rattle.std.specs.Prelude.{◌≡◌, ◌≤◌, length, IfOk, IfErr, O
 ghost use Rattle.std.specs.Io.KnownBytes.{IsAtEnd};
 ghost use Rattle.session_script.specs.declared.limits.TheConstants.{SIZE_LIMIT};
 ghost use Rattle.session_script.specs.WellFormed.{IsWellFormed};
-ghost use Rattle.session_answers.specs.Found.{IsUnasked, IsUnread};
-ghost use Rattle.session_answers.specs.Reads.{IsSourceReadFor};
-ghost use Rattle.session_answers.specs.Texts.{AreRead, IsScriptOn};
+ghost use Rattle.session_command.specs.Found.{IsUnasked, IsUnread};
+ghost use Rattle.session_command.specs.Reads.{IsSourceReadFor};
+ghost use Rattle.session_command.specs.Texts.{AreRead, IsScriptOn};
 
 use answers::Answer;
 use orc_ids::Bytes;

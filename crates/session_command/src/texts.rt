@@ -5,14 +5,14 @@ ghost use Rattle.session_units.specs.Units.{meaning_of};
 ghost use Rattle.journal_text.specs.Journal.{AreKnown, text_of_history};
 ghost use Rattle.result_text.specs.Known.{AreKnownEnds};
 ghost use Rattle.result_text.specs.Results.{text_of_ends};
-ghost use Rattle.session_answers.specs.Texts.{wanted_by};
+ghost use Rattle.session_command.specs.Texts.{wanted_by};
 ghost use Rattle.std.specs.Prelude.{◌++◌};
 
 use journal_text::text_of;
 use orc_ids::{Bytes, Items, Wanted};
 use orc_names::Names;
 use result_text::text_of_results;
-use script_laws::LineEnd;
+use script_model::LineEnd;
 use session_model::Entry;
 use session_script::ClientLine;
 use session_units::ObjectUnit;

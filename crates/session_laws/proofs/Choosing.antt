@@ -2,7 +2,7 @@
 use Rattle.std.proofs.Common.{◌≡◌, ℕ, ◌≤◌, true, false, List, [], ◌∷◌, slice_get, length, subst, sym, refl, ap, ap₂, ◌∙◌, Some, arith}
 use Rattle.std.proofs.lemmas.Bool.{both_ways}
 use Rattle.std.proofs.lemmas.Option.{same_Some}
-use Rattle.model_laws.proofs.Units.{call_one}
+use Rattle.session_model.proofs.Units.{call_one}
 use Rattle.orc_ids.specs.declared.ids.InstId.{InstId}
 use Rattle.orc_ids.specs.declared.ids.QueryId.{QueryId}
 use Rattle.orc_ids.specs.declared.ids.UnitId.{UnitId}

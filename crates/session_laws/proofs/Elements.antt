@@ -6,7 +6,7 @@ use Rattle.session_model.specs.Lists.{changed_at, numbered}
 pub use Rattle.std.proofs.lemmas.Option.{slice_get_within as element_below, slice_get_past as none_past, slice_get-map as mapped_at}
 pub use Rattle.list_laws.proofs.Lists.{front_some, appended_at, appended_below, appended_cases, pushed_cases, pushed_last, mapped_parts, mapped_some}
 pub use Rattle.list_laws.proofs.Options.{map_parts, same_element}
-pub use Rattle.model_laws.proofs.Changes.{numbered_length}
+pub use Rattle.session_model.proofs.Changes.{numbered_length}
 
 -- by the answer of a look-up
 abbrev pub IsElement : {X : Type 0} → List X → ℕ → X → Type 0

@@ -13,7 +13,7 @@ use Rattle.session_model.specs.declared.rows.Job.TheVariants as job
 use Rattle.session_model.specs.declared.rows.UnitPhase.TheVariants as stage
 use Rattle.orc_ids.specs.declared.groups.Group.{Group}
 use Rattle.std.proofs.Common.{flat_map}
-use Rattle.model_laws.proofs.Phases.{started_stage}
+use Rattle.session_model.proofs.Phases.{started_stage}
 use Rattle.session_model.specs.Lists.{only_if}
 use Rattle.session_model.specs.Answer.{bad_dep}
 use Rattle.session_laws.proofs.Elements.{same_element, none_there}

@@ -54,7 +54,7 @@ use Rattle.session_model.specs.Query.{at_level, is_lost, first_lost}
 use Rattle.session_laws.proofs.Ending.{query_was_asked}
 use Rattle.std.proofs.Common.{sum_by}
 use Rattle.std.proofs.lemmas.List.Sums.{sum_by-cons}
-use Rattle.model_laws.proofs.Units.{waiting_from}
+use Rattle.session_model.proofs.Units.{waiting_from}
 use Rattle.session_model.specs.Change.{settled_one}
 use Rattle.session_model.specs.Owed.{IsOwed}
 use Rattle.session_laws.proofs.Defining.{waiting_parts}

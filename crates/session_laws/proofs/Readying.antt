@@ -14,7 +14,7 @@ use Rattle.session_model.specs.declared.rows.InstRow.{InstRow}
 use Rattle.session_model.specs.declared.rows.Phase.{Phase}
 use Rattle.session_model.specs.declared.rows.Phase.TheVariants as phase
 use Rattle.std.proofs.Common.{append_assoc, append-nil}
-use Rattle.model_laws.proofs.Phases.{emitted_unfailed}
+use Rattle.session_model.proofs.Phases.{emitted_unfailed}
 use Rattle.session_model.specs.Plain.{phase_address}
 use Rattle.session_model.specs.Change.{deps_in, hits_failed, tracker_roots, is_unit_of, claimed}
 use Rattle.session_model.specs.Plain.{is_owned_at}

@@ -39,8 +39,8 @@ use Rattle.orc_ids.specs.declared.ids.GenId.{GenId}
 use Rattle.orc_ids.specs.declared.ids.TrackId.{TrackId}
 use Rattle.std.specs.Prelude.{is_none, nat_lt, nat_le}
 use Rattle.std.specs.List.{position_from}
-use Rattle.model_laws.proofs.Choices.{or_else_parts, some_of_first}
-use Rattle.model_laws.proofs.FirstRows.{row_passes}
+use Rattle.session_model.proofs.Choices.{or_else_parts, some_of_first}
+use Rattle.session_model.proofs.FirstRows.{row_passes}
 use Rattle.session_model.specs.Query.{all_at}
 use Rattle.session_model.specs.Change.{link_order}
 use Rattle.session_model.specs.declared.change.Change.{Change}

@@ -4,7 +4,7 @@ use Rattle.std.proofs.Common.{◌≡◌, ℕ, Bool, true, false, ◌&&◌, ◌||
 use Rattle.std.specs.Prelude.{is_none}
 use Rattle.std.specs.Bool.{if◌then◌else◌}
 use Rattle.std.proofs.lemmas.Bool.{both_ways, and_parts, or_cases}
-use Rattle.model_laws.proofs.Phases.{started_stage, linking_stage}
+use Rattle.session_model.proofs.Phases.{started_stage, linking_stage}
 use Rattle.session_model.specs.Answer.{is_stage, can_resolve, can_link, can_emit}
 use Rattle.session_model.specs.Change.{resolved_unit, waiting_unit, target_address}
 use Rattle.session_model.specs.Plain.{UnitRow, is_alias, unit_shape}

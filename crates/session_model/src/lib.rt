@@ -13,14 +13,22 @@
 #![tactic(auto)]
 
 mod change;
+mod copying;
 mod deps;
 mod entry;
+mod equality;
+mod look_end;
+mod peeked;
 mod rows;
 mod traits;
 
 pub use change::{Change, Verdicts};
+pub use copying::copy_reply;
 pub use deps::DepList;
 pub use entry::{Entry, Event, Finishing, Matches, Order, Reply, WantedList, Why};
+pub use equality::same_reply;
+pub use look_end::LookEnd;
+pub use peeked::Peek;
 pub use rows::{
     Dylib, Ending, InstRow, Job, Match, Matched, Phase, Query, Range, Row, Track, UnitPhase,
     Verdict,

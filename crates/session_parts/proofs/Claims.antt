@@ -8,7 +8,7 @@ use Rattle.session_model.specs.Change.{claimed, claimed_row, claimed_for, all_cl
 use Rattle.session_laws.specs.Sound.{IsSound, AllMatched}
 use Rattle.session_laws.proofs.Declared.{claim_keeps, claim_sound, mapped_length, mapped_some, test_parts, test_from}
 use Rattle.session_model.specs.declared.rows.InstRow.{InstRow}
-use Rattle.instance_graph.specs.Graph.{Graph, Tells}
+use Rattle.instances.specs.Graph.{Graph, Tells}
 use Rattle.session_parts.specs.declared.parts.Parts.{Parts}
 use Rattle.session_parts.specs.Parts.{AreParts}
 

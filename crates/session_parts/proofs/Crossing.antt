@@ -7,7 +7,7 @@ use Rattle.orc_io.specs.declared.notify.Notify as notify
 use Rattle.session_model.specs.declared.traits.UnitKind as unit_kind
 use Rattle.code_memory.proofs.space.Space.TheSendSync as space
 use Rattle.generators.proofs.generators.Generators.TheSendSync as generators
-use Rattle.instance_graph.proofs.graph.InstanceGraph.TheSendSync as graph
+use Rattle.instances.proofs.graph.InstanceGraph.TheSendSync as graph
 use Rattle.jit_dylib.proofs.dylibs.Dylibs.TheSendSync as dylibs
 use Rattle.mat_unit.proofs.units.Units.TheSendSync as units
 use Rattle.tracker.proofs.trackers.Trackers.TheSendSync as trackers

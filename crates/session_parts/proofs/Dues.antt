@@ -5,8 +5,8 @@ use Rattle.std.specs.Prelude.{option_map, option_to_list}
 use Rattle.std.specs.Option.{option_map_or}
 use Rattle.std.proofs.lemmas.Bool.{both_ways, eq-eqb, false_from_ne_true}
 use Rattle.std.proofs.lemmas.Option.{none-some, same_Some}
-use Rattle.model_laws.proofs.Units.{waiting_from}
-use Rattle.model_laws.proofs.Phases.{waiting_stage}
+use Rattle.session_model.proofs.Units.{waiting_from}
+use Rattle.session_model.proofs.Phases.{waiting_stage}
 use Rattle.query_book.specs.Rows.{unit_of}
 use Rattle.orc_ids.specs.declared.ids.UnitId.{UnitId}
 use Rattle.session_model.specs.Plain.{Plain, UnitRow, is_waiting}

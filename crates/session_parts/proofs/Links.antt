@@ -9,7 +9,7 @@ use Rattle.session_model.specs.Plain.{Plain, UnitRow, is_waiting}
 use Rattle.session_model.specs.Change.{finish_listed, settled}
 use Rattle.session_model.specs.declared.rows.Query.{Query}
 use Rattle.session_model.specs.declared.rows.UnitPhase.TheVariants as stage
-use Rattle.instance_graph.specs.Graph.{Graph}
+use Rattle.instances.specs.Graph.{Graph}
 use Rattle.query_book.specs.declared.ends.QueryEnd.{QueryEnd}
 use Rattle.query_book.specs.Ledger.{Ledger}
 use Rattle.session_parts.specs.declared.parts.Parts.{Parts}

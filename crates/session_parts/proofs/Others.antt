@@ -4,7 +4,7 @@ use Rattle.std.specs.Prelude.{◌==◌}
 use Rattle.std.specs.Option.{option_map_or}
 use Rattle.std.proofs.lemmas.Bool.{cases_eq, cases_lt, and_parts, false_from_ne_true, eqb-true}
 use Rattle.std.proofs.lemmas.List.{length-append}
-use Rattle.model_laws.proofs.FirstRows.{no_first}
+use Rattle.session_model.proofs.FirstRows.{no_first}
 use Rattle.orc_ids.specs.declared.ids.DylibId.{DylibId}
 use Rattle.orc_ids.specs.declared.ids.GenId.{GenId}
 use Rattle.orc_ids.specs.declared.ids.NameId.{NameId}

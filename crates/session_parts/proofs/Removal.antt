@@ -22,8 +22,8 @@ use Rattle.session_laws.proofs.Declared.{element_below, mapped_length}
 use Rattle.code_memory.specs.Places.{placement_of}
 use Rattle.code_memory.specs.declared.placement.Placement.{Placement}
 use Rattle.generators.specs.Rows.{Stock}
-use Rattle.instance_graph.specs.Graph.{Graph}
-use Rattle.instance_graph.specs.Removal.{removed_rows}
+use Rattle.instances.specs.Graph.{Graph}
+use Rattle.instances.specs.Removal.{removed_rows}
 use Rattle.jit_dylib.specs.Laws.{NamesGone, HasOneRowInEach, IsTrackerOf, ShelfDrops}
 use Rattle.jit_dylib.specs.Shelf.{Shelf, table_of, ChangesOnlyTable}
 use Rattle.mat_unit.specs.Changes as one

@@ -5,7 +5,7 @@ use Rattle.std.specs.Option.{option_or}
 use Rattle.std.specs.Prelude.{is_none}
 use Rattle.std.proofs.lemmas.Bool.{both_ways, and_parts, or_cases}
 use Rattle.std.proofs.lemmas.Option.{same_Some}
-use Rattle.model_laws.proofs.Phases.{started_stage}
+use Rattle.session_model.proofs.Phases.{started_stage}
 use Rattle.orc_ids.specs.declared.ids.UnitId.{UnitId}
 use Rattle.session_model.specs.Answer.{is_stage, can_resolve}
 use Rattle.session_model.specs.Lists.{changed_at}
@@ -15,7 +15,7 @@ use Rattle.session_model.specs.Change.{resolved, resolved_unit, target_address}
 use Rattle.session_model.specs.declared.rows.UnitPhase.TheVariants as stage
 use Rattle.session_laws.specs.Sound.{IsSound, is_early}
 use Rattle.session_laws.proofs.Declared.{changed_length, placed_stage}
-use Rattle.instance_graph.specs.Graph.{Graph}
+use Rattle.instances.specs.Graph.{Graph}
 use Rattle.instances.specs.Rows.{addressed_row}
 use Rattle.mat_unit.specs.Roster.{Roster}
 use Rattle.mat_unit.specs.Rows.{unit_row}

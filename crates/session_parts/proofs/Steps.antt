@@ -26,7 +26,7 @@ use Rattle.session_laws.specs.Sound.{IsSound, row_stage}
 use Rattle.session_laws.proofs.Declared.{element_below, unsearched_unclaimed, unclaimed_row}
 use Rattle.code_memory.specs.Places.{placement_of, with_bytes, without}
 use Rattle.code_memory.specs.declared.placement.Placement.{Placement}
-use Rattle.instance_graph.specs.Graph.{Graph}
+use Rattle.instances.specs.Graph.{Graph}
 use Rattle.mat_unit.specs.Changes as one
 use Rattle.mat_unit.specs.Rows.{unit_row}
 use Rattle.session_parts.specs.Parts.{is_ranged}

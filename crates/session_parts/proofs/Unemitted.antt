@@ -5,7 +5,7 @@ use Rattle.session_model.specs.Plain.{Plain, UnitRow}
 use Rattle.session_model.specs.declared.rows.UnitPhase.TheVariants as stage
 use Rattle.session_laws.specs.Sound.{IsSound, is_held_phase, fits, row_stage}
 use Rattle.session_laws.proofs.Declared.{same_element, held_unemitted, held_row}
-use Rattle.instance_graph.specs.Graph.{NoneEmitted}
+use Rattle.instances.specs.Graph.{NoneEmitted}
 
 -- at any phase at which a seat holds it
 pub unemitted_held : (m : Plain) (u : ℕ) (x : UnitRow) → IsSound m → slice_get m.units u ≡ Some x → is_held_phase x.phase ≡ true → NoneEmitted u m.rows

@@ -3,7 +3,7 @@ use Rattle.std.proofs.Common.{◌≡◌, ℕ, ◌⊎◌, inl, inr, Bool, true, f
 use Rattle.std.specs.Bool.{if◌then◌else◌}
 use Rattle.std.specs.Option.{option_map_or}
 use Rattle.std.proofs.lemmas.Bool.{both_ways, false_from_ne_true}
-use Rattle.model_laws.proofs.Units.{waiting_from}
+use Rattle.session_model.proofs.Units.{waiting_from}
 use Rattle.session_model.specs.Lists.{changed_at}
 use Rattle.session_model.specs.Plain.{Plain, UnitRow}
 use Rattle.session_model.specs.Query.{is_met}

@@ -5,7 +5,7 @@ ghost use Rattle.session_model.specs.Plain.{Plain, UnitRow, present_at};
 ghost use Rattle.session_model.specs.Change.{claimed, claimed_for, all_claimed};
 ghost use Rattle.session_model.specs.declared.rows.UnitPhase.TheVariants as stage;
 ghost use Rattle.session_laws.specs.Sound.{IsSound, AllMatched};
-ghost use Rattle.instance_graph.specs.Graph.{Tells};
+ghost use Rattle.instances.specs.Graph.{Tells};
 ghost use Rattle.session_parts.specs.Parts.{AreParts};
 
 use crate::parts::Parts;

@@ -5,7 +5,7 @@ ghost use Rattle.orc_ids.specs.declared.limits.TheConstants.{INSTANCE_LIMIT, UNI
 ghost use Rattle.session_model.specs.Plain.{Plain, is_tracker_of};
 ghost use Rattle.session_model.specs.declared.rows.InstRow.{InstRow};
 ghost use Rattle.session_laws.specs.Sound.{IsSound};
-ghost use Rattle.instance_graph.specs.Graph.{Tells};
+ghost use Rattle.instances.specs.Graph.{Tells};
 ghost use Rattle.jit_dylib.specs.Laws.{HasOneRowInEach};
 ghost use Rattle.jit_dylib.specs.Rows.{first_clash, IsRefusedBy};
 ghost use Rattle.jit_dylib.specs.Shelf.{table_of};
@@ -14,7 +14,7 @@ ghost use Rattle.session_parts.specs.Defined.{after_define, exchanged, first_dup
 ghost use Rattle.session_parts.specs.Parts.{AreParts};
 
 use crate::parts::Parts;
-use instance_graph::{InstanceGraph, tells_on};
+use instances::{InstanceGraph, tells_on};
 use jit_dylib::{DefineError, Defined, shelf_defines, shelf_judges};
 use mat_unit::Units;
 use orc_ids::{DylibId, InstId, NameId, SymFlags, TrackId, UnitId};

@@ -7,7 +7,7 @@ ghost use Rattle.session_model.specs.Query.{stand_at};
 ghost use Rattle.session_model.specs.Change.{lodged, linked};
 ghost use Rattle.session_model.specs.declared.rows.UnitPhase.TheVariants as stage;
 ghost use Rattle.session_laws.specs.Sound.{IsSound, AllMatched};
-ghost use Rattle.instance_graph.specs.Graph.{Tells};
+ghost use Rattle.instances.specs.Graph.{Tells};
 ghost use Rattle.query_book.specs.Ledger as book;
 ghost use Rattle.session_parts.specs.Lodged.{note_of, new_query};
 ghost use Rattle.session_parts.specs.Parts.{AreParts};

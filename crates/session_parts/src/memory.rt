@@ -9,7 +9,7 @@ ghost use Rattle.session_model.specs.Memory.{unit_image};
 ghost use Rattle.session_model.specs.declared.rows.UnitPhase.TheVariants as stage;
 ghost use Rattle.code_memory.specs.Places.{AreLaidOut, IsLowestFree, IsRefused, placement_of, with_bytes, with_range, without};
 ghost use Rattle.mat_unit.specs.declared.unit.Unit.{Unit as OneUnit};
-ghost use Rattle.instance_graph.specs.Graph.{Tells, NoneEmitted};
+ghost use Rattle.instances.specs.Graph.{Tells, NoneEmitted};
 ghost use Rattle.session_parts.specs.Parts.{AreParts, is_ranged, IsDoneTo};
 
 use crate::parts::Parts;

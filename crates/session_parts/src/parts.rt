@@ -6,7 +6,7 @@ ghost use Rattle.session_parts.specs.Parts.{AreParts};
 
 use code_memory::Space;
 use generators::Generators;
-use instance_graph::InstanceGraph;
+use instances::InstanceGraph;
 use jit_dylib::Dylibs;
 use mat_unit::Units;
 use orc_io::Notify;

@@ -7,7 +7,7 @@ ghost use Rattle.session_model.specs.Plain.{Plain, UnitRow, is_owned};
 ghost use Rattle.session_model.specs.Change.{resolved};
 ghost use Rattle.session_model.specs.declared.rows.InstRow.{InstRow};
 ghost use Rattle.session_laws.specs.Sound.{IsSound};
-ghost use Rattle.instance_graph.specs.Graph.{Tells};
+ghost use Rattle.instances.specs.Graph.{Tells};
 ghost use Rattle.session_parts.specs.Parts.{AreParts};
 ghost use Rattle.session_parts.specs.Addressed.{bound_address, alias_target, gone_on};
 

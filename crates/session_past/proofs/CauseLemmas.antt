@@ -2,7 +2,7 @@
 use Rattle.std.proofs.Common.{◌≡◌, ℕ, zero, suc, ◌+◌, List, [], ◌∷◌, ◌++◌, take, map, slice_get, Option, Some, None, ◌⊎◌, inl, inr, ◌↔◌, IsTrue, refl, ap, ◌∙◌, add-one}
 use Rattle.std.specs.Prelude.{Bool, ◌&&◌, not}
 use Rattle.std.proofs.lemmas.Option.{same_Some, none-some}
-use Rattle.model_laws.proofs.Choices.{or_else_assoc}
+use Rattle.session_model.proofs.Choices.{or_else_assoc}
 use Rattle.session_model.specs.Lists.{or_else, only_if}
 use Rattle.session_model.specs.Meaning.{Meaning}
 use Rattle.session_model.specs.Answer.{last_reply, is_turned_away}

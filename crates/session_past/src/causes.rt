@@ -14,8 +14,7 @@ ghost use Rattle.session_past.specs.Taking.{end_at, link_end};
 use crate::ends::Settled;
 use crate::taking::{held_count, link_query};
 use orc_ids::{InstId, Place, UnitId};
-use same_replies::same_reply;
-use session_model::{Ending, Entry, Event, Reply, UnitKind, Why};
+use session_model::{Ending, Entry, Event, Reply, UnitKind, Why, same_reply};
 use session_plain::{PlainSession, PlainUnit, is_finishing};
 
 /// A call on a unit that a fail may have its cause in.

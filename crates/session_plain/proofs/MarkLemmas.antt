@@ -5,7 +5,7 @@ use Rattle.std.specs.List.{list_any}
 use Rattle.std.specs.Option.{option_map_or}
 use Rattle.std.proofs.lemmas.Option.{slice_get-map}
 use Rattle.std.proofs.lemmas.List.{length-map}
-use Rattle.model_laws.proofs.Changes.{numbered_length}
+use Rattle.session_model.proofs.Changes.{numbered_length}
 use Rattle.orc_ids.specs.declared.ids.InstId.{InstId}
 use Rattle.graph_walks.specs.Walks.{within}
 use Rattle.graph_walks.proofs.Paths.{within_zero}

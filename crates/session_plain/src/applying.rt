@@ -50,7 +50,7 @@ fn replace_order(d: &mut Dylib, order: Order)
     d.order = order;
 }
 
-#[tactic(auto, using(model_laws::proofs::Changes::set_changed, model_laws::proofs::Changes::changed_past))]
+#[tactic(auto, using(session_model::proofs::Changes::set_changed, session_model::proofs::Changes::changed_past))]
 fn order_in(
     alloc: Global,
     dylibs: &mut Vec<Dylib>,

@@ -228,7 +228,7 @@ fn end_track(x: &mut Track)
 }
 
 /// The tracker is gone.
-#[tactic(auto, using(model_laws::proofs::Changes::set_changed, model_laws::proofs::Changes::changed_past))]
+#[tactic(auto, using(session_model::proofs::Changes::set_changed, session_model::proofs::Changes::changed_past))]
 fn end_tracker(trackers: &mut Vec<Track>, t: TrackId)
     ensures { trackers.new.items ≡ changed_at t.0 gone_tracker trackers.old.items }
 {

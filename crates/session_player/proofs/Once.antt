@@ -1,6 +1,6 @@
 -- A list of calls leads to one journal.
 use Rattle.std.proofs.Common.{◌≡◌, ℕ, ◌≤◌, true, List, [], ◌∷◌, ◌++◌, Some, None, Ok, slice_get, subst, sym, ap, ap₂, refl, ◌∙◌, arith}
-use Rattle.model_laws.proofs.Units.{call_one}
+use Rattle.session_model.proofs.Units.{call_one}
 use Rattle.orc_ids.specs.declared.ids.QueryId.{QueryId}
 use Rattle.orc_ids.specs.declared.ids.SeatNo.{SeatNo}
 use Rattle.orc_ids.specs.declared.ids.UnitId.{UnitId}

@@ -1,7 +1,7 @@
 -- An intact instance has a closure.
-use Rattle.chain_ends.proofs.Closing.{closures_are_there}
-use Rattle.chain_ends.proofs.Had.{ready_address}
-use Rattle.chain_ends.proofs.Mapping.{blocks_are_there, map_is_there}
+use Rattle.memory_laws.proofs.Closing.{closures_are_there}
+use Rattle.memory_laws.proofs.Had.{ready_address}
+use Rattle.memory_laws.proofs.Mapping.{blocks_are_there, map_is_there}
 use Rattle.session_model.specs.State.{state}
 use Rattle.session_promises.specs.Laws.{IntactHasClosure}
 

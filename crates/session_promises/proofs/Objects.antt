@@ -5,7 +5,7 @@ use Rattle.link_model.specs.declared.graph.LinkGraph.{LinkGraph}
 use Rattle.session_model.specs.Plain.{UnitRow}
 use Rattle.session_model.specs.State.{state}
 use Rattle.closure_laws.proofs.Declared.{all_have}
-use Rattle.closures.specs.Closures.{AreObjects, IsObject}
+use Rattle.memory_laws.specs.Closures.{AreObjects, IsObject}
 use Rattle.session_promises.specs.Laws.{ObjectsHaveClosures}
 use Rattle.session_promises.specs.Runs.{IsLinkable}
 use Rattle.session_promises.proofs.Closing.{intact_has_closure}

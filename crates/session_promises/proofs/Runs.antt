@@ -5,7 +5,7 @@ use Rattle.exec_run.specs.Larger.{Agrees}
 use Rattle.exec_run.specs.Run.{start}
 use Rattle.exec_run.specs.Start.{with_stack}
 use Rattle.exec_run.proofs.Wider.{runs_narrower, runs_wider, stack_agrees}
-use Rattle.closures.specs.Laws.{IntactHoldsClosure}
+use Rattle.memory_laws.specs.Laws.{IntactHoldsClosure}
 use Rattle.session_promises.specs.Laws.{IntactRunsAsLinked}
 
 pub intact_runs_as_linked : IntactHoldsClosure → IntactRunsAsLinked

@@ -24,7 +24,7 @@ use Rattle.session_model.specs.declared.entry.Event.TheVariants as event
 use Rattle.session_model.specs.declared.entry.Reply.TheVariants as reply
 use Rattle.session_laws.specs.Failures.{IsFailure}
 use Rattle.closure_laws.specs.HandedIn.{HandsIn}
-use Rattle.closures.specs.Closures.{AreObjects}
+use Rattle.memory_laws.specs.Closures.{AreObjects}
 use Rattle.session_promises.specs.Failures.{roots_of}
 use Rattle.session_promises.specs.Lookups.{AreCallsOf, IsFailedAt, IsFoundAt, StandsReady}
 use Rattle.session_promises.specs.Runs.{IsClosure, IsLinkable}

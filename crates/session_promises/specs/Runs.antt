@@ -6,7 +6,7 @@ use Rattle.session_model.specs.Meaning.{Meaning}
 use Rattle.session_model.specs.Plain.{Plain}
 use Rattle.session_model.specs.Owed.{IsIntact}
 use Rattle.static_links.specs.Links.{IsLinkedProgram, Spots}
-use Rattle.closures.specs.Closures.{AreObjects, IsBlockOf, IsMapOf, IsObject, members_of}
+use Rattle.memory_laws.specs.Closures.{AreObjects, IsBlockOf, IsMapOf, IsObject, members_of}
 
 -- the unit is that of an object, or needs no memory
 abbrev pub IsLinkable : Meaning → Type 0

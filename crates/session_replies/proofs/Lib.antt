@@ -1,7 +1,12 @@
-pub mod Refusing
-pub mod Homes
 pub mod Answered
-pub mod Found
-pub mod Turning
-pub mod Holding
+pub mod Comparing
 pub mod Depending
+pub mod Externals
+pub mod Found
+pub mod Holding
+pub mod Homes
+pub mod Refusing
+pub mod Replying
+pub mod Sights
+pub mod Turning
+pub mod Walking

@@ -10,16 +10,26 @@
 //! Read `session_parts` for the parts and for the changes, and `session_lookups` for what lookups match.
 #![tactic(auto)]
 
+mod asking;
 mod calls;
+mod chains;
 mod definitions;
 mod dylibs;
 mod emitting;
 mod jobs;
+mod linking;
+mod lodging;
+mod looked;
+mod shown;
 mod trackers;
 
+pub use asking::match_ask;
 pub use calls::{Call, turn_away};
 pub use definitions::{lacks_room, refuse_attach, refuse_define, refuse_generate};
 pub use dylibs::{refuse_dylib, refuse_order};
 pub use emitting::bad_dependency;
 pub use jobs::{first_job, kept};
+pub use linking::match_link;
+pub use lodging::lodged_reply;
+pub use looked::Looked;
 pub use trackers::{refuse_move, refuse_remove, refuse_tracker};

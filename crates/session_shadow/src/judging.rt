@@ -5,9 +5,8 @@ ghost use Rattle.session_shadow.specs.Follows.{IsShadow};
 
 use crate::shadow::Shadow;
 use orc_ids::{SeatNo, Stop};
-use same_replies::same_reply;
 use session_check::KnownUnit;
-use session_model::{Entry, Reply};
+use session_model::{Entry, Reply, same_reply};
 use session_past::held_count;
 use session_player::Call;
 

@@ -71,7 +71,7 @@ changed_ready m g d t u at = ap (λ o. option_map_or (λ (x : GenRow). spent g.0
 -- the generator is spent in parts of which nothing else changes
 pub told_through : {U N : Type 0} (old mid new : Parts U N) → IsToldOn old mid → new ≡ record mid { generators = new.generators } → IsToldOn old new
 told_through {U} {N} old mid new told rest = record {
-  tells = subst (Rattle.instance_graph.specs.Graph.Tells old.graph) (sym (ap (λ (p : Parts U N). p.graph) rest)) told.tells;
+  tells = subst (Rattle.instances.specs.Graph.Tells old.graph) (sym (ap (λ (p : Parts U N). p.graph) rest)) told.tells;
   book = ap (λ (p : Parts U N). p.book) rest ∙ told.book;
 }
 

@@ -3,7 +3,7 @@ use Rattle.std.proofs.Common.{◌≡◌, ℕ, ◌≤◌, ◌⊎◌, inl, inr, Bo
 use Rattle.std.specs.Bool.{if◌then◌else◌}
 use Rattle.std.specs.Option.{option_map_or}
 use Rattle.std.proofs.lemmas.Bool.{both_ways}
-use Rattle.model_laws.proofs.Phases.{started_stage, linking_stage}
+use Rattle.session_model.proofs.Phases.{started_stage, linking_stage}
 use Rattle.orc_ids.specs.declared.ids.InstId.{InstId}
 use Rattle.orc_ids.specs.declared.ids.UnitId.{UnitId}
 use Rattle.orc_ids.specs.declared.limits.TheConstants.{ORDER_LIMIT, WANTED_LIMIT}
@@ -26,12 +26,12 @@ use Rattle.session_model.specs.declared.entry.Reply.TheVariants as reply
 use Rattle.session_model.specs.declared.rows.UnitPhase.TheVariants as stage
 use Rattle.session_laws.specs.Sound.{AllMatched}
 use Rattle.session_laws.proofs.Declared.{all_claimed_queries, good_here, is_lodged_reply, ask_good, link_good, chosen}
-use Rattle.instance_graph.specs.Graph.{Tells}
+use Rattle.instances.specs.Graph.{Tells}
 use Rattle.notifiers.specs.declared.notice.Unheard.{Unheard}
 use Rattle.query_book.specs.Ledger.{Ledger, IsCurrent}
 use Rattle.query_book.specs.Ledger as book
-use Rattle.session_lookups.specs.Lookups.{IsAsked, IsLinked}
-use Rattle.session_lookups.specs.declared.looked.Looked.TheVariants as looked
+use Rattle.session_replies.specs.Lookups.{IsAsked, IsLinked}
+use Rattle.session_replies.specs.declared.looked.Looked.TheVariants as looked
 use Rattle.session_parts.specs.declared.parts.Parts.{Parts}
 use Rattle.session_parts.specs.Lodged.{note_of, new_query}
 use Rattle.session_parts.specs.Parts.{AreParts}

@@ -21,7 +21,7 @@ use Rattle.session_model.specs.declared.entry.Event.TheVariants as event
 use Rattle.session_model.specs.declared.entry.Reply.{Reply}
 use Rattle.session_model.specs.declared.entry.Reply.TheVariants as reply
 use Rattle.closure_laws.specs.Quiet.{stirs}
-use Rattle.instance_graph.specs.Graph.{Tells}
+use Rattle.instances.specs.Graph.{Tells}
 use Rattle.query_book.specs.Ledger.{Ledger}
 use Rattle.session_parts.specs.declared.parts.Parts.{Parts}
 use Rattle.session_parts.specs.Defined.{after_define, first_duplicate, kept_count}

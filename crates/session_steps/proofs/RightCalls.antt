@@ -10,7 +10,7 @@ use Rattle.session_model.specs.Answer.{AnswersCall, Called, Gone, Wrong, Right, 
 use Rattle.session_model.specs.declared.entry.Reply.{Reply}
 use Rattle.session_model.specs.declared.rows.InstRow.{InstRow}
 use Rattle.session_laws.specs.Sound.{IsSound}
-use Rattle.instance_graph.specs.Graph.{NoneEmitted}
+use Rattle.instances.specs.Graph.{NoneEmitted}
 use Rattle.session_parts.proofs.Unemitted.{unemitted_held}
 use Rattle.session_replies.proofs.Turning.{right_unit}
 use Rattle.session_steps.specs.Stands.{AreOffered}

@@ -21,7 +21,7 @@ use Rattle.session_model.specs.declared.entry.Reply.{Reply}
 use Rattle.session_laws.proofs.Declared.{element_below, chains_end, legal_is_sound, kept_within}
 use Rattle.closure_laws.specs.Quiet.{stirs, SettlesNow}
 use Rattle.closure_laws.proofs.Declared.{rows_have_homes, done_is_bound, names_are_once, instances_are_offered, quiet_settles_none}
-use Rattle.instance_graph.specs.Graph.{Graph, Tells}
+use Rattle.instances.specs.Graph.{Graph, Tells}
 use Rattle.notifiers.specs.declared.notice.Unheard.{Unheard}
 use Rattle.notifiers.specs.declared.notice.Notice.{Notice}
 use Rattle.query_book.specs.Ledger.{Ledger}

@@ -5,7 +5,7 @@ use Rattle.std.specs.Prelude.{find, option_and_then, Result, Ok, Err, IfOk}
 use Rattle.std.proofs.lemmas.Bool.{cases_Bool, and_parts, eqb-true, eq-eqb, leb-true, le-leb, ltb-false}
 use Rattle.std.proofs.lemmas.Option.{none-some, same_Some}
 use Rattle.list_laws.proofs.Lists.{missing_past}
-use Rattle.model_laws.proofs.Choices.{none_chosen}
+use Rattle.session_model.proofs.Choices.{none_chosen}
 use Rattle.orc_ids.specs.declared.ids.UnitId.{UnitId}
 use Rattle.orc_ids.specs.declared.limits.TheConstants.{CODE_START, CODE_END}
 use Rattle.orc_ids.specs.declared.place.Shape.{Shape}

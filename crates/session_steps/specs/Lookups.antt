@@ -7,7 +7,7 @@ use Rattle.session_model.specs.Plain.{Plain}
 use Rattle.session_model.specs.Answer.{lodged_reply}
 use Rattle.session_model.specs.declared.entry.Event.{Event}
 use Rattle.session_model.specs.declared.entry.Reply.{Reply}
-use Rattle.instance_graph.specs.Graph.{Tells}
+use Rattle.instances.specs.Graph.{Tells}
 use Rattle.notifiers.specs.declared.notice.Unheard.{Unheard}
 use Rattle.session_parts.specs.declared.parts.Parts.{Parts}
 use Rattle.session_parts.specs.Parts.{AreParts}

@@ -15,7 +15,7 @@ use Rattle.session_model.specs.declared.entry.Event.{Event}
 use Rattle.session_model.specs.declared.entry.Reply.{Reply}
 use Rattle.session_model.specs.declared.rows.Query.{Query}
 use Rattle.session_laws.specs.Sound.{AllMatched}
-use Rattle.instance_graph.specs.Graph.{Tells}
+use Rattle.instances.specs.Graph.{Tells}
 use Rattle.notifiers.specs.declared.notice.Unheard.{Unheard}
 use Rattle.query_book.specs.Ledger.{Ledger, lodged, IsCurrent}
 use Rattle.session_parts.specs.declared.parts.Parts.{Parts}

@@ -14,9 +14,8 @@ ghost use Rattle.session_steps.specs.Stands.{Stands};
 use crate::live::{Live, entry_count};
 use orc_ids::{Level, SeatNo, UnitId};
 use orc_io::Notify;
-use session_lookups::{Looked, lodged_reply, match_link};
 use session_model::{Matched, Reply, UnitKind};
-use session_replies::{Call, turn_away};
+use session_replies::{Call, Looked, lodged_reply, match_link, turn_away};
 use std::alloc::AllocError;
 
 impl<U: UnitKind, N: Notify> Live<U, N> {

@@ -14,9 +14,9 @@ use crate::live::{Live, entry_count};
 use notifiers::Armed;
 use orc_ids::{Level, OrderItem, Wanted};
 use orc_io::Notify;
-use session_lookups::{Looked, lodged_reply, match_ask};
 use session_model::{Matched, Reply, UnitKind};
 use session_parts::note_of;
+use session_replies::{Looked, lodged_reply, match_ask};
 use std::alloc::AllocError;
 
 impl<U: UnitKind, N: Notify> Live<U, N> {

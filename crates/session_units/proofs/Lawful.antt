@@ -7,7 +7,7 @@ use Rattle.std.proofs.lemmas.List.{length-map}
 use Rattle.std.proofs.lemmas.List.Elements.{All-head, All-tail, All-filter, filter_passes}
 use Rattle.std.proofs.lemmas.List.Sums.{length-filter}
 use Rattle.std.proofs.lemmas.Option.{same_Some}
-use Rattle.link_laws.proofs.Writes.{listed_length}
+use Rattle.link_model.proofs.Writes.{listed_length}
 use Rattle.list_laws.proofs.Options.{same_option}
 use Rattle.orc_ids.specs.declared.flags.SymFlags.{SymFlags}
 use Rattle.orc_ids.specs.declared.groups.Group.{Group}

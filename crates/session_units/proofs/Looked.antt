@@ -6,8 +6,8 @@ use Rattle.std.proofs.lemmas.Bool.{ltb-true, ltb-false}
 use Rattle.std.proofs.lemmas.List.{length-map}
 use Rattle.std.proofs.lemmas.List.Elements.{All-filter}
 use Rattle.list_laws.proofs.Lists.{mapped_below}
-use Rattle.link_laws.proofs.Symbols.{place_at}
-use Rattle.link_laws.proofs.Layouts.{length-offsets}
+use Rattle.link_model.proofs.Symbols.{place_at}
+use Rattle.link_model.proofs.Layouts.{length-offsets}
 use Rattle.orc_ids.specs.declared.flags.SymFlags.{SymFlags}
 use Rattle.orc_ids.specs.declared.ids.NameId.{NameId}
 use Rattle.unit_fixups.proofs.Inside.{at_or-get}

@@ -11,7 +11,7 @@ use Rattle.session_model.specs.declared.entry.Event.{Event}
 use Rattle.session_model.specs.declared.entry.Reply.{Reply}
 use Rattle.session_steps.specs.Log.{Log}
 use Rattle.session_steps.specs.Performs.{Performs}
-use Rattle.note_laws.specs.Notes.{AreNoted}
+use Rattle.history_laws.specs.Notes.{AreNoted}
 use Rattle.shared_session.specs.Does.{HolderIsAnswered}
 
 module _ {U N : Type 0} (means : U → Meaning) (lent home : Log U N) (same : lent ≡ home) where

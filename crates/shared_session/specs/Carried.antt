@@ -19,9 +19,9 @@ use Rattle.session_laws.specs.Readiness.{phase_at}
 use Rattle.session_laws.proofs.Declared.{prefixes_legal, same_element, ready_stays_ready}
 use Rattle.session_steps.specs.Allowed.{MayPlace, MayEmit, MayFail}
 use Rattle.turn_lock.specs.Lists.{entries_of}
-use Rattle.holder_laws.specs.Conditions.{Stays}
-use Rattle.holder_laws.proofs.Calling.{place_stays, emit_stays, fail_stays}
-use Rattle.holder_laws.proofs.Dylibs.{source_stays}
+use Rattle.history_laws.specs.Conditions.{Stays}
+use Rattle.history_laws.proofs.Calling.{place_stays, emit_stays, fail_stays}
+use Rattle.history_laws.proofs.Dylibs.{source_stays}
 use Rattle.shared_session.specs.Home.{IsLawful, IsPosted, seat_of}
 
 module _ {U : Type 0} (means : U → Meaning) (jmax : ℕ) where

@@ -14,7 +14,7 @@ use Rattle.notifiers.specs.declared.notice.Notice.{Notice}
 use Rattle.session_steps.specs.Performs.{Performs, Takes, state_of}
 use Rattle.session_steps.specs.Taken.{GivesUnit, BindsUnit}
 use Rattle.session_steps.specs.declared.jobs.TakenUnit.{TakenUnit}
-use Rattle.note_laws.specs.Laws.{TellsBy}
+use Rattle.history_laws.specs.Laws.{TellsBy}
 
 -- the seat of a number
 abbrev pub seat : ℕ → SeatNo

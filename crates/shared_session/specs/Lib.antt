@@ -1,6 +1,7 @@
-pub mod Home
 pub mod Carried
+pub mod Did
 pub mod Does
-pub mod Single
-pub mod SharedCalls
+pub mod Home
 pub mod ReadyWords
+pub mod SharedCalls
+pub mod Single

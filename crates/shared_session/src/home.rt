@@ -1,7 +1,7 @@
 //! The session that the turn goes round with.
 ghost use Rattle.std.specs.Prelude.{◌≡◌};
 ghost use Rattle.session_model.specs.State.{plain_history};
-ghost use Rattle.note_laws.specs.Notes.{AreNoted};
+ghost use Rattle.history_laws.specs.Notes.{AreNoted};
 
 use execution_session::Session;
 use orc_io::Notify;

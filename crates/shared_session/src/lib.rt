@@ -22,6 +22,7 @@ mod home;
 mod laws;
 mod posts;
 mod shared;
+mod turns;
 
 pub use calls::{
     Ask, Attach, Collect, CopyMemory, Define, Emit, Fail, Generate, Handed, Link, MakeDylib,
@@ -31,3 +32,4 @@ pub use home::Home;
 pub use laws::{calls_are_shared, ready_words_stand};
 pub use posts::{POSTS, post, ready_word};
 pub use shared::{Pass, Shared, close, open, open_posts};
+pub use turns::{post_is_no_call, turn_is_a_call, turn_is_no_call, word_is_no_call};

@@ -2,7 +2,7 @@
 ghost use Rattle.std.specs.Prelude.{◌≡◌, ◌≤◌, ◌<◌, [], IfOk};
 ghost use Rattle.session_model.specs.State.{plain_history};
 ghost use Rattle.execution_session.specs.declared.session.TheConstants.{JOURNAL_LIMIT};
-ghost use Rattle.note_laws.specs.Notes.{AreNoted};
+ghost use Rattle.history_laws.specs.Notes.{AreNoted};
 ghost use Rattle.shared_session.specs.Home.{IsLawful, IsPosted, seat_of};
 ghost use Rattle.shared_session.specs.declared.posts.TheConstants.{POSTS};
 ghost use Rattle.turn_lock.specs.Handles.{view, turn_of, turn_id, post_count, IsReady};

@@ -3,7 +3,7 @@ use Rattle.std.proofs.Common.{◌≡◌, ◌≢◌, ℕ, zero, suc, ◌+◌, ◌
 use Rattle.std.proofs.Math.Nat.{mul-suc}
 use Rattle.std.proofs.lemmas.Bool.{cases_order}
 use Rattle.std.proofs.lemmas.List.Elements.{All-nil, All-cons, All-contains}
-use Rattle.link_laws.proofs.Layouts.{Aligned, aligned-le, are_aligned, block_ends, first_aligned, rest_aligned}
+use Rattle.link_model.proofs.Layouts.{Aligned, aligned-le, are_aligned, block_ends, first_aligned, rest_aligned}
 use Rattle.link_model.specs.Image.{at_or}
 use Rattle.link_model.specs.Layout.{aligned, block_offsets, blocks_end, in_turn, cell_symbols, stub_symbols, cells_start, stubs_start, unit_need, layout_of, CELL_SIZE, STUB_SIZE}
 use Rattle.link_model.specs.Sound.{sizes, Sound}

@@ -1,7 +1,7 @@
 -- The image of a unit that was told the map's addresses is linked at each mapped place.
 use Rattle.std.proofs.Common.{◌≡◌, ℕ, ◌+◌, ◌<◌, ◌≤◌, Bool, List, ◌++◌, map, filter, All, Contains, Option, pos, refl, sym, ap, ◌∙◌, arith}
 use Rattle.std.proofs.lemmas.List.Elements.{All-contains, All-weaker, All-contains_itself}
-use Rattle.link_laws.proofs.Writes.{written_append}
+use Rattle.link_model.proofs.Writes.{written_append}
 use Rattle.link_model.specs.Kinds.{row_of, rule_of}
 use Rattle.link_model.specs.Image.{Write, all_written, at_or, cell_write, edge_write, edge_offset, stub_write, raw_byte, pieces, told_address, KIND_64, KIND_CALL}
 use Rattle.link_model.specs.Layout.{block_offsets, layout_of, CELL_SIZE, STUB_SIZE}

@@ -3,8 +3,8 @@ use Rattle.std.proofs.Common.{◌≡◌, ℕ, zero, suc, ◌+◌, ◌-◌, ◌*�
 use Rattle.std.proofs.Math.Nat.{mul-suc}
 use Rattle.std.proofs.lemmas.List.Elements.{All-head, All-tail, All-nil, All-cons}
 use Rattle.std.specs.List.{All}
-use Rattle.link_laws.proofs.Symbols.{length_own, numbers_below}
-use Rattle.link_laws.proofs.Layouts.{aligned-le, are_aligned, block_ends, length-offsets}
+use Rattle.link_model.proofs.Symbols.{length_own, numbers_below}
+use Rattle.link_model.proofs.Layouts.{aligned-le, are_aligned, block_ends, length-offsets}
 use Rattle.link_model.specs.Graph.{own_symbols, is_referred, numbers_where}
 use Rattle.link_model.specs.Layout.{aligned, block_offsets, blocks_end, unit_need, layout_of, in_turn, needs_cell, needs_stub, some_edge, cell_symbols, stub_symbols, cells_start, stubs_start, CELL_SIZE, STUB_SIZE}
 use Rattle.link_model.specs.Image.{at_or}

@@ -1,7 +1,7 @@
 -- The image of a unit.
 use Rattle.std.proofs.Common.{◌≡◌, ℕ, suc, ◌+◌, ◌<◌, List, [], ◌∷◌, ◌++◌, length, map, get_or, slice_index, Option, None, Result, Ok, Err, refl, sym, ap, ◌∙◌, arith}
 use Rattle.std.specs.Prelude.{OnOk, ⊤}
-use Rattle.link_laws.proofs.Writes.{written_append}
+use Rattle.link_model.proofs.Writes.{written_append}
 use Rattle.link_model.specs.Image.{Write, first_refused, writes, all_written, cell_write, stub_write, edge_write, told_address, image_bytes, image_of, listed, raw_byte, pieces}
 use Rattle.link_model.specs.declared.graph.Layout.{Layout}
 use Rattle.link_model.specs.declared.graph.LinkGraph.{LinkGraph}

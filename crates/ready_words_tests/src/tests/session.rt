@@ -8,12 +8,11 @@ ghost use Rattle.ready_words_tests.specs.Lookups.{FindsAt};
 
 use execution_session::{Session, Told};
 use link_worker::{LinkedUnit, Looked, lookup};
-use look_ends::LookEnd;
 use notifiers::FiredList;
 use orc_ids::{DylibId, Level, NameId, OrderItem, Scope, Stop, TrackId, Wanted};
 use orc_io::{Note, OpenGate};
 use ready_words::post_found;
-use session_model::Reply;
+use session_model::{LookEnd, Reply};
 use session_units::ObjectUnit;
 use shared_session::{Define, MakeDylib, MakeTracker, Pass, Remove, Shared};
 use std::alloc::Global;

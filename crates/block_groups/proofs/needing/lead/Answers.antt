@@ -1,5 +1,5 @@
 use Rattle.std.proofs.Common.{List, Bool, false, length, get_or, ap, sym, ◌∙◌, cond, None, arith}
-use Rattle.link_laws.proofs.Symbols.{place_at, length_own}
+use Rattle.link_model.proofs.Symbols.{place_at, length_own}
 use Rattle.link_model.specs.Graph.{own_symbols}
 use Rattle.block_groups.specs.Groups.{block_of}
 use Rattle.link_model.specs.Image.{place_of}

@@ -1,6 +1,6 @@
 use Rattle.std.proofs.Common.{◌+◌, ◌*◌, ◌<◌, refl, arith}
 use Rattle.execution_session.specs.declared.session.TheConstants.{JOURNAL_LIMIT}
-use Rattle.gen_answers.specs.Found.{in_summary, wanting}
+use Rattle.gen_command.specs.Found.{in_summary, wanting}
 use Rattle.gen_command.proofs.finding.find_summary.Goals as goal
 
 pub returns-in-Ok : goal.returns-in-Ok

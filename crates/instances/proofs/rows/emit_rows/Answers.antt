@@ -1,7 +1,7 @@
 use Rattle.std.proofs.Common.{◌<◌, ◌+◌, ◌++◌, take, drop, length, refl, ap, ◌∙◌, arith}
 use Rattle.std.proofs.lemmas.List.{length-set}
 use Rattle.std.proofs.lemmas.Option.{get_or_from_slice_get}
-use Rattle.model_laws.proofs.Changes.{numbered_more}
+use Rattle.session_model.proofs.Changes.{numbered_more}
 use Rattle.list_laws.proofs.Lists.{set_elsewhere}
 use Rattle.session_model.specs.Lists.{numbered}
 use Rattle.session_model.specs.Change.{emitted_row}

@@ -3,7 +3,7 @@ use Rattle.std.proofs.Crossing as heap
 use Rattle.orc_io.proofs.notify.Note.TheSendSync as note
 use Rattle.shared_session.proofs.Crossing.{home_send}
 use Rattle.turn_lock.specs.Handles.{view}
-use Rattle.seat_work.proofs.NewSeats.{may_begin}
+use Rattle.link_worker.proofs.NewSeats.{may_begin}
 use Rattle.linked_program.proofs.MemberDuties.{end_there, members_worked}
 use Rattle.linked_program.proofs.program.run_members.Goals as goal
 

@@ -1,6 +1,6 @@
 use Rattle.std.proofs.Common.{[], ◌∷◌, refl}
 use Rattle.session_model.specs.declared.entry.Event.TheVariants as event
-use Rattle.program_names.specs.Programs.{first_dylib}
+use Rattle.memory_laws.specs.Objects.{first_dylib}
 use Rattle.turn_lock.specs.Handles.{view}
 use Rattle.linked_program.proofs.SetUp.{stopped_on, tracker_on}
 use Rattle.linked_program.proofs.setting_up.make_tracker.Goals as goal

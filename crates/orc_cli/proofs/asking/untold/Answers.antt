@@ -1,6 +1,6 @@
 use Rattle.std.proofs.lemmas.List.Elements.{All-map}
-use Rattle.noted.specs.Heard.{HasHeard}
-use Rattle.noted.specs.declared.notes.Noted.TheVariants.{Unfired}
+use Rattle.notifiers.specs.Heard.{HasHeard}
+use Rattle.notifiers.specs.declared.notes.Noted.TheVariants.{Unfired}
 use Rattle.orc_cli.proofs.asking.untold.Goals as goal
 
 pub returns-clause-heard : goal.returns-clause-heard

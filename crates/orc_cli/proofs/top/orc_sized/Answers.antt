@@ -1,9 +1,9 @@
 -- The promise is kept by what was found and written.
 use Rattle.command_line.specs.Words.{texts}
 use Rattle.run_answers.proofs.Kept.{answers_are_kept}
-use Rattle.session_answers.proofs.Kept.{session_answers_are_kept}
-use Rattle.as_answers.proofs.Kept.{as_answers_are_kept}
-use Rattle.gen_answers.proofs.Kept.{gen_answers_are_kept}
+use Rattle.session_command.proofs.Kept.{session_answers_are_kept}
+use Rattle.as_command.proofs.Kept.{as_answers_are_kept}
+use Rattle.gen_command.proofs.Kept.{gen_answers_are_kept}
 use Rattle.answers.proofs.Reading.{finished_found}
 use Rattle.orc_cli.proofs.Finished.{answered, never_full_at, without_journal}
 use Rattle.orc_cli.proofs.top.orc_sized.Goals as goal

@@ -2,7 +2,7 @@
 use Rattle.std.proofs.Common.{◌≡◌, ◌≤◌, ◌++◌, length, map, drop}
 use Rattle.std.specs.Prelude.{flat_map}
 use Rattle.std.specs.Vec.Iter.{into_iter_items}
-use Rattle.script_calls.specs.Plans.{line_of}
+use Rattle.script_model.specs.Plans.{line_of}
 use Rattle.session_units.specs.Units.{meaning_of}
 use Rattle.script_plan.specs.Asked.{asked_line}
 use Rattle.script_plan.specs.Notes.{AreTaken, watch_of}

@@ -1,7 +1,7 @@
 -- The calls so far are those of the clients so far, and have taken the first notes; there is one for each watch that is left.
 use Rattle.std.proofs.Common.{◌≡◌, ◌≤◌, ◌++◌, length, map, drop}
 use Rattle.std.specs.Vec.Iter.{into_iter_items}
-use Rattle.script_calls.specs.Plans.{line_of}
+use Rattle.script_model.specs.Plans.{line_of}
 use Rattle.session_units.specs.Units.{meaning_of}
 use Rattle.script_plan.specs.Asked.{asked_line}
 use Rattle.script_plan.specs.Notes.{AreTaken, watches_of}

@@ -6,7 +6,7 @@ use Rattle.std.proofs.lemmas.Iterator.{items_from_collect}
 use Rattle.std.proofs.lemmas.Iterator.Adapters.{YieldsList-from_vec}
 use Rattle.std.proofs.lemmas.List.{length-map}
 use Rattle.std.proofs.lemmas.List.Elements.{All-map}
-use Rattle.script_calls.specs.declared.calls.Plan.{Plan}
+use Rattle.script_model.specs.declared.calls.Plan.{Plan}
 use Rattle.session_units.specs.Units.{meaning_of}
 use Rattle.session_units.specs.declared.unit.ObjectUnit.{ObjectUnit}
 use Rattle.script_plan.specs.Asked.{asked_events, asked_line}

@@ -1,6 +1,6 @@
 -- The calls so far, and the events of the lines that are left, are the events of the set-up.
 use Rattle.std.proofs.Common.{◌≡◌, ◌++◌, map, drop}
-use Rattle.script_calls.specs.Plans.{event_of}
+use Rattle.script_model.specs.Plans.{event_of}
 use Rattle.session_units.specs.Units.{meaning_of}
 use Rattle.script_plan.specs.Asked.{asked_events, events_from}
 use Rattle.script_plan.proofs.set_up.plan_set_up.Given as goal

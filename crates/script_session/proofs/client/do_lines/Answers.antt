@@ -4,8 +4,8 @@ use Rattle.std.proofs.lemmas.Option.{none-some}
 use Rattle.std.specs.Vec.Iter.{into_iter_items}
 use Rattle.turn_lock.specs.Handles.{view}
 use Rattle.script_session.proofs.Loops.{given_more, none_left}
-use Rattle.given_names.specs.Given.{match_of}
-use Rattle.script_calls.specs.Plans.{CanCall, line_of}
+use Rattle.script_model.specs.Given.{match_of}
+use Rattle.script_model.specs.Plans.{CanCall, line_of}
 use Rattle.script_session.specs.Posts.{KnowsGiven}
 use Rattle.script_session.specs.Clients.{AreUnheard, HasDoneAll, HasDoneSome}
 use Rattle.script_session.proofs.ManyLines.{all_done, next_of_all, none_done}

@@ -2,7 +2,7 @@ use Rattle.std.proofs.Common.{◌≡◌, ◌≤◌, ◌++◌, false, length, map
 use Rattle.std.specs.Vec.Iter.{into_iter_items, into_iter_len}
 use Rattle.turn_lock.specs.Handles.{view, turn_id, IsReady}
 use Rattle.link_worker.specs.Works.{IsFree}
-use Rattle.script_calls.specs.Plans.{line_of}
+use Rattle.script_model.specs.Plans.{line_of}
 use Rattle.script_session.specs.Clients.{AreUnheard, HasDoneSome}
 use Rattle.script_session.specs.Posts.{KnowsGiven}
 use Rattle.script_session.proofs.client.do_lines.Given as goal

@@ -1,6 +1,6 @@
 use Rattle.std.proofs.lemmas.Bool.{both_ways, or_parts}
 use Rattle.turn_lock.specs.Handles.{view}
-use Rattle.script_calls.specs.Plans.{line_of}
+use Rattle.script_model.specs.Plans.{line_of}
 use Rattle.script_session.specs.Lines.{is_stopped}
 use Rattle.script_session.proofs.ManyLines.{more_done, skipped_more}
 use Rattle.script_session.proofs.client.do_or_skip.Goals as goal

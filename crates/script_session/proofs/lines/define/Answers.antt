@@ -1,7 +1,7 @@
 use Rattle.std.proofs.Common.{subst, sym}
 use Rattle.session_model.specs.declared.entry.Event.TheVariants as event
 use Rattle.turn_lock.specs.Handles.{view}
-use Rattle.script_calls.specs.Lines.{One}
+use Rattle.script_model.specs.Asking.{One}
 use Rattle.script_session.specs.Clients.{HasDone}
 use Rattle.script_session.proofs.OneLine.{defining_line, free_defined}
 use Rattle.script_session.proofs.lines.define.Goals as goal

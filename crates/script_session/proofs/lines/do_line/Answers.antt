@@ -1,9 +1,9 @@
 use Rattle.std.proofs.Common.{◌≡◌, ◌++◌, false, refl, subst, sym}
 use Rattle.turn_lock.specs.Handles.{view}
-use Rattle.script_calls.specs.Plans.{line_of}
-use Rattle.script_calls.specs.Lines.{One, PeekAt, Run}
+use Rattle.script_model.specs.Plans.{line_of}
+use Rattle.script_model.specs.Asking.{One, PeekAt, Run}
 use Rattle.session_model.specs.declared.entry.Event.TheVariants as event
-use Rattle.script_laws.specs.Lines.{given_by}
+use Rattle.script_model.specs.Lines.{given_by}
 use Rattle.script_session.specs.Clients.{HasDone}
 use Rattle.script_session.specs.Lines.{AreSame, is_stopped}
 use Rattle.script_session.proofs.Knowing.{known_after}

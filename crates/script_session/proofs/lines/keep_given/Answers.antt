@@ -1,7 +1,7 @@
 use Rattle.std.proofs.Common.{All, ap, subst, sym, ◌∙◌}
 use Rattle.std.proofs.lemmas.Bool.{both_ways}
 use Rattle.std.specs.Prelude.{true}
-use Rattle.look_ends.specs.declared.look_end.LookEnd.TheVariants as look
+use Rattle.session_model.specs.declared.look_end.LookEnd.TheVariants as look
 use Rattle.turn_lock.specs.Handles.{view}
 use Rattle.script_session.specs.Posts.{MayBeKept}
 use Rattle.script_session.proofs.Keeping.{known_kept}

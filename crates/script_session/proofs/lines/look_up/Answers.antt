@@ -4,8 +4,8 @@ use Rattle.orc_ids.specs.declared.lookup.OrderItem.{OrderItem}
 use Rattle.orc_ids.specs.declared.lookup.Wanted.{Wanted}
 use Rattle.turn_lock.specs.Handles.{view}
 use Rattle.link_worker.specs.Looks.{HasLooked}
-use Rattle.script_calls.specs.Plans.{lookup_of}
-use Rattle.script_calls.specs.Lines.{LookUp}
+use Rattle.script_model.specs.Plans.{lookup_of}
+use Rattle.script_model.specs.Asking.{LookUp}
 use Rattle.script_session.proofs.Keeping.{looked_may_be_kept, looked_notes}
 use Rattle.script_session.proofs.ManyLines.{still_done}
 use Rattle.script_session.proofs.OneLine.{kept_end, not_armed}

@@ -1,7 +1,7 @@
 -- The history that the pass sees now is one of the session, so what was found may be posted.
 use Rattle.std.proofs.Common.{All, subst, sym, ◌∙◌}
 use Rattle.turn_lock.specs.Handles.{view, post_count}
-use Rattle.seat_calls.specs.Did.{Did, Nothing}
+use Rattle.shared_session.specs.Did.{Did, Nothing}
 use Rattle.link_worker.specs.Works.{IsFree}
 use Rattle.script_session.proofs.Keeping.{KnowsFound, apart, free_posted, free_seen, known_posted, known_seen, may_post, quiet_posted, quiet_seen}
 use Rattle.script_session.proofs.lines.post_ready.Goals as goal

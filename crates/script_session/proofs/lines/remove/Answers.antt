@@ -2,7 +2,7 @@ use Rattle.std.proofs.Common.{refl, subst, sym}
 use Rattle.session_model.specs.declared.entry.Event.TheVariants as event
 use Rattle.turn_lock.specs.Handles.{view}
 use Rattle.link_worker.proofs.Freeing.{free_stays}
-use Rattle.script_calls.specs.Lines.{One}
+use Rattle.script_model.specs.Asking.{One}
 use Rattle.script_session.specs.Clients.{HasDone}
 use Rattle.script_session.proofs.OneLine.{telling_line}
 use Rattle.script_session.proofs.lines.remove.Goals as goal

@@ -2,8 +2,8 @@ use Rattle.std.proofs.Common.{rules, ◌≡◌, ◌++◌, ◌∷◌, [], length,
 use Rattle.std.proofs.lemmas.List.{length-append, length_push, map-append}
 use Rattle.std.proofs.lemmas.List.Elements.{All-nil}
 use Rattle.std.specs.Vec.Iter.{into_iter_items}
-use Rattle.script_calls.specs.Plans.{CanCall, line_of}
-use Rattle.script_laws.specs.Lines.{AreSkipped}
+use Rattle.script_model.specs.Plans.{CanCall, line_of}
+use Rattle.script_model.specs.Lines.{AreSkipped}
 use Rattle.script_session.specs.Clients.{AreUnheard}
 use Rattle.script_session.proofs.Loops.{given_more, none_left}
 use Rattle.script_session.proofs.ManyLines.{next_of_all, skipped_last}

@@ -1,7 +1,7 @@
 use Rattle.std.proofs.Common.{◌≡◌, ◌≤◌, ◌++◌, length, map, vec_capacity}
 use Rattle.std.specs.Vec.Iter.{into_iter_items, into_iter_len}
-use Rattle.script_calls.specs.Plans.{line_of}
-use Rattle.script_laws.specs.Lines.{AreSkipped}
+use Rattle.script_model.specs.Plans.{line_of}
+use Rattle.script_model.specs.Lines.{AreSkipped}
 use Rattle.script_session.specs.Clients.{AreUnheard}
 use Rattle.script_session.proofs.members.skip_calls.Given as goal
 

@@ -4,8 +4,8 @@ use Rattle.std.proofs.lemmas.List.Elements.{All-map}
 use Rattle.list_laws.proofs.Each.{all_unmapped}
 use Rattle.turn_lock.specs.Handles.{view}
 use Rattle.session_model.specs.State.{plain_history}
-use Rattle.script_calls.specs.Plans.{CanCall, event_of, line_of}
-use Rattle.script_laws.specs.Scripts.{IsScriptRun}
+use Rattle.script_model.specs.Plans.{CanCall, event_of, line_of}
+use Rattle.script_model.specs.Scripts.{IsScriptRun}
 use Rattle.script_session.specs.Clients.{AreUnheard}
 use Rattle.script_session.specs.SetUps.{IsAt}
 use Rattle.script_session.specs.Members.{AreMembers, ends_of, told_of, unlodged_of}

@@ -1,7 +1,7 @@
 use Rattle.std.proofs.Common.{refl, subst, sym}
 use Rattle.session_model.specs.declared.entry.Event.TheVariants as event
 use Rattle.turn_lock.specs.Handles.{view}
-use Rattle.script_calls.specs.Plans.{event_of}
+use Rattle.script_model.specs.Plans.{event_of}
 use Rattle.script_session.proofs.Setting.{Called, one_called, unit_called}
 use Rattle.script_session.proofs.setting_up.perform.Goals as goal
 

@@ -5,7 +5,7 @@ use Rattle.session_model.specs.Meaning.{Meaning}
 use Rattle.session_model.specs.declared.entry.Event.{Event}
 use Rattle.turn_lock.specs.Handles.{view}
 use Rattle.script_session.proofs.Loops.{given_more, none_left}
-use Rattle.script_calls.specs.Plans.{event_of}
+use Rattle.script_model.specs.Plans.{event_of}
 use Rattle.script_session.specs.SetUps.{IsAt, IsStoppedIn}
 use Rattle.script_session.proofs.Setting.{called_more, next_allowed, stopped_next}
 use Rattle.script_session.proofs.setting_up.set_up.Goals as goal

@@ -1,7 +1,7 @@
 use Rattle.std.proofs.Common.{◌≡◌, ◌++◌, length, map}
 use Rattle.std.specs.Vec.Iter.{into_iter_items, into_iter_len}
 use Rattle.turn_lock.specs.Handles.{view, turn_id, IsReady}
-use Rattle.script_calls.specs.Plans.{event_of}
+use Rattle.script_model.specs.Plans.{event_of}
 use Rattle.script_session.specs.SetUps.{IsAt}
 use Rattle.script_session.proofs.setting_up.set_up.Given as goal
 

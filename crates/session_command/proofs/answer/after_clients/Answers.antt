@@ -1,6 +1,6 @@
 use Rattle.std.proofs.Common.{◌∙◌, [], ◌∷◌, ap, sym, map, take, flat_map}
 use Rattle.std.proofs.lemmas.List.{map-append}
-use Rattle.session_answers.specs.Ends.{stop_in, stops_answer}
+use Rattle.session_command.specs.Ends.{stop_in, stops_answer}
 use Rattle.session_command.proofs.Lists.{read_more}
 use Rattle.session_command.proofs.Stops.{stops_more}
 use Rattle.session_command.proofs.answer.after_clients.Goals as goal

@@ -1,5 +1,5 @@
 use Rattle.std.proofs.Common.{◌≡◌, map, take, flat_map}
-use Rattle.session_answers.specs.Ends.{stop_in, stops_answer}
+use Rattle.session_command.specs.Ends.{stop_in, stops_answer}
 use Rattle.session_command.proofs.answer.after_clients.Given as goal
 
 abbrev pub invariant-loop-ends : goal.invariant-loop-ends

@@ -1,5 +1,5 @@
 use Rattle.std.proofs.Common.{◌∙◌, ap, sym, take, flat_map}
-use Rattle.session_answers.specs.Ends.{stop_in, stops_answer}
+use Rattle.session_command.specs.Ends.{stop_in, stops_answer}
 use Rattle.session_command.proofs.Lists.{read_more}
 use Rattle.session_command.proofs.Stops.{stops_more}
 use Rattle.session_command.proofs.answer.after_lines.Goals as goal

@@ -6,11 +6,11 @@ use Rattle.session_units.specs.Units.{meaning_of}
 use Rattle.session_model.specs.State.{plain_history}
 use Rattle.journal_text.specs.Journal.{text_of_history}
 use Rattle.result_text.specs.Results.{text_of_ends}
-use Rattle.session_answers.specs.Ends.{session_answer}
-use Rattle.session_answers.specs.Texts.{wanted_by}
-use Rattle.script_calls.specs.Plans.{script_of}
+use Rattle.session_command.specs.Ends.{session_answer}
+use Rattle.session_command.specs.Texts.{wanted_by}
+use Rattle.script_model.specs.Plans.{script_of}
 use Rattle.script_plan.specs.Asked.{asked_script}
-use Rattle.noted.specs.Heard.{AreInOrder}
+use Rattle.notifiers.specs.Heard.{AreInOrder}
 use Rattle.orc_io.specs.Numbers.{AreNumberedFrom}
 use Rattle.session_command.specs.Places.{ArePut, HasHeardNothing, NoneHasHeard}
 use Rattle.session_command.proofs.Loads.{few_clients, few_unused, no_aliases, well_loaded}

@@ -1,6 +1,6 @@
 use Rattle.std.proofs.Common.{Some, IfSome}
 use Rattle.std.proofs.lemmas.List.Elements.{All-set}
-use Rattle.noted.specs.declared.notes.Noted.TheVariants.{Unfired}
+use Rattle.notifiers.specs.declared.notes.Noted.TheVariants.{Unfired}
 use Rattle.session_command.specs.Places.{HasHeardNothing}
 use Rattle.session_command.proofs.notes.put_unheard.Goals as goal
 

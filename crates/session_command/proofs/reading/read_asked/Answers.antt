@@ -1,5 +1,5 @@
 use Rattle.std.proofs.Common.{refl}
-use Rattle.session_answers.specs.Found.{refused}
+use Rattle.session_command.specs.Found.{refused}
 use Rattle.session_command.proofs.ScriptSize.{script_fits}
 use Rattle.session_command.proofs.reading.read_asked.Goals as goal
 

@@ -1,5 +1,5 @@
 use Rattle.std.proofs.Common.{rules}
-use Rattle.model_laws.proofs.Changes.{numbered_more}
+use Rattle.session_model.proofs.Changes.{numbered_more}
 use Rattle.session_past.specs.Ends.{end_now}
 use Rattle.session_plain.specs.Meant.{meant}
 use Rattle.session_past.proofs.ends.end_all.Goals as goal

@@ -1,5 +1,5 @@
 use Rattle.std.proofs.Common.{◌∙◌, sym}
-use Rattle.model_laws.proofs.Choices.{first_flat}
+use Rattle.session_model.proofs.Choices.{first_flat}
 use Rattle.orc_ids.specs.declared.groups.Group.{Group}
 use Rattle.session_plain.specs.Calls.{bad_dep_of}
 use Rattle.session_plain.proofs.calls.bad_dependency.Goals as goal

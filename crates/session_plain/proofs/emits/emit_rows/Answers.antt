@@ -1,5 +1,5 @@
 use Rattle.std.proofs.Common.{rules}
-use Rattle.model_laws.proofs.Changes.{numbered_more}
+use Rattle.session_model.proofs.Changes.{numbered_more}
 use Rattle.session_model.specs.Change.{emitted_row}
 use Rattle.session_plain.proofs.emits.emit_rows.Goals as goal
 

@@ -1,5 +1,5 @@
 use Rattle.std.proofs.Common.{ap, sym, ◌∙◌}
-use Rattle.model_laws.proofs.Choices.{first_flat}
+use Rattle.session_model.proofs.Choices.{first_flat}
 use Rattle.orc_ids.specs.declared.groups.Group.{Group}
 use Rattle.session_model.specs.Lists.{first_some}
 use Rattle.session_replies.specs.Reasons.{bad_dep_of, bad_in}

@@ -1,7 +1,7 @@
 use Rattle.std.proofs.Common.{◌≡◌, List, get_or, ℤ, w64, ap, sym, ◌∙◌, inl, inr, rules}
 use Rattle.std.specs.Prelude.{pos, unwrap_or, Option}
 use Rattle.std.proofs.lemmas.Int.{to_z-of_z}
-use Rattle.link_laws.proofs.Symbols.{place_at}
+use Rattle.link_model.proofs.Symbols.{place_at}
 use Rattle.link_model.specs.Image.{is_at, place_of}
 use Rattle.link_model.specs.declared.graph.GPlace.{GPlace}
 use Rattle.link_model.specs.declared.graph.GSym.{GSym}

@@ -1,7 +1,7 @@
 use Rattle.std.proofs.Common.{true, false, refl, sym, subst}
 use Rattle.std.specs.Prelude.{is_none}
 use Rattle.std.proofs.lemmas.Bool.{both_ways}
-use Rattle.seat_calls.proofs.Doing.{nothing_is_done}
+use Rattle.shared_session.proofs.Doing.{nothing_is_done}
 use Rattle.turn_lock.specs.Handles.{view}
 use Rattle.link_worker.specs.Does.{Does}
 use Rattle.link_worker.specs.Jobs.{IsJobAt}

@@ -1,6 +1,6 @@
 -- What a lookup at Ready found may be posted by the pass that has seen the history since.
 use Rattle.std.proofs.Common.{ap, arith, sym, ◌∙◌}
-use Rattle.look_ends.specs.declared.look_end.LookEnd.TheVariants.{Found}
+use Rattle.session_model.specs.declared.look_end.LookEnd.TheVariants.{Found}
 use Rattle.turn_lock.specs.Handles.{view, post_count}
 use Rattle.ready_words_tests.proofs.Found.{may_post}
 use Rattle.ready_words_tests.proofs.tests.session.look_up_and_post.Goals as goal

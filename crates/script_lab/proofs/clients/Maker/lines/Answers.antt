@@ -1,7 +1,7 @@
 use Rattle.std.proofs.Common.{List, [], ◌∷◌, sym, subst}
 use Rattle.std.specs.Prelude.{All}
 use Rattle.std.proofs.lemmas.List.Elements.{All-append, All-cons, All-nil}
-use Rattle.script_calls.specs.declared.calls.ClientCall.{ClientCall}
+use Rattle.script_model.specs.declared.calls.ClientCall.{ClientCall}
 use Rattle.script_lab.specs.Plans.{IsCallable}
 use Rattle.script_lab.specs.declared.note.LabNote.{LabNote}
 use Rattle.script_lab.specs.declared.unit.LabUnit.{LabUnit}

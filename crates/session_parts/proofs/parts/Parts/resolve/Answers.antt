@@ -1,5 +1,5 @@
 use Rattle.std.proofs.Common.{sym, subst, rules}
-use Rattle.instance_graph.specs.Graph.{NoneEmitted}
+use Rattle.instances.specs.Graph.{NoneEmitted}
 use Rattle.session_laws.proofs.Declared.{resolvable_held}
 use Rattle.session_parts.proofs.Resolved.{resolved_parts}
 use Rattle.session_parts.proofs.Unemitted.{unemitted_held}

@@ -3,8 +3,8 @@ use Rattle.std.specs.Bool.{if◌then◌else◌}
 use Rattle.std.proofs.lemmas.Result.{IfOk-weaker}
 use Rattle.session_model.specs.Change.{lodged}
 use Rattle.session_model.specs.declared.entry.Event.TheVariants as event
-use Rattle.session_lookups.specs.Lookups.{IsAsked}
-use Rattle.session_lookups.specs.declared.looked.Looked.TheVariants as looked
+use Rattle.session_replies.specs.Lookups.{IsAsked}
+use Rattle.session_replies.specs.declared.looked.Looked.TheVariants as looked
 use Rattle.session_parts.specs.Lodged.{note_of}
 use Rattle.session_steps.specs.Lookups.{Lodges, IsLodgingStep}
 use Rattle.session_steps.proofs.Lodging.{ask_here, ask_lodges, ask_refused, ask_unlodged}

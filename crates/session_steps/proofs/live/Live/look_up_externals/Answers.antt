@@ -5,8 +5,8 @@ use Rattle.session_model.specs.Answer.{Right, called, can_link}
 use Rattle.session_model.specs.Change.{linked}
 use Rattle.session_model.specs.Plain.{UnitRow}
 use Rattle.session_model.specs.declared.entry.Event.TheVariants as event
-use Rattle.session_lookups.specs.Lookups.{IsLinked}
-use Rattle.session_lookups.specs.declared.looked.Looked.TheVariants as looked
+use Rattle.session_replies.specs.Lookups.{IsLinked}
+use Rattle.session_replies.specs.declared.looked.Looked.TheVariants as looked
 use Rattle.session_replies.proofs.Turning.{right_unit}
 use Rattle.session_steps.specs.Lookups.{Lodges, IsLodgingStep}
 use Rattle.session_steps.proofs.Lodging.{link_here, link_lodges, link_refused}

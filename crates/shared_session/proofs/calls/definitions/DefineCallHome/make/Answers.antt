@@ -1,4 +1,4 @@
-use Rattle.note_laws.proofs.Events.{quiet_is_noted}
+use Rattle.history_laws.proofs.Events.{quiet_is_noted}
 use Rattle.session_model.specs.declared.entry.Event.TheVariants as event
 use Rattle.shared_session.proofs.Lent.{legal_lent, noted_lent}
 use Rattle.shared_session.specs.Does.{seat}

@@ -1,4 +1,4 @@
-use Rattle.note_laws.proofs.Events.{collect_is_noted}
+use Rattle.history_laws.proofs.Events.{collect_is_noted}
 use Rattle.shared_session.proofs.Lent.{legal_lent, noted_lent}
 use Rattle.shared_session.specs.Does.{seat}
 use Rattle.shared_session.proofs.calls.lookups.CollectCallHome.make.Goals as goal

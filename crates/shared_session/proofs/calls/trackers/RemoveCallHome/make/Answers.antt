@@ -1,4 +1,4 @@
-use Rattle.note_laws.proofs.Events.{settling_is_told}
+use Rattle.history_laws.proofs.Events.{settling_is_told}
 use Rattle.session_model.specs.declared.entry.Event.TheVariants as event
 use Rattle.shared_session.proofs.Lent.{legal_lent, noted_lent, performs_home}
 use Rattle.shared_session.specs.Does.{seat}

@@ -1,5 +1,0 @@
-use Rattle.as_answers.proofs.Kept.{as_answers_are_kept}
-use Rattle.as_answers.proofs.laws.as_answers_are_kept.Goals as goal
-
-pub returns : goal.returns
-returns c = as_answers_are_kept

@@ -1,6 +1,0 @@
-pub mod Chains
-pub mod Closing
-pub mod Had
-pub mod Later
-pub mod Mapping
-pub mod Targets

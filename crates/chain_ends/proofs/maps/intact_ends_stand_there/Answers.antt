@@ -1,5 +1,0 @@
-use Rattle.chain_ends.proofs.Closing.{intact_ends_stand_there}
-use Rattle.chain_ends.proofs.maps.intact_ends_stand_there.Goals as goal
-
-pub returns : goal.returns
-returns c = intact_ends_stand_there

@@ -1,6 +1,0 @@
-use Rattle.closures.proofs.Holding.{intact_holds}
-use Rattle.closures.proofs.laws.intact_holds_closure.Goals as goal
-use Rattle.static_links.proofs.Linked.{image_is_linked}
-
-pub returns : goal.returns
-returns c = intact_holds image_is_linked

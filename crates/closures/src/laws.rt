@@ -1,8 +1,0 @@
-//! What memory holds for an intact instance.
-
-ghost use Rattle.closures.specs.Laws.{IntactHoldsClosure};
-
-/// Memory has the closure of an intact instance, at every address that the closure maps.
-pub fn intact_holds_closure()
-    ensures { IntactHoldsClosure }
-{}

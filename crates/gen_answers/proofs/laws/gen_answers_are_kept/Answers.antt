@@ -1,5 +1,0 @@
-use Rattle.gen_answers.proofs.Kept.{gen_answers_are_kept}
-use Rattle.gen_answers.proofs.laws.gen_answers_are_kept.Goals as goal
-
-pub returns : goal.returns
-returns c = gen_answers_are_kept

@@ -1,7 +1,0 @@
-//! The law.
-ghost use Rattle.gen_answers.specs.Laws.{GenAnswersAreKept};
-
-/// A call of `orc gen` that found its answer so and wrote it keeps the promise.
-pub fn gen_answers_are_kept()
-    ensures { GenAnswersAreKept }
-{}

@@ -1,4 +1,0 @@
-pub mod Definitions
-pub mod SetUps
-pub mod Clients
-pub mod Plans

@@ -1,9 +1,0 @@
--- The calls so far, and the functions that are left.
-use Rattle.std.proofs.Common.{◌≡◌, ◌++◌, map, drop}
-use Rattle.script_calls.specs.Plans.{line_of}
-use Rattle.session_units.specs.Units.{meaning_of}
-use Rattle.generated_session.specs.Scripts.{runs}
-use Rattle.generated_plan.proofs.client.put_runs.Given as goal
-
-abbrev pub invariant-loop-k : goal.invariant-loop-k
-invariant-loop-k g l = map (line_of meaning_of) l.calls.items ++ runs (drop l.k-index l.functions) ≡ map (line_of meaning_of) l.fn.calls.items ++ runs l.functions

@@ -1,5 +1,0 @@
-use Rattle.generated_plan.proofs.Definitions.{unit_is}
-use Rattle.generated_plan.proofs.functions.unit_of.Goals as goal
-
-pub returns : goal.returns
-returns c = unit_is c.args.n c.args.k c.in_ok-graph.graph c.of_graph.result c.in_ok-graph.ensures.exact c.of_graph.ensures.exact

@@ -1,5 +1,0 @@
-use Rattle.holder_laws.proofs.Calling.{emit_stays}
-use Rattle.holder_laws.proofs.conditions.emit_stays.Goals as goal
-
-pub returns : goal.returns
-returns c = emit_stays

@@ -1,5 +1,0 @@
-use Rattle.holder_laws.proofs.Calling.{fail_stays}
-use Rattle.holder_laws.proofs.conditions.fail_stays.Goals as goal
-
-pub returns : goal.returns
-returns c = fail_stays

@@ -1,5 +1,0 @@
-use Rattle.holder_laws.proofs.Dylibs.{source_stays}
-use Rattle.holder_laws.proofs.conditions.source_stays.Goals as goal
-
-pub returns : goal.returns
-returns c = source_stays

@@ -1,5 +1,0 @@
-use Rattle.holder_laws.proofs.Giving.{others_give_none}
-use Rattle.holder_laws.proofs.holders.others_give_none.Goals as goal
-
-pub returns : goal.returns
-returns c = others_give_none

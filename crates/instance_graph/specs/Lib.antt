@@ -1,4 +1,0 @@
-pub mod Sets
-pub mod Graph
-pub mod Tied
-pub mod Removal

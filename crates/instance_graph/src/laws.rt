@@ -1,8 +1,0 @@
-//! What follows of what is told.
-
-ghost use Rattle.instance_graph.specs.Graph.{TellsOn};
-
-/// What is told by two changes, one after the other, is told by both together.
-pub fn tells_on()
-    ensures { TellsOn }
-{}

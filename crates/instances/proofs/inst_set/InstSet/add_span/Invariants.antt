@@ -1,0 +1,10 @@
+use Rattle.std.proofs.Common.{◌≡◌, ◌&&◌, ◌||◌, ℕ}
+use Rattle.std.specs.Prelude.{nat_lt, nat_le}
+use Rattle.instances.specs.Table.{is_among}
+use Rattle.instances.proofs.inst_set.InstSet.add_span.Given as goal
+
+abbrev pub invariant-loop-i : goal.invariant-loop-i
+invariant-loop-i l = record {
+  added : (k : ℕ) → is_among l.self.items k ≡ (is_among l.initial.self.items k || (nat_le l.fn.span.first k && nat_lt k l.i && nat_lt k l.initial.self.places));
+  places : l.self.places ≡ l.initial.self.places;
+}

@@ -1,3 +1,0 @@
-pub mod KnownUnits
-pub mod KnownReplies
-pub mod Knowing

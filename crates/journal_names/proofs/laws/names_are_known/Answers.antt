@@ -1,5 +1,0 @@
-use Rattle.journal_names.proofs.Knowing.{names_are_known}
-use Rattle.journal_names.proofs.laws.names_are_known.Goals as goal
-
-pub returns : goal.returns
-returns c = names_are_known

@@ -1,5 +1,0 @@
-use Rattle.journal_reading.proofs.Reading.{history_is_read}
-use Rattle.journal_reading.proofs.laws.history_is_read.Goals as goal
-
-pub returns : goal.returns
-returns c = history_is_read

@@ -1,5 +1,0 @@
-use Rattle.journal_reading.proofs.Reading.{text_is_read}
-use Rattle.journal_reading.proofs.laws.text_is_read.Goals as goal
-
-pub returns : goal.returns
-returns c = text_is_read

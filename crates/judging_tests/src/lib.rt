@@ -1,0 +1,8 @@
+//! Sessions that were worked out by hand, for `session_check`: which of them are legal, and where
+//! lies about them go wrong. There is nothing here but session_check_tests; read `session_check` for what they try.
+#![tactic(auto)]
+
+#[cfg(test)]
+mod session_check_tests;
+#[cfg(test)]
+mod session_player_tests;

@@ -1,0 +1,10 @@
+pub mod CallsSaid
+pub mod Knowing
+pub mod KnownReplies
+pub mod KnownUnits
+pub mod LoadedUnits
+pub mod SaidSoFar
+pub mod ScriptsSaid
+pub mod Seats
+pub mod SetupSaid
+pub mod Speaking

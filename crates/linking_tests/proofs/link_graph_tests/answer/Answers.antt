@@ -1,0 +1,4 @@
+use Rattle.linking_tests.proofs.link_graph_tests.answer.Goals as goal
+
+pub graph_of-requires : goal.graph_of-requires
+graph_of-requires c = record { bytes = _; read = c.in_ok-object.ensures }

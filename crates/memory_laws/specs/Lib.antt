@@ -1,0 +1,9 @@
+pub mod Closures
+pub mod Ends
+pub mod Laws
+pub mod LinkLaws
+pub mod Maps
+pub mod NameLaws
+pub mod Names
+pub mod Objects
+pub mod Programs

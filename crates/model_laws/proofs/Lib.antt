@@ -1,5 +1,0 @@
-pub mod Changes
-pub mod Choices
-pub mod FirstRows
-pub mod Phases
-pub mod Units

@@ -1,5 +1,0 @@
-pub mod Asked
-pub mod Events
-mod Noting
-mod OneMore
-pub mod Unlodged

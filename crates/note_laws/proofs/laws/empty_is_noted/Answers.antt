@@ -1,5 +1,0 @@
-use Rattle.note_laws.proofs.Events.{empty_is_noted}
-use Rattle.note_laws.proofs.laws.empty_is_noted.Goals as goal
-
-pub returns : goal.returns
-returns g c = empty_is_noted

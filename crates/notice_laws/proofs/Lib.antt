@@ -1,3 +1,0 @@
-mod Prefixes
-mod Telling
-pub mod Told

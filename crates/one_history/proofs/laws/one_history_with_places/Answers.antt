@@ -1,5 +1,0 @@
-use Rattle.one_history.proofs.Places.{one_history_with_places}
-use Rattle.one_history.proofs.laws.one_history_with_places.Goals as goal
-
-pub returns : goal.returns
-returns c = one_history_with_places

@@ -1,8 +1,0 @@
-use Rattle.closures.proofs.Holding.{intact_holds}
-use Rattle.program_links.proofs.Linked.{holds_program, linked_by_names}
-use Rattle.program_links.proofs.laws.memory_holds_program.Goals as goal
-use Rattle.program_names.proofs.Objects.{names_are_defined}
-use Rattle.static_links.proofs.Linked.{image_is_linked}
-
-pub returns : goal.returns
-returns c = holds_program (linked_by_names names_are_defined) (intact_holds image_is_linked)

@@ -1,6 +1,0 @@
-use Rattle.std.proofs.Common.{refl}
-use Rattle.query_book_tests.proofs.FirstChange.{first_told}
-use Rattle.query_book_tests.proofs.tests.steps.settle.Goals as goal
-
-pub settle-requires : goal.settle-requires
-settle-requires c = first_told c.args.first.now.failed c.args.first.now.ready _ c.args.book.now c.requires refl

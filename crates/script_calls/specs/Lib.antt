@@ -1,3 +1,0 @@
-pub mod Dylibs
-pub mod Lines
-pub mod Plans

@@ -1,0 +1,5 @@
+pub mod Callers
+pub mod Kept
+pub mod Lookups
+pub mod Made
+pub mod Objects

@@ -1,4 +1,0 @@
-pub mod SaidSoFar
-pub mod SetupSaid
-pub mod CallsSaid
-pub mod ScriptsSaid

@@ -1,8 +1,0 @@
-//! The names that a script says.
-
-ghost use Rattle.script_names.specs.Laws.{ScriptSaysItsNames};
-
-/// Each name that a script says which was read is one of its table.
-pub fn script_says_its_names()
-    ensures { ScriptSaysItsNames }
-{}

@@ -1,7 +1,0 @@
-//! The law.
-ghost use Rattle.script_promises.specs.Promises.{ScriptKeepsPromises};
-
-/// Every history of a script's session keeps the promises to its clients.
-pub fn script_keeps_promises()
-    ensures { ScriptKeepsPromises }
-{}

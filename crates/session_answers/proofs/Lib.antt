@@ -1,5 +1,0 @@
-pub mod Causes
-pub mod Determined
-pub mod Kept
-pub mod Objects
-pub mod Reading

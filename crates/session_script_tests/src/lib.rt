@@ -1,6 +1,0 @@
-//! What the reader of scripts gives for whole scripts: the ones that it reads, each refusal, and the
-//! limits. Scripts and answers are written from the grammar.
-#![tactic(auto)]
-
-#[cfg(test)]
-mod tests;

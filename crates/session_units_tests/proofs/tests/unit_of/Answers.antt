@@ -1,4 +1,0 @@
-use Rattle.session_units_tests.proofs.tests.unit_of.Goals as goal
-
-pub graph_of-requires : goal.graph_of-requires
-graph_of-requires c = record { bytes = _; read = c.in_ok-object.ensures }

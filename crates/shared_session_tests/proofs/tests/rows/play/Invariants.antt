@@ -1,5 +1,0 @@
-use Rattle.turn_lock.specs.Handles.{turn_id, IsReady}
-use Rattle.shared_session_tests.proofs.tests.rows.play.Given as goal
-
-abbrev pub invariant-loop-number : goal.invariant-loop-number
-invariant-loop-number g l = IsReady (turn_id l.shared) l.set_up × IsReady (turn_id l.shared) l.first × IsReady (turn_id l.shared) l.second

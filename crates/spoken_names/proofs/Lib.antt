@@ -1,3 +1,0 @@
-pub mod Speaking
-pub mod Seats
-pub mod LoadedUnits
