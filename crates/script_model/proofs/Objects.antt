@@ -22,11 +22,11 @@ use Rattle.run_laws.proofs.Calm.{is_call}
 use Rattle.run_laws.proofs.Costs.{NumberedCall, each_front, each_joined, jobs_cost, looks_cost}
 use Rattle.run_laws.proofs.Seats.{calls_past, each_seat}
 use Rattle.session_promises.specs.Runs.{IsLinkable}
-use Rattle.script_model.specs.Asking.{Line, One, LookUp, Run, Script}
+use Rattle.script_model.specs.Asking.{Line, One, LookUp, Run, PeekAt, Script}
 use Rattle.script_model.specs.Lines.{AreLines, AtEnd, CallsOf, CopiesAndRuns, Goes, IsLine, OneCall, Stops, given_by}
 use Rattle.script_model.specs.Scripts.{AreCalled, InSetUp, IsScriptRun, Went, Whole}
 use Rattle.script_model.specs.declared.line_end.LineEnd.{LineEnd}
-use Rattle.script_model.specs.declared.line_end.LineEnd.TheVariants.{Looked, Ran, Replied, Unfound}
+use Rattle.script_model.specs.declared.line_end.LineEnd.TheVariants.{Looked, Peeked, Ran, Replied, Unfound}
 use Rattle.script_model.specs.Promises.{AsksForObjects, LineHandsIn}
 
 abbrev Hands : Entry Meaning → Type 0
@@ -64,15 +64,18 @@ begun_hands : (h : List (Entry Meaning)) (given : Given) (line : Line) (cs : Lis
 begun_hands h given (One e) cs hands (r, one) = one_hands e r cs hands one
 begun_hands h given (LookUp l) cs hands looks = calls_hand cs (looks_cost h l cs looks).calls
 begun_hands h given (Run name fuel args) cs hands (address, there, copy) = copy_hands cs copy
+begun_hands h given (PeekAt name) cs hands none = absurd none
 
 line_hands : (h : List (Entry Meaning)) (given : Given) (line : Line) (end : LineEnd) (cs : List (ℕ × Entry Meaning)) → LineHandsIn line → IsLine h given line end cs → AllByRecursion NumberedHands cs
 line_hands h given (One e) (Replied r) cs hands one = one_hands e r cs hands one
 line_hands h given (LookUp l) (Looked end) cs hands p = calls_hand cs (looks_cost h l cs p.0).calls
 line_hands h given (Run name fuel args) Unfound cs hands p = subst (AllByRecursion NumberedHands) (sym p.1) tt
 line_hands h given (Run name fuel args) (Ran end output) cs hands p = run_hands h (address_of name given) fuel args end output cs p
+line_hands h given (PeekAt name) (Peeked told) cs hands p = subst (AllByRecursion NumberedHands) (sym p.1) tt
 line_hands h given (One e) _ cs hands p = absurd p
 line_hands h given (LookUp l) _ cs hands p = absurd p
 line_hands h given (Run name fuel args) _ cs hands p = absurd p
+line_hands h given (PeekAt name) _ cs hands p = absurd p
 
 lines_hand : (h : List (Entry Meaning)) (given : Given) (lines : List Line) (ends : List LineEnd) (cs : List (ℕ × Entry Meaning)) → AreLines h given lines ends cs → AllByRecursion LineHandsIn lines → AllByRecursion NumberedHands cs
 lines_hand h given lines ends cs (AtEnd g) hand = tt
