@@ -1,6 +1,6 @@
 pub mod Asked
 pub mod Clients
-pub mod Definitions
+pub mod DefinitionLemmas
 pub mod Few
 pub mod Frames
 pub mod Lines

@@ -1,6 +1,6 @@
 mod Cuts
 mod Ends
-mod Lists
+mod ListLemmas
 mod Names
 mod Numerals
 mod Occurrence

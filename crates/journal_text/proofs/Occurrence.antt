@@ -22,7 +22,7 @@ use Rattle.journal_text.specs.Readable.{IsNumber, IsWantedName, IsNumbered, IsNa
 use Rattle.journal_text.proofs.Cuts.{comma, semicolon, parts4, words4, parts5, words6, parts7, last_word, solid, all_solid, solid-append, spaced, spaced-append}
 use Rattle.journal_text.proofs.Numerals.{decimal_solid, value, value-decimal, signed_value, signed_read, signed_solid, is_equals}
 use Rattle.journal_text.proofs.Names.{place_of, name_read, name_solid, read_wanted, wanted_read, wanted_solid}
-use Rattle.journal_text.proofs.Lists.{first, rest, list_words, list_spaced, names_spaced, id_value, read_items, items_read, items_solid, read_groups, groups_read, groups_solid}
+use Rattle.journal_text.proofs.ListLemmas.{first, rest, list_words, list_spaced, names_spaced, id_value, read_items, items_read, items_solid, read_groups, groups_read, groups_solid}
 use Rattle.journal_text.proofs.Reply.{one_solid, two_solid, begins_reply, has_reply}
 
 -- The words

@@ -17,7 +17,7 @@ use Rattle.journal_text.specs.Laws.{shown, LineIsRead, TextIsRead, EntryIsRead, 
 use Rattle.journal_text.specs.Readable.{IsReadable}
 use Rattle.journal_text.proofs.Cuts.{parts9, all_solid, solid, solid-append, spaced, spaced-append, words_front}
 use Rattle.journal_text.proofs.Ends.{entries_agree, histories_agree}
-use Rattle.journal_text.proofs.Lists.{first, rest, id_value}
+use Rattle.journal_text.proofs.ListLemmas.{first, rest, id_value}
 use Rattle.journal_text.proofs.Numerals.{decimal_solid, value-decimal}
 use Rattle.journal_text.proofs.Occurrence.{event_words, event_spaced, event_solid, read_event, event_read}
 use Rattle.journal_text.proofs.Reply.{reply_begins, reply_has_none, reply_words, reply_spaced, reply_solid, read_reply, reply_read}

@@ -14,7 +14,7 @@ use Rattle.journal_text.specs.Readable.{IsNumber, IsReadableFinishing, IsReadabl
 use Rattle.journal_text.proofs.Cuts.{comma, words4, words6, last_word, joined, solid, all_solid, spaced}
 use Rattle.journal_text.proofs.Numerals.{solid_passes, decimal_solid, hex_passes, value, value-decimal, hex_value, value-hex, is_equals, decimal_no_equals, is_reply_word, id_no_reply}
 use Rattle.journal_text.proofs.Names.{place_of, name_read, name_solid}
-use Rattle.journal_text.proofs.Lists.{first, rest, list_words, list_spaced, id_value, read_founds, founds_read, founds_solid, read_bounds, bounds_read, bounds_solid}
+use Rattle.journal_text.proofs.ListLemmas.{first, rest, list_words, list_spaced, id_value, read_founds, founds_read, founds_solid, read_bounds, bounds_read, bounds_solid}
 
 -- The words
 

@@ -14,4 +14,4 @@ pub mod Kept
 pub mod Lines
 pub mod NamedSessions
 pub mod Objects
-pub mod Reading
+pub mod ReadingLemmas

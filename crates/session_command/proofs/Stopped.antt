@@ -10,7 +10,7 @@ use Rattle.session_command.specs.Found as found
 use Rattle.session_command.specs.Found.{IsFound, refused, unread, in_source, in_script, wanting}
 use Rattle.session_command.specs.Reads.{IsSourceEndFor, IsSourceReadFor}
 use Rattle.session_command.specs.Texts.{IsScriptOn, counted}
-use Rattle.session_command.proofs.Reading.{end_of_file, end_of_unasked, source_of_file}
+use Rattle.session_command.proofs.ReadingLemmas.{end_of_file, end_of_unasked, source_of_file}
 use Rattle.session_command.specs.Loading.{HasStoppedAt, HasStoppedIn, in_files, unasked}
 use Rattle.session_command.specs.declared.command.Loaded.{Loaded}
 

@@ -1,4 +1,4 @@
-use Rattle.generated_session.proofs.Definitions.{unit_is}
+use Rattle.generated_session.proofs.DefinitionLemmas.{unit_is}
 use Rattle.generated_session.proofs.definitions.unit_of.Goals as goal
 
 pub returns : goal.returns

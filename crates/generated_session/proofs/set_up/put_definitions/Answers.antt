@@ -1,6 +1,6 @@
 -- One function more.
 use Rattle.std.proofs.Common.{arith}
-use Rattle.generated_session.proofs.Definitions.{all_defined, none_defined, one_defined}
+use Rattle.generated_session.proofs.DefinitionLemmas.{all_defined, none_defined, one_defined}
 use Rattle.generated_session.proofs.set_up.put_definitions.Goals as goal
 
 pub loop-k-init : goal.loop-k-init

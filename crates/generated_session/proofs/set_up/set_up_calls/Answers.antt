@@ -1,5 +1,5 @@
 use Rattle.std.proofs.Common.{rules}
-use Rattle.generated_session.proofs.Definitions.{whole_set_up}
+use Rattle.generated_session.proofs.DefinitionLemmas.{whole_set_up}
 use Rattle.generated_session.proofs.set_up.set_up_calls.Goals as goal
 
 pub returns : goal.returns

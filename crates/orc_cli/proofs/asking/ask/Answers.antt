@@ -2,7 +2,7 @@ use Rattle.std.proofs.Common.{◌≡◌, ◌∙◌, Ok, refl, ap, subst}
 use Rattle.answers.specs.declared.answer.Answer.TheVariants.{Usage}
 use Rattle.command_line.specs.Words.{Explains, asked_by, asked_of, request}
 use Rattle.run_answers.specs.Answered.{in_words}
-use Rattle.session_command.proofs.Reading.{end_of_wanting, source_of_wanting}
+use Rattle.session_command.proofs.ReadingLemmas.{end_of_wanting, source_of_wanting}
 use Rattle.object_files.proofs.Readings.{none_read}
 use Rattle.orc_cli.proofs.Asked.{asked_nothing, asked_run}
 use Rattle.orc_cli.proofs.Readings.{memory_before_script, memory_first, unasked_read}

@@ -3,7 +3,7 @@ use Rattle.object_files.specs.Reads.{use_of}
 use Rattle.session_command.specs.Found.{in_session}
 use Rattle.session_command.specs.Reads.{AreScriptRead, IsReadWhole, IsSourceEndFor, IsSourceReadFor}
 use Rattle.session_command.specs.Texts.{counted}
-use Rattle.session_command.proofs.Reading.{end_of_session, end_of_wanting, read_by_session, source_of_session, source_of_wanting, wanting_read}
+use Rattle.session_command.proofs.ReadingLemmas.{end_of_session, end_of_wanting, read_by_session, source_of_session, source_of_wanting, wanting_read}
 use Rattle.session_command.specs.Loading.{HasStoppedIn, IsLoaded}
 use Rattle.session_command.proofs.Stopped.{end_of_stopped, silent_found}
 use Rattle.session_command.proofs.command.find_session.Goals as goal

@@ -1,7 +1,7 @@
 use Rattle.session_command.specs.Loading.{unasked}
 use Rattle.session_command.proofs.Stopped.{source_of_script, stopped_in_files}
 use Rattle.object_files.proofs.Readings.{none_read}
-use Rattle.session_command.proofs.Reading.{read_of_script, read_whole, unasked_read}
+use Rattle.session_command.proofs.ReadingLemmas.{read_of_script, read_whole, unasked_read}
 use Rattle.session_command.proofs.command.load.Goals as goal
 
 pub returns-in-Ok-clause-stopped : goal.returns-in-Ok-clause-stopped
