@@ -127,7 +127,7 @@ module _ {U N : Type 0} (means : U → Meaning) (heard : N → Option Outcome) (
 
       by : ((st : Stop) × (e ≡ end.Stopped st)) ⊎ (is_stopped e ≡ false) → HasDone means heard jmax given line e v w a b
       by (inl (st, is)) = let was = stop_of given line st e v x a b is has in
-          subst (λ y. HasDone means heard jmax given line y v w a b) (sym is) (more (Begins given line) was.0, stopped_until means jmax v.seen x.seen w.seen st quiet.later was.1)
+          subst (λ y. HasDone means heard jmax given line y v w a b) (sym is) (more (Begins st given line) was.0, stopped_until means jmax v.seen x.seen w.seen st quiet.later was.1)
       by (inr none) = done_of given line e v w a b none (more (Makes given line e) (made_of given line e v x a b none has))
 
   -- nothing was done yet

@@ -46,8 +46,10 @@ module _ {U : Type 0} (means : U → Meaning) (jmax : ℕ) (v w : View (Entry U)
       let whole : take (length Seen) h ≡ Seen = taken_start h Seen starts in (
         (
           length Seen,
-          subst (λ g. IsReady (state g).rows m.instance.0) (sym whole) posted.ready,
-          ap (λ g. address_at (state g).rows m.instance.0) whole ∙ (address_is rows m.instance.0 ∙ posted.stands),
+          (
+            subst (λ g. IsReady (state g).rows m.instance.0) (sym whole) posted.ready,
+            ap (λ g. address_at (state g).rows m.instance.0) whole ∙ (address_is rows m.instance.0 ∙ posted.stands),
+          ),
         ),
         λ was. (told_again address is.1 was).0,
       )

@@ -90,11 +90,11 @@ pub given_all : (P : GivenMatch → Type 0) (level : Level) (ws : List Wanted) (
     (name : NameId) (m : GivenMatch) → match_of name (given_names level ws bs ++ table) ≡ Some m → P m
 given_all P level [] bs table all old name m at = old name m at
 given_all P level (w ∷ ws) [] table all old name m at = old name m at
-given_all P level (w ∷ ws) (b ∷ bs) table all old name m at = split (w.name.0 == name.0) at
+given_all P level (w ∷ ws) (b ∷ bs) table all old name m at = split (w.name.0 == name.0) (given_all P level ws bs table (All-tail Holds b bs all) old name m) at
   where
     Holds : Option (InstId × ℕ) → Type 0
     Holds o = IfSome o (λ p. P (given_match level p))
 
-    split : (t : Bool) → (if t then option_map (given_match level) b else match_of name (given_names level ws bs ++ table)) ≡ Some m → P m
-    split true at = found_or_given P level b m (All-head Holds b bs all) at
-    split false at = given_all P level ws bs table (All-tail Holds b bs all) old name m at
+    split : (t : Bool) → (match_of name (given_names level ws bs ++ table) ≡ Some m → P m) → (if t then option_map (given_match level) b else match_of name (given_names level ws bs ++ table)) ≡ Some m → P m
+    split true later at = found_or_given P level b m (All-head Holds b bs all) at
+    split false later at = later at

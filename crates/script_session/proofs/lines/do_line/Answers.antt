@@ -44,16 +44,16 @@ pub returns-in-Run-clause-given : goal.returns-in-Run-clause-given
 returns-in-Run-clause-given g c given same isnt = subst (λ x. AreSame c.args.given.now (given_by (line_of g.U.UnitKind.meaning x) c.without_note-in-Run.result.end ++ given)) (sym c.in-Run.is) same
 
 pub returns-in-Define-clause-known : goal.returns-in-Define-clause-known
-returns-in-Define-clause-known g c isnt = known_after g.U.UnitKind.meaning g.N.Notify.heard g.row.JMAX c.args.given.now _ c.define.result (view c.args.pass.now) (view c.define.new.pass) c.args.fired.now c.args.fired.now (subst (λ e. is_stopped e ≡ false) c.without_note.ensures.end isnt) (c.define.ensures.done c.args.given.now c.args.fired.now) c.requires.known
+returns-in-Define-clause-known g c isnt = known_after g.U.UnitKind.meaning g.N.Notify.heard g.row.JMAX c.args.given.now (One (event.Define c.in-Define.dylib c.in-Define.tracker (g.U.UnitKind.meaning c.in-Define.unit))) c.define.result (view c.args.pass.now) (view c.define.new.pass) c.args.fired.now c.args.fired.now (subst (λ e. is_stopped e ≡ false) c.without_note.ensures.end isnt) (c.define.ensures.done c.args.given.now c.args.fired.now) c.requires.known
 
 pub returns-in-Move-clause-known : goal.returns-in-Move-clause-known
-returns-in-Move-clause-known g c isnt = known_after g.U.UnitKind.meaning g.N.Notify.heard g.row.JMAX c.args.given.now _ c.move_tracker.result (view c.args.pass.now) (view c.move_tracker.new.pass) c.args.fired.now c.args.fired.now (subst (λ e. is_stopped e ≡ false) c.without_note-in-Move.ensures.end isnt) (c.move_tracker.ensures.done c.args.given.now c.args.fired.now) c.requires.known
+returns-in-Move-clause-known g c isnt = known_after g.U.UnitKind.meaning g.N.Notify.heard g.row.JMAX c.args.given.now (One (event.MoveTracker c.in-Move.from c.in-Move.to)) c.move_tracker.result (view c.args.pass.now) (view c.move_tracker.new.pass) c.args.fired.now c.args.fired.now (subst (λ e. is_stopped e ≡ false) c.without_note-in-Move.ensures.end isnt) (c.move_tracker.ensures.done c.args.given.now c.args.fired.now) c.requires.known
 
 pub returns-in-Remove-clause-known : goal.returns-in-Remove-clause-known
-returns-in-Remove-clause-known g c isnt = known_after g.U.UnitKind.meaning g.N.Notify.heard g.row.JMAX c.args.given.now _ c.remove.result (view c.args.pass.now) (view c.remove.new.pass) c.args.fired.now c.remove.new.fired (subst (λ e. is_stopped e ≡ false) c.without_note-in-Remove.ensures.end isnt) (c.remove.ensures.done c.args.given.now) c.requires.known
+returns-in-Remove-clause-known g c isnt = known_after g.U.UnitKind.meaning g.N.Notify.heard g.row.JMAX c.args.given.now (One (event.Remove c.in-Remove.tracker)) c.remove.result (view c.args.pass.now) (view c.remove.new.pass) c.args.fired.now c.remove.new.fired (subst (λ e. is_stopped e ≡ false) c.without_note-in-Remove.ensures.end isnt) (c.remove.ensures.done c.args.given.now) c.requires.known
 
 pub returns-in-Run-clause-known : goal.returns-in-Run-clause-known
-returns-in-Run-clause-known g c isnt = known_after g.U.UnitKind.meaning g.N.Notify.heard g.row.JMAX c.args.given.now _ c.run_name.result (view c.args.pass.now) (view c.run_name.new.pass) c.args.fired.now c.args.fired.now (subst (λ e. is_stopped e ≡ false) c.without_note-in-Run.ensures.end isnt) (c.run_name.ensures.done c.args.given.now c.args.fired.now (λ name. refl)) c.requires.known
+returns-in-Run-clause-known g c isnt = known_after g.U.UnitKind.meaning g.N.Notify.heard g.row.JMAX c.args.given.now (Run c.in-Run.name c.in-Run.fuel c.as_slice-args.result.now) c.run_name.result (view c.args.pass.now) (view c.run_name.new.pass) c.args.fired.now c.args.fired.now (subst (λ e. is_stopped e ≡ false) c.without_note-in-Run.ensures.end isnt) (c.run_name.ensures.done c.args.given.now c.args.fired.now (λ name. refl)) c.requires.known
 
 pub returns-in-Peek-clause-done : goal.returns-in-Peek-clause-done
 returns-in-Peek-clause-done g c given same = subst (λ x. HasDone g.U.UnitKind.meaning g.N.Notify.heard g.row.JMAX given (line_of g.U.UnitKind.meaning x) c.without_note-in-Peek.result.end (view c.args.pass.now) (view c.peek_name.new.pass) c.args.fired.now c.args.fired.now) (sym c.in-Peek.is)
@@ -63,4 +63,4 @@ pub returns-in-Peek-clause-given : goal.returns-in-Peek-clause-given
 returns-in-Peek-clause-given g c given same isnt = subst (λ x. AreSame c.args.given.now (given_by (line_of g.U.UnitKind.meaning x) c.without_note-in-Peek.result.end ++ given)) (sym c.in-Peek.is) same
 
 pub returns-in-Peek-clause-known : goal.returns-in-Peek-clause-known
-returns-in-Peek-clause-known g c isnt = known_after g.U.UnitKind.meaning g.N.Notify.heard g.row.JMAX c.args.given.now _ c.peek_name.result (view c.args.pass.now) (view c.peek_name.new.pass) c.args.fired.now c.args.fired.now (subst (λ e. is_stopped e ≡ false) c.without_note-in-Peek.ensures.end isnt) (c.peek_name.ensures.done c.args.given.now c.args.fired.now (λ name. refl)) c.requires.known
+returns-in-Peek-clause-known g c isnt = known_after g.U.UnitKind.meaning g.N.Notify.heard g.row.JMAX c.args.given.now (PeekAt c.in-Peek.name) c.peek_name.result (view c.args.pass.now) (view c.peek_name.new.pass) c.args.fired.now c.args.fired.now (subst (λ e. is_stopped e ≡ false) c.without_note-in-Peek.ensures.end isnt) (c.peek_name.ensures.done c.args.given.now c.args.fired.now (λ name. refl)) c.requires.known

@@ -6,8 +6,8 @@ use Rattle.link_worker.specs.Works.{IsFree}
 use Rattle.script_session.proofs.Keeping.{KnowsFound, apart, free_posted, free_seen, known_posted, known_seen, may_post, quiet_posted, quiet_seen}
 use Rattle.script_session.proofs.lines.post_ready.Goals as goal
 
-pub post_found-requires-clause-shown : goal.post_found-requires-clause-shown
-post_found-requires-clause-shown g c = let s = c.front-entries.ensures.seen in
+pub post_found-requires : goal.post_found-requires
+post_found-requires g c = let s = c.front-entries.ensures.seen in
     may_post g.U.UnitKind.meaning g.row.JMAX (view c.args.pass.now) (view c.front-entries.new.seat) c.args.found.now c.args.level s.0 s.1 c.requires.may c.in-Ready.is (post_count c.args.shared.now) c.requires.posts
 
 pub returns-in-Ready-clause-free : goal.returns-in-Ready-clause-free
