@@ -86,15 +86,16 @@ found_or_given : (P : GivenMatch → Type 0) (level : Level) (b : Option (InstId
 found_or_given P level None m holds at = absurd (none-some m at)
 found_or_given P level (Some p) m holds at = subst P (same_Some (given_match level p) m at) holds
 
+-- so where it stands before what was given
+first_or_given : (P : GivenMatch → Type 0) (level : Level) (b : Option (InstId × ℕ)) (given : Option GivenMatch) (m : GivenMatch) → IfSome b (λ p. P (given_match level p)) → (given ≡ Some m → P m) →
+    (t : Bool) → (if t then option_map (given_match level) b else given) ≡ Some m → P m
+first_or_given P level b given m holds others true at = found_or_given P level b m holds at
+first_or_given P level b given m holds others false at = others at
+
 pub given_all : (P : GivenMatch → Type 0) (level : Level) (ws : List Wanted) (bs : Bindings) (table : Given) → All (λ o. IfSome o (λ p. P (given_match level p))) bs → ((name : NameId) (m : GivenMatch) → match_of name table ≡ Some m → P m) →
     (name : NameId) (m : GivenMatch) → match_of name (given_names level ws bs ++ table) ≡ Some m → P m
 given_all P level [] bs table all old name m at = old name m at
 given_all P level (w ∷ ws) [] table all old name m at = old name m at
-given_all P level (w ∷ ws) (b ∷ bs) table all old name m at = split (w.name.0 == name.0) (given_all P level ws bs table (All-tail Holds b bs all) old name m) at
-  where
-    Holds : Option (InstId × ℕ) → Type 0
-    Holds o = IfSome o (λ p. P (given_match level p))
-
-    split : (t : Bool) → (match_of name (given_names level ws bs ++ table) ≡ Some m → P m) → (if t then option_map (given_match level) b else match_of name (given_names level ws bs ++ table)) ≡ Some m → P m
-    split true later at = found_or_given P level b m (All-head Holds b bs all) at
-    split false later at = later at
+given_all P level (w ∷ ws) (b ∷ bs) table all old name m at =
+    let Holds : Option (InstId × ℕ) → Type 0 = λ o. IfSome o (λ p. P (given_match level p)) in
+    first_or_given P level b (match_of name (given_names level ws bs ++ table)) m (All-head Holds b bs all) (given_all P level ws bs table (All-tail Holds b bs all) old name m) (w.name.0 == name.0) at

@@ -1,5 +1,5 @@
 -- The history that the pass sees now is one of the session, so what was found may be posted.
-use Rattle.std.proofs.Common.{All, subst, sym, ◌∙◌}
+use Rattle.std.proofs.Common.{All, ap, arith, subst, sym, ◌∙◌}
 use Rattle.turn_lock.specs.Handles.{view, post_count}
 use Rattle.shared_session.specs.Did.{Did, Nothing}
 use Rattle.link_worker.specs.Works.{IsFree}
@@ -7,8 +7,13 @@ use Rattle.script_session.proofs.Keeping.{KnowsFound, apart, free_posted, free_s
 use Rattle.script_session.proofs.lines.post_ready.Goals as goal
 
 pub post_found-requires : goal.post_found-requires
-post_found-requires g c = let s = c.front-entries.ensures.seen in
-    may_post g.U.UnitKind.meaning g.row.JMAX (view c.args.pass.now) (view c.front-entries.new.seat) c.args.found.now c.args.level s.0 s.1 c.requires.may c.in-Ready.is (post_count c.args.shared.now) c.requires.posts
+post_found-requires g c = let front = c.front-entries.ensures in let s = front.seen in (
+    omega arith,
+    (
+      (front.same ∙ c.requires.ready.0, ap (λ v. v.turn) s.0 ∙ c.requires.ready.1),
+      may_post g.U.UnitKind.meaning g.row.JMAX (view c.args.pass.now) (view c.front-entries.new.seat) c.args.found.now c.args.level s.0 s.1 c.requires.may c.in-Ready.is (post_count c.args.shared.now) c.requires.posts,
+    ),
+  )
 
 pub returns-in-Ready-clause-free : goal.returns-in-Ready-clause-free
 returns-in-Ready-clause-free g c = let s = c.front-entries.ensures.seen in
