@@ -10,7 +10,7 @@ from dataclasses import dataclass
 from journal import Ask, Attach, Define, Move
 
 # what a line asked for
-GOOD = ("found", "defined", "moved", "removed", "exited")
+GOOD = ("found", "defined", "moved", "removed", "exited", "ready")
 CALLS = ("define", "move", "remove")
 LONGEST = 60
 
@@ -218,19 +218,19 @@ class Results:
         return f"{self.run(line)} would have written more than 1 MiB, and {wrote(result.values[0])}"
 
     def say_ready(self, result, entry, line):
-        return f"{self.peeked(line)} is ready at 0x{result.values[0]}"
+        return f"{self.subject(line)} is ready at 0x{result.values[0]:x}"
 
     def say_notyet(self, result, entry, line):
-        return f"nobody had told that {self.peeked(line)} is ready"
+        return f"nobody had told that {self.subject(line)} is ready"
 
-    def peeked(self, line):
+    def subject(self, line):
+        """The name that a line runs from, or peeks at."""
         return line.words[1] if line and len(line.words) > 1 else "the name"
 
     def say_unfound(self, result, entry, line):
-        if line and line.words[0] == "peek":
-            return f"no lookup of the client that was found gave {line.words[1]} an instance{self.last_lookup(result, line.words[1])}"
-        name = line.words[1] if line and len(line.words) > 1 else "the name"
-        return f"nothing was run, since no lookup of the client that was found gave {name} an address{self.last_lookup(result, name)}"
+        name = self.subject(line)
+        why = f"no lookup of the client that was found gave {name} an instance{self.last_lookup(result, name)}"
+        return f"nothing was run, since {why}" if line and line.words[0] == "run" else why
 
     def last_lookup(self, result, name):
         """What the last lookup of the name by the client came to."""

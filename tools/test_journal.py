@@ -614,8 +614,23 @@ class Lines(unittest.TestCase):
                 self.assertIn(word, line)
         # without the script and the files things have their numbers
         plain = "\n".join(told(SESSION))
-        for word in ("c1 l1: main of file 0 was found", "file 1 wasn't defined: tracker t1 was removed by entry 23", "gave the name an address"):
+        for word in ("c1 l1: main of file 0 was found", "file 1 wasn't defined: tracker t1 was removed by entry 23", "gave the name an instance"):
             self.assertIn(word, plain)
+
+    def test_peeks_are_told(self):
+        """A peek has no entry: the lines after it keep theirs."""
+        script = "dylib main\ntracker main t\nobject main t f.o\nclient\npeek f\nlookup resolved main:all f\npeek f\nlookup ready main:all f\npeek f\nrun f 9\n"
+        text = ONE + "3 s0 define d0 t0 o0 = defined u0 i0 1\n4 s1 ask d0:all resolved f = pending q0\n5 s1 take = start u0\n6 s1 place u0 16 16 = placed 10000000\n"
+        text += "7 s1 resolve u0 = resolved\n8 s1 link u0 = done q1\n9 s1 collect q0 = found 7 i0@10000000\n10 s1 ask d0:all ready f = pending q2\n"
+        text += "11 s1 take = finish u0 bound\n12 s1 emit u0 i0: = emitted\n13 s1 collect q2 = found 12 i0@10000000\n14 s1 image = image\n"
+        text += "c1 l1 unfound\nc1 l2 found f@10000000\nc1 l3 notyet\nc1 l4 found f@10000000\nc1 l5 ready 10000000\nc1 l6 exited 3 -\n"
+        lines = told(text, script=script.encode())
+        wanted = ["4 of 6 came", "gave f an instance: none of its lines before looks f up", "isn't ready", "nobody had told that f is ready", "was found at 0x10000000.", "f is ready at 0x10000000.", "the run of f exited with 3"]
+        self.assertEqual(len(lines), 1 + len(wanted), lines)
+        for line, words in zip(lines[1:], wanted):
+            self.assertIn(words, line)
+        self.assertIn("c1 l5: the name is ready at 0x10000000.", told(text))
+        self.assertIn("<code>c1 l5 ready 10000000</code><span>the name is ready", made(text))
 
     def test_causes_of_lines(self):
         lines = told(FAILURE)
