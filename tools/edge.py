@@ -264,6 +264,20 @@ SCRIPTS = [
         "end done\n",
     ),
     (HELLO + "client\ndefine main t hello.o\nrun main 1\n", [], 0, SETUP + "4 s1 define d0 t0 o0 = duplicate main i0\nc1 l1 duplicate main i0\nc1 l2 unfound\n", "end done\n"),
+    (
+        HELLO + "client\npeek main\n" + LOOKUP.replace(" ready ", " resolved ") + "peek main\n" + LOOKUP + "peek main\n",
+        [],
+        0,
+        SETUP
+        + "4 s1 ask d0:all resolved main = pending q0\n5 s1 take = start u0\n6 s1 place u0 48 16 = placed 10000000\n7 s1 resolve u0 = resolved\n"
+        + "8 s1 link u0 = done q1\n9 s1 collect q0 = found 7 i0@10000000\n10 s1 ask d0:all ready main = pending q2\n11 s1 take = finish u0 bound\n"
+        + "12 s1 emit u0 i0: = emitted\n13 s1 collect q2 = found 12 i0@10000000\n"
+        + "c1 l1 unfound\nc1 l2 found main@10000000\nc1 l3 notyet\nc1 l4 found main@10000000\nc1 l5 ready 10000000\n",
+        "end done\n",
+    ),
+    ("client\npeek\n", [], 104, "", "end script refused 2 count\n"),
+    ("client\npeek main?\n", [], 104, "", "end script refused 2 name\n"),
+    ("peek main\n", [], 104, "", "end script refused 1 word\n"),
     ("client\n" + LOOKUP, [], 104, "", "end script refused 2 unknown\n"),
     ("frob\n", ["--workers", "16"], 104, "", "end script refused 1 word\n"),
     (HELLO + "client\n" + 17 * LOOKUP.replace("lookup", "watch"), [], 104, "", "end script refused 21 nonote\n"),
