@@ -1,8 +1,8 @@
 #!/usr/bin/env python3
 """Looks whether what the documents name is there: each relative link of README.md, tools/README.md and the pages of docs/, and
-in the tables of docs/ and README.md on promises, laws, crates and terms each name in backticks. And whether docs/promises/
-links each wrong body, and both docs/promises/ and docs/layers/ have a page for each layer, with its crates. Prints what
-isn't there, and exits with 1 where something isn't.
+in the tables of docs/ and README.md on promises, laws, crates and terms each name in backticks. Whether each call of a walk is
+a function of its crate. And whether docs/promises/ links each wrong body, and both docs/promises/ and docs/layers/ have a page
+for each layer, with its crates. Prints what isn't there, and exits with 1 where something isn't.
 
 A name that is a link is looked for in the file that it leads to. A name after the link of a function is a clause of its
 contract, and one after the link of a definition a field of it. Any other name may stand anywhere."""
@@ -20,7 +20,7 @@ TABLES = {"Promise", "Law", "Crate", "Term"}
 OUTSIDE = {"readelf", "ld.lld", "llvm-mc"}
 
 DEFINED = re.compile(r"^\s*(?:(?:unfoldable|opaque|abbrev) )?(?:pub )?(?:(?:record|data) )?([^\W\d]\w*)\b(?=[^\n=]* :)", re.M)
-FUNCTION = re.compile(r"^\s*(?:pub )?(?:ghost )?fn (\w+)", re.M)
+FUNCTION = re.compile(r"^\s*(?:pub(?:\(\w+\))? )?(?:ghost )?fn (\w+)", re.M)
 TYPE = re.compile(r"\b(?:struct|enum|trait|type|const) (\w+)")
 CLAUSE = re.compile(r"^\s*(?:ensures\*?|requires|ghost) (\w+)", re.M)
 LINK = re.compile(r"\[((?:[^\]\[]|`[^`]*`)*)\]\(([^)\s]+)\)")
@@ -117,6 +117,14 @@ def check_row(path, row, known, names, missing):
             missing.append(f"the name {alone}")
 
 
+def check_walk(row, missing):
+    """A row of a walk: each call that it names is a function of its crate."""
+    crate, *calls = re.findall(r"`([^`]+)`", row)
+    text = "".join(path.read_text() for path in (TOP / "crates" / crate / "src").rglob("*.rt"))
+    functions = set(FUNCTION.findall(text))
+    missing += [f"the call {call} of {crate}" for call in calls if call.split("::")[-1] not in functions]
+
+
 def check_tables(path, text, known, names, functions, missing):
     table = None
     for line in text.splitlines():
@@ -124,6 +132,9 @@ def check_tables(path, text, known, names, functions, missing):
             table = None
         elif table is None:
             table = line.split("|")[1].strip()
+            is_walk = "Calls on the way" in line
+        elif is_walk and "`" in line:
+            check_walk(line, missing)
         elif table == "Law":
             laws = re.findall(r"`([^`]+)`", line.split("|")[1])
             missing += [f"the law {law}" for law in laws if law not in functions]
