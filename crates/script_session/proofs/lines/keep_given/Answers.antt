@@ -10,9 +10,9 @@ use Rattle.script_session.proofs.lines.keep_given.Goals as goal
 
 pub post_ready-requires : goal.post_ready-requires
 post_ready-requires g c = (
-    omega arith,
-    (c.requires.ready, (c.requires.posts, (c.requires.free, c.requires.may c.as_slice-found.result.now (c.in-Found.is ∙ ap look.Found (sym c.as_slice-found.ensures))))),
-  )
+  omega arith,
+  (c.requires.ready, (c.requires.posts, (c.requires.free, c.requires.may c.as_slice-found.result.now (c.in-Found.is ∙ ap look.Found (sym c.as_slice-found.ensures))))),
+)
 
 pub returns-in-Ok-clause-given : goal.returns-in-Ok-clause-given
 returns-in-Ok-clause-given g c l known at wanted same isnt = kept_given l known c.args.given.now c.add.new.self c.args.names.now.level c.as_slice.result.now c.as_slice-found.result.now c.args.end c.lookup_end.result at (wanted ∙ sym c.as_slice.ensures) (c.in-Found.is ∙ ap look.Found (sym c.as_slice-found.ensures)) c.lookup_end.ensures same c.in-Ok.ensures

@@ -24,9 +24,9 @@ keep_given-requires g c =
     let v = view c.args.pass.now in
     let w = view c.lookup-end.new.pass in
     let may : (found : Bindings) → c.lookup-end.result.end ≡ look.Found found → MayBeKept g.U.UnitKind.meaning g.row.JMAX c.args.names.now.level found w.seen =
-            λ found is. looked_may_be_kept g.U.UnitKind.meaning g.row.JMAX g.N.Notify.heard v w c.args.fired.now c.lookup-end.new.fired _ c.in-Ok.then c.lookup-end.result.back c.lookup-end.result.end found is c.lookup-end.ensures.looked in
+    λ found is. looked_may_be_kept g.U.UnitKind.meaning g.row.JMAX g.N.Notify.heard v w c.args.fired.now c.lookup-end.new.fired _ c.in-Ok.then c.lookup-end.result.back c.lookup-end.result.end found is c.lookup-end.ensures.looked in
     let known = still_given g.U.UnitKind.meaning c.args.given.now v w
-            (looked_notes g.U.UnitKind.meaning g.row.JMAX g.N.Notify.heard v w c.args.fired.now c.lookup-end.new.fired _ c.in-Ok.then c.lookup-end.result.back c.lookup-end.result.end c.lookup-end.ensures.looked) c.requires.known in
+    (looked_notes g.U.UnitKind.meaning g.row.JMAX g.N.Notify.heard v w c.args.fired.now c.lookup-end.new.fired _ c.in-Ok.then c.lookup-end.result.back c.lookup-end.result.end c.lookup-end.ensures.looked) c.requires.known in
     (omega arith, (c.lookup-end.ensures.ready, (c.requires.posts, (c.lookup-end.ensures.free, (may, known)))))
 
 pub returns-clause-done : goal.returns-clause-done

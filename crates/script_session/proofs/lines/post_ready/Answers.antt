@@ -8,12 +8,12 @@ use Rattle.script_session.proofs.lines.post_ready.Goals as goal
 
 pub post_found-requires : goal.post_found-requires
 post_found-requires g c = let front = c.front-entries.ensures in let s = front.seen in (
-    omega arith,
-    (
-      (front.same ∙ c.requires.ready.0, ap (λ v. v.turn) s.0 ∙ c.requires.ready.1),
-      may_post g.U.UnitKind.meaning g.row.JMAX (view c.args.pass.now) (view c.front-entries.new.seat) c.args.found.now c.args.level s.0 s.1 c.requires.may c.in-Ready.is (post_count c.args.shared.now) c.requires.posts,
-    ),
-  )
+  omega arith,
+  (
+    (front.same ∙ c.requires.ready.0, ap (λ v. v.turn) s.0 ∙ c.requires.ready.1),
+    may_post g.U.UnitKind.meaning g.row.JMAX (view c.args.pass.now) (view c.front-entries.new.seat) c.args.found.now c.args.level s.0 s.1 c.requires.may c.in-Ready.is (post_count c.args.shared.now) c.requires.posts,
+  ),
+)
 
 pub returns-in-Ready-clause-free : goal.returns-in-Ready-clause-free
 returns-in-Ready-clause-free g c = let s = c.front-entries.ensures.seen in
