@@ -84,6 +84,7 @@ module _ (units : List Meaning) (have : All IsLinkable units) where
   line_hands (client.Move t to) = tt
   line_hands (client.Remove t) = tt
   line_hands (client.Run name fuel args) = tt
+  line_hands (client.Peek name) = tt
 
   lines_hand : (lines : List ClientLine) → AllByRecursion LineHandsIn (map (asked_line units) lines)
   lines_hand [] = tt

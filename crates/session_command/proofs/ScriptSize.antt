@@ -12,13 +12,13 @@ use Rattle.session_script.specs.declared.script.Script.{Script}
 use Rattle.session_script.proofs.Checks.{good_line, passed}
 
 -- the bytes of lines
-total : List (List ℕ) → ℕ
+abbrev total : List (List ℕ) → ℕ
 total [] = 0
 total (line ∷ lines) = length line + total lines
 
 onto_total : (b : ℕ) (lines : List (List ℕ)) → total (onto_first_line b lines) ≡ suc (total lines)
-onto_total b [] = refl
-onto_total b (line ∷ lines) = refl
+onto_total b [] = omega arith
+onto_total b (line ∷ lines) = omega arith
 
 lines_total : (bytes : List ℕ) → total (lines_of bytes) ≡ length bytes
 lines_total [] = refl
