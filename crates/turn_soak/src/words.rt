@@ -1,6 +1,7 @@
 //! Words that some threads read while one posts them.
 ghost use Rattle.std.specs.Prelude.{◌≡◌, ◌+◌, ◌<◌, ◌≤◌, ◌^◌, true, length, All, IfOk};
 ghost use Rattle.turn_lock.specs.Handles.{view, turn_id, post_count, IsReady};
+ghost use Rattle.turn_soak.specs.Words.{IsAble};
 
 use crate::roll::{Mark, Roll};
 use crate::turns::take_turn;
@@ -10,12 +11,14 @@ use std::thread;
 use std::thread::Threads;
 use turn_lock::{Seat, Turn};
 
-/// A seat at work: one that posts, or one that counts how many of the words that it reads are there.
+/// A seat at work on the first posts, so many of them: one that fills them, or one that counts how many of the words
+/// that it reads are there.
 #[derive(Drop)]
-struct Watcher {
-    seat: Seat<Roll, Mark>,
-    posts: bool,
-    found: u64,
+pub(crate) struct Watcher {
+    pub(crate) seat: Seat<Roll, Mark>,
+    pub(crate) fills: bool,
+    pub(crate) posts: u32,
+    pub(crate) found: u64,
 }
 
 /// Takes so many turns, and posts each.
@@ -58,28 +61,30 @@ fn read_words(turn: &Turn<Roll>, seat: &mut Seat<Roll, Mark>, reads: u32, posts:
     found
 }
 
-/// Posts, or reads.
-fn work<R: Wait>(rt: &R, turn: &Turn<Roll>, watcher: &mut Watcher, reads: u32, posts: u32)
-    requires ready { IsReady (turn_id turn.now) watcher.old.seat }
-    requires some { 0 < posts }
-    requires there { posts ≤ post_count turn.now }
+/// Fills its posts, or reads so many words.
+fn work<R: Wait>(rt: &R, turn: &Turn<Roll>, watcher: &mut Watcher, reads: u32)
+    requires able { IsAble (turn_id turn.now) (post_count turn.now) watcher.old }
     ensures ready { IsReady (turn_id turn.now) watcher.new.seat }
 {
-    if watcher.posts {
+    let posts = watcher.posts;
+    if watcher.fills {
         post_turns(rt, turn, &mut watcher.seat, posts);
     } else {
         watcher.found = read_words(turn, &mut watcher.seat, reads, posts);
     }
 }
 
-/// A reader for each number that the first seat spares, and then the first seat, which posts.
+/// A reader for each number that the first seat spares, and then the first seat, which fills the posts.
 fn watchers(
     alloc: Global,
     turn: &Turn<Roll>,
     first: Seat<Roll, Mark>,
+    posts: u32,
 ) -> Result<Vec<Watcher>, AllocError>
-    requires { IsReady (turn_id turn.now) first }
-    ensures { IfOk result (λ all. All (λ w. IsReady (turn_id turn.now) w.seat) all.items) }
+    requires ready { IsReady (turn_id turn.now) first }
+    requires some { 0 < posts }
+    requires there { posts ≤ post_count turn.now }
+    ensures { IfOk result (λ all. All (IsAble (turn_id turn.now) (post_count turn.now)) all.items) }
 {
     let mut first = first;
     let mut all = Vec::new(alloc);
@@ -87,14 +92,16 @@ fn watchers(
         if first.spares() > 0 {
             all.push(Watcher {
                 seat: turn.split(&mut first),
-                posts: false,
+                fills: false,
+                posts,
                 found: 0,
             })?;
         }
     }
     all.push(Watcher {
         seat: first,
-        posts: true,
+        fills: true,
+        posts,
         found: 0,
     })?;
     Ok(all)
@@ -125,16 +132,16 @@ pub fn run<R: Threads + Wait + Sync>(
     let Ok((turn, first)) = opened else {
         return Err(AllocError);
     };
-    let mut all = watchers(alloc, &turn, first)?;
+    let mut all = watchers(alloc, &turn, first, posts)?;
     let table = &turn;
     thread::for_each_mut(
         rt,
         all.as_mut_slice(),
         readers as usize + 1,
         &|_: usize, watcher: &mut Watcher|
-            requires { IsReady (turn_id table.now) watcher.old.seat }
+            requires { IsAble (turn_id table.now) (post_count table.now) watcher.old }
             ensures { IsReady (turn_id table.entry.now) watcher.new.seat }
-        { work(rt, table, watcher, reads, posts) },
+        { work(rt, table, watcher, reads) },
     );
     let found = all
         .iter()
