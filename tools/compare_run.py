@@ -5,9 +5,10 @@ and the data.
 Each program has 300 instructions of all the rows: values of any registers, loads and stores at any
 alignment, branches and jumps over one instruction, fences, and registers that start at edges. Needs
 riscv64-linux-gnu-as, -ld and -objcopy, qemu-riscv64, and the laboratory rv_lab, which
-tools/lab.py proves and builds.
+tools/lab.py proves and builds. With --by ORC the programs are run by `ORC run` in its place, and each
+is done twice, so that a run which keeps the instructions that it decoded does all of them both ways.
 
-    tools/compare_run.py [SEED [PROGRAMS]]
+    tools/compare_run.py [--by ORC] [SEED [PROGRAMS]]
 """
 import random
 import struct
@@ -119,6 +120,62 @@ registers: .dword {",".join(map(hex, registers))}
     return struct.unpack(f"<{len(raw) // 4}I", raw)
 
 
+def twice(folder, lines, registers, data):
+    """One section at the address where orc has it: the program, between a start that sets the
+    registers and an end that writes them out with the data, two times."""
+    end = "\n".join(f" sd x{r},{768 + 8 * r}(x1)" for r in range(32))
+    start = "\n".join(f" ld x{r},{8 * r}(x31)" for r in [*range(1, 31), 31])
+    text = f""".option norvc
+.option norelax
+.section .program,"awx"
+program:
+{chr(10).join(lines)}
+ j end
+.globl main
+main: la x31,registers
+{start}
+ j program
+end:
+{end}
+ li a0,1
+ addi a1,x1,-256
+ li a2,1280
+ li a7,64
+ ecall
+ la t0,rounds
+ ld t1,0(t0)
+ addi t1,t1,-1
+ sd t1,0(t0)
+ bnez t1,main
+ li a0,0
+ li a7,93
+ ecall
+.balign 8
+rounds: .dword 2
+registers: .dword 0,bytes+256,{",".join(map(hex, registers[2:]))}
+bytes:
+ .byte {",".join(map(str, data))}
+ .space 1024
+"""
+    (folder / "p.s").write_text(text)
+    subprocess.run(["riscv64-linux-gnu-as", "-march=rv64im", "-o", folder / "p.o", folder / "p.s"], check=True)
+    subprocess.run(["riscv64-linux-gnu-ld", "-e", "main", "-o", folder / "p", f"--section-start=.program={TEXT:#x}",
+                    folder / "p.o"], check=True, stderr=subprocess.DEVNULL)
+
+
+def are_same(orc, folder, lines, registers, data):
+    """Whether orc and qemu write the same after both rounds."""
+    twice(folder, lines, registers, data)
+    ours = subprocess.run([orc, "run", folder / "p.o"], stdout=subprocess.PIPE, stderr=subprocess.DEVNULL)
+    theirs = subprocess.run(["qemu-riscv64", folder / "p"], stdout=subprocess.PIPE, check=True)
+    if ours.returncode or len(theirs.stdout) != 2 * 1280:
+        return False
+    for at, (a, b) in enumerate(zip(struct.iter_unpack("<Q", ours.stdout), struct.iter_unpack("<Q", theirs.stdout))):
+        if a != b:
+            print(f"round {at // 160}, word {at % 160}: ours {a[0]:016x}, theirs {b[0]:016x}")
+    return ours.stdout == theirs.stdout
+
+
 def theirs(folder):
     out = subprocess.run(["qemu-riscv64", folder / "p"], capture_output=True, check=True).stdout
     numbers = struct.unpack("<160Q", out)
@@ -134,6 +191,9 @@ def ours(words, registers, data):
 
 
 def main():
+    by = sys.argv[2] if sys.argv[1:2] == ["--by"] else None
+    if by:
+        del sys.argv[1:3]
     seed, programs = integers(arguments(__doc__, 0, 2), 1, 50)
     installed("riscv64-linux-gnu-as", "qemu-riscv64")
     rng = random.Random(seed)
@@ -145,6 +205,10 @@ def main():
             names |= {line.split()[0] for line in lines} - {".word"}
             registers = [0, DATA + 256] + [value(rng) for _ in range(30)]
             data = [rng.getrandbits(8) for _ in range(SIZE)]
+            if by:
+                if not are_same(by, folder, lines, registers, data):
+                    sys.exit(f"seed {seed}, program {number}: they differ")
+                continue
             words = sections(folder, lines, registers, data)
             we, they = ours(words, registers, data), theirs(folder)
             if we != they:
@@ -153,7 +217,8 @@ def main():
                         what = f"x{place}" if place < 32 else f"data {8 * (place - 32)}"
                         print(f"{what}: ours {a:016x}, theirs {b:016x}")
                 sys.exit(f"seed {seed}, program {number}: they differ")
-    print(f"seed {seed}: {programs} programs of {len(names)} instructions, all registers and data the same")
+    rounds = ", each done twice," if by else ""
+    print(f"seed {seed}: {programs} programs{rounds} of {len(names)} instructions, all registers and data the same")
 
 
 main()

@@ -6,12 +6,14 @@
 Makes the programs of the table below with the assembler and linker of riscv64-linux-gnu, runs them by `ORC run`, and
 prints millions of instructions a second: those of a long run less those of a short one, by the difference of their
 processor times, the least of N each (5 without a word), in turn with OTHER and with `hart_speed/hart.c`, the same design
-in C, which gcc compiles and which knows programs of one object alone. The last rows say how long one command takes, with
-its links. Exit statuses are compared with what the programs are made to answer.
+in C, which gcc compiles and which knows programs of one object alone. The last column says how long one command takes, with
+its links. Exit statuses are compared with what the programs are made to answer. Where a tool isn't installed it says
+`skipped`, and ends with 0.
 """
 import argparse
 import random
 import resource
+import shutil
 import subprocess
 import sys
 import tempfile
@@ -140,6 +142,10 @@ def main():
     parser.add_argument("--times", type=int, default=5)
     parser.add_argument("--only", default="")
     given = parser.parse_args()
+    lacking = [it for it in (f"{TOOLS}as", f"{TOOLS}ld", f"{TOOLS}objcopy", "gcc") if not shutil.which(it)]
+    if lacking:
+        print(f"skipped: there is no {', '.join(lacking)}")
+        return
     sides = [given.orc, *given.beside]
     with tempfile.TemporaryDirectory() as folder:
         c_hart = f"{folder}/hart"
