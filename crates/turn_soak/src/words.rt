@@ -63,7 +63,7 @@ fn read_words(turn: &Turn<Roll>, seat: &mut Seat<Roll, Mark>, reads: u32, posts:
 
 /// Fills its posts, or reads so many words.
 fn work<R: Wait>(rt: &R, turn: &Turn<Roll>, watcher: &mut Watcher, reads: u32)
-    requires able { IsAble (turn_id turn.now) (post_count turn.now) watcher.old }
+    requires able { IsAble turn.now watcher.old }
     ensures ready { IsReady (turn_id turn.now) watcher.new.seat }
 {
     let posts = watcher.posts;
@@ -84,7 +84,7 @@ fn watchers(
     requires ready { IsReady (turn_id turn.now) first }
     requires some { 0 < posts }
     requires there { posts ≤ post_count turn.now }
-    ensures { IfOk result (λ all. All (IsAble (turn_id turn.now) (post_count turn.now)) all.items) }
+    ensures { IfOk result (λ all. All (IsAble turn.now) all.items) }
 {
     let mut first = first;
     let mut all = Vec::new(alloc);
@@ -139,7 +139,7 @@ pub fn run<R: Threads + Wait + Sync>(
         all.as_mut_slice(),
         readers as usize + 1,
         &|_: usize, watcher: &mut Watcher|
-            requires { IsAble (turn_id table.now) (post_count table.now) watcher.old }
+            requires { IsAble table.now watcher.old }
             ensures { IsReady (turn_id table.entry.now) watcher.new.seat }
         { work(rt, table, watcher, reads) },
     );
