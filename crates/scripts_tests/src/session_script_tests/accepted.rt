@@ -170,7 +170,16 @@ fn other_call_of_one(
 fn memory_is_enough_for_lists_of_any_number_of_items(rt: HostRuntime) -> Result<(), Fail> {
     let alloc = rt.alloc();
     let setup = [None, None, None, Some(1), Some(2), Some(1), Some(2)];
-    let calls = [(1, 1), (2, 3), (1, 1), (2, 2), (0, 0), (0, 1), (0, 8)];
+    let calls = [
+        (1, 1),
+        (2, 3),
+        (1, 1),
+        (2, 2),
+        (0, 0),
+        (0, 1),
+        (0, 8),
+        (0, 1),
+    ];
     assert_eq!(rt; other_setup_line(alloc, LISTS, &setup)?, None);
     assert_eq!(rt; other_call_of_one(alloc, LISTS, &calls)?, None);
     Ok(())
