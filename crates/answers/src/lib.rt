@@ -3,7 +3,7 @@
 //! `specs/Answers` has the status of each, `specs/EndLine` its line, and `specs/Written` what the sinks have
 //! gained once an answer was written; `specs/Memory` says whether a session wanted memory, and `specs/Files`
 //! what a file that isn't taken in answers. When each answer comes is said by `run_answers` for `orc run`, by
-//! `session_answers` for `orc session`, and by `as_answers` for `orc as`.
+//! `session_command` for `orc session`, and by `as_command` for `orc as`.
 #![tactic(auto)]
 
 mod answer;

@@ -2,8 +2,8 @@
 //! What is found is that text and an answer; nothing is written here.
 //!
 //! `summary` has the text, or the stop of the call that ended it, which is never want of a place where the journal
-//! has enough of them. `find_summary` keeps `IsFound` of `gen_answers`. Read `generated_session` for what the session
-//! is, `generated_plan` for its calls, and `script_session` for how they are made.
+//! has enough of them. `find_summary` keeps `IsFound` (`specs/Found`). Read `generated_session` for what the session
+//! and its calls are, and `script_session` for how they are made.
 #![tactic(auto)]
 
 mod finding;

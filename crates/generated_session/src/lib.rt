@@ -6,7 +6,7 @@
 //! `specs/Counts` what is counted in it, and the text of that: `Counts` is what some lines came to. `specs/Laws`, the
 //! contracts of functions with empty bodies, say how long a history is: so a journal of a known length is never full.
 //!
-//! Read `generated_objects` and `script_laws` first; `generated_plan` has the calls, and `gen_command` makes them.
+//! Read `generated_objects` and `script_model` first; `plan` has the calls, and `gen_command` makes them.
 #![tactic(auto)]
 
 mod client;

@@ -4,7 +4,7 @@
 //!
 //! The rows are those of any `RowSource`; contracts speak of the plain session that it shows. A search
 //! costs the names that it looks for times the dylibs that it goes through, each a question to the
-//! source. Read `session_lookups` next, which asks and links by it.
+//! source. Read `session_replies` next, which asks and links by it.
 #![tactic(auto)]
 
 mod error;

@@ -2,9 +2,9 @@
 //! dispatch of materialization tasks).
 //!
 //! `work_one` takes one job and carries it to its end. Each function here says of its pass what
-//! `seat_calls` calls a promise: that the calls which it made are those of one job, of a lookup, or of
+//! `shared_session` calls a promise: that the calls which it made are those of one job, of a lookup, or of
 //! jobs, whatever other seats do in between, that a unit which they placed is at the lowest base that was
-//! free, and who was told at them (`specs/Does`). Read `materialization` and `seat_calls` first.
+//! free, and who was told at them (`specs/Does`). Read `materialization` and `shared_session` first.
 #![tactic(auto)]
 
 mod assisting;

@@ -3,5 +3,5 @@
 //! holds of all elements, and which are contained; and when two options or two truth values are the same.
 //!
 //! There is no code here and no definition, only lemmas (`proofs/`) that proofs of other crates cite.
-//! A lemma on the functions on lists that a session is written with stands in `model_laws`.
+//! A lemma on the functions on lists that a session is written with stands in `session_model`.
 #![tactic(auto)]

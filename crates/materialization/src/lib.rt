@@ -8,7 +8,7 @@
 //! definition of a job, and what its seat has. That the calls of a job are right ones, and that its
 //! entries are those of one job, are laws of every legal history, each the contract of a public
 //! function with an empty body: call by call in `specs/Laws`, for whoever makes the calls, and for a
-//! whole job in `specs/Driving`. Read `session_model` (`specs/Calls`) and `holder_laws` first.
+//! whole job in `specs/Driving`. Read `session_model` (`specs/Calls`) and `history_laws` first.
 #![tactic(auto)]
 
 mod laws;

@@ -4,7 +4,7 @@
 //! of the program promises, `run_answers::OfSession`, and says what is then the same in two of them. Of its
 //! premises (`specs/Alike`) the words and the files give the first ones; that the journal isn't full is so of
 //! `orc`, by its clause `never_full`. That the names of two sessions get the same numbers is promised nowhere.
-//! Read `run_answers` and `one_history` first.
+//! Read `run_answers` first.
 #![tactic(auto)]
 
 mod histories;

@@ -3,9 +3,9 @@
 //! `orc run` reads the objects that the words name, links them in a session that a client and workers share,
 //! runs the program from its entry, writes the run's output and then the session's journal and the end
 //! line, and answers; its promise is the record `Answers` of `run_answers`. `orc session` runs the session of a
-//! script, by `session_command`; its promise is `SessionAnswers` of `session_answers`. `orc as` assembles a file, by
-//! `as_command`; its promise is `AsAnswers` of `as_answers`. `orc gen` runs the session of generated objects, by
-//! `gen_command`; its promise is `GenAnswers` of `gen_answers`. All are generic over the outside.
+//! script, by `session_command`; its promise is `SessionAnswers`. `orc as` assembles a file, by
+//! `as_command`; its promise is `AsAnswers`. `orc gen` runs the session of generated objects, by
+//! `gen_command`; its promise is `GenAnswers`. All are generic over the outside.
 //!
 //! Read `command_line` for words, `object_files` for files, `linked_program` for the session of a run and
 //! `exec_run` for runs; `orc` is the program.

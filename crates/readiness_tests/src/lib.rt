@@ -1,7 +1,7 @@
-//! Tests of `instance_graph`: a unit that is emitted, one that fails, one that is removed and an instance
+//! Tests of `instances`: a unit that is emitted, one that fails, one that is removed and an instance
 //! that is replaced, and what of it is told.
 //!
-//! They stand in a crate of their own, so that they don't prove `instance_graph` again. What is expected was
+//! They stand in a crate of their own, so that they don't prove `instances` again. What is expected was
 //! worked out by hand from how each instance stands.
 #![tactic(auto)]
 

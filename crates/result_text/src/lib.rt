@@ -5,7 +5,7 @@
 //! of how each line ended. `specs/Results` has a line for each kind of result, and `specs/Known` which names
 //! must be of the table.
 //!
-//! Read `script_laws` first for how lines end; `journal_text` has the texts of replies, and `run_text` those
+//! Read `script_model` first for how lines end; `journal_text` has the texts of replies, and `exec_run` those
 //! of the ends of runs.
 #![tactic(auto)]
 

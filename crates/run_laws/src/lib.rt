@@ -2,7 +2,7 @@
 //! other seats do jobs: what it is (`specs/Ended`), how it ended (`Linked`), and what follows of it.
 //!
 //! The laws are contracts of functions with empty bodies: how the lookup can end, and how long the history
-//! is. `specs/Runs` says what they rest on. Read `program_names` and the calls of a seat in `session_model`
+//! is. `specs/Runs` says what they rest on. Read `memory_laws` and the calls of a seat in `session_model`
 //! first.
 #![tactic(auto)]
 

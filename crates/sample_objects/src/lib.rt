@@ -1,6 +1,6 @@
 //! Objects that the tests of several crates read: what assemblers made of short sources, byte for byte.
 //!
-//! Nothing is proved of them. Read `elf_read_tests` first, which says what each part of `HELLO` is read as.
+//! Nothing is proved of them. Read the tests of `elf_read` first, which says what each part of `HELLO` is read as.
 #![tactic(auto)]
 
 /// What an assembler makes of `examples/hello.s`.

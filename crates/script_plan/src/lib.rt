@@ -7,7 +7,7 @@
 //! `specs/Asked` says what a script asks for, by its lines and by what the files' units are, and `specs/Notes`
 //! where the notes of a plan are.
 //!
-//! Read `session_script` for the lines and `script_calls` for plans first, and `script_session` next, which runs
+//! Read `session_script` for the lines and `script_model` for plans first, and `script_session` next, which runs
 //! them.
 #![tactic(auto)]
 

@@ -2,10 +2,10 @@
 //! workers do jobs beside them, each on a thread of its own where there are threads.
 //!
 //! `run_script` is handed what to call, with all units made (`Plan`), and answers the session with how each
-//! line ended. `script_laws` says which history that is, whatever the threads did. No line is read here, and
+//! line ended. `script_model` says which history that is, whatever the threads did. No line is read here, and
 //! no text written.
 //!
-//! Read `script_calls`, `script_laws` and `seat_work` first.
+//! Read `script_model` and `link_worker` first.
 #![tactic(auto)]
 
 mod client;

@@ -11,7 +11,7 @@
 //! A history that is checked has fewer than 2 ^ 32 entries.
 //!
 //! Read `session_model` for the definitions and `session_plain` for the functions that are used here;
-//! `session_check_tests` has whole sessions and lies about them.
+//! `judging_tests` has whole sessions and lies about them.
 #![tactic(auto)]
 
 mod answers;

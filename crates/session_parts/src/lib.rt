@@ -9,7 +9,7 @@
 //! are noted. `Units`, `Stored` and `Tied` state the ties, `Ends` and `Dues` what settling does, `Defined` how a
 //! unit is entered.
 //!
-//! Read `session_model` for the definitions, and `session_replies` and `session_lookups` next, which only look.
+//! Read `session_model` for the definitions, and `session_replies` next, which only looks.
 #![tactic(auto)]
 
 mod claiming;

@@ -2,7 +2,7 @@
 //! fails at a failure, and what a run from an intact symbol does. No thread is in them.
 //!
 //! Each law is the contract of a function with an empty body. `specs/Laws` has the laws, the other files what
-//! they speak of. Read `session_model` first, and `closures` for the memory of an intact symbol.
+//! they speak of. Read `session_model` first, and `memory_laws` for the memory of an intact symbol.
 #![tactic(auto)]
 
 mod laws;

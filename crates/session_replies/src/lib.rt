@@ -7,7 +7,7 @@
 //! asks for. The definitions try the reasons in an order, and so do the bodies. A call on a unit is
 //! turned away by the unit's phase and by the seat that holds it (`specs/Turned`).
 //!
-//! Read `session_parts` for the parts and for the changes, and `session_lookups` for what lookups match.
+//! Read `session_parts` for the parts and for the changes; `lookups` has what lookups match.
 #![tactic(auto)]
 
 mod asking;

@@ -5,7 +5,7 @@
 //! which is always one of memory, the buffer may have gained a first part of them. `specs/Hexadecimal` and
 //! `specs/Places` have the texts; decimal numbers are those of std. The work is linear in what is put.
 //!
-//! `journal_text`, `run_text`, `result_text` and `answers` make their lines of these.
+//! `journal_text`, `exec_run`, `result_text` and `answers` make their lines of these.
 #![tactic(auto)]
 
 mod hexadecimal;
